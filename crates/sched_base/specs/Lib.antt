@@ -1,0 +1,4 @@
+pub mod formers
+pub mod State
+pub mod Calls
+pub mod Memory
