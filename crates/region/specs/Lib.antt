@@ -1,0 +1,5 @@
+pub mod Cells
+pub mod Guesses
+pub mod Looks
+pub mod Tight
+pub mod Points

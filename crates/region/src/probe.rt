@@ -1,0 +1,12 @@
+ghost use Rattle.std.specs.Prelude.{◌≡◌, ℕ, List, Bool};
+ghost use Rattle.sched_model.specs.Data.{Data};
+ghost use Rattle.region.specs.Cells.{Region, Allows, cell_count, is_settled};
+ghost use Rattle.region.specs.Guesses.{with_guess, with_fact, splits, looked_at, SameCell, guess_cell, fact_cell, guess_holds};
+ghost use Rattle.region.specs.Looks.{HasNone, IsRegionOf, est_of, lst_of};
+ghost use Rattle.region.specs.Tight.{is_tight};
+ghost use Rattle.region.specs.Points.{points_of, budget_of};
+
+pub fn probe()
+    ensures { (m : Data) (r : Region) → IsRegionOf m r → IsRegionOf m r }
+{
+}
