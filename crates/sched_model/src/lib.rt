@@ -3,6 +3,8 @@
 #![tactic(auto)]
 
 mod meaning;
+#[cfg(test)]
+mod tests;
 mod types;
 mod whole;
 
