@@ -1,0 +1,133 @@
+ghost use Rattle.std.specs.Prelude.{◌≡◌, ◌≤◌, length, is_some, IfOk};
+
+use sched_base::{Desk, Failed, Inlet, Port};
+use std::fs;
+use std::io::{Read, Write};
+use std::rt::Files;
+
+/// The desk over real files and two writers, the trusted edge of the program: it tells nothing of
+/// what they hold. A write that takes nothing of a piece counts as a fault.
+#[derive(Drop)]
+pub struct RealDesk<R: Files + Drop, O: Write + Drop, E: Write + Drop> {
+    rt: R,
+    out: O,
+    err: E,
+    model: Option<R::File>,
+    log: Option<R::File>,
+    schedule: Option<R::File>,
+    logged: Option<R::File>,
+    faults: u64,
+}
+
+/// Writes all of a piece.
+fn write_whole<W: Write>(writer: &mut W, bytes: &[u8]) -> Result<(), Failed> {
+    let mut left = bytes;
+    while !left.is_empty() {
+        match writer.write(left) {
+            Err(_) => return Err(Failed),
+            Ok(n) => {
+                if n == 0 {
+                    return Err(Failed);
+                }
+                left = &left[n..];
+            }
+        }
+    }
+    Ok(())
+}
+
+fn read_from<F: Read>(file: &mut Option<F>, into: &mut [u8]) -> Result<usize, Failed>
+    ensures within { IfOk result (λ n. n ≤ length into.old) }
+    ensures same { length into.new ≡ length into.old }
+    ensures still { is_some file.new ≡ is_some file.old }
+{
+    match file {
+        None => Err(Failed),
+        Some(file) => match file.read(into) {
+            Ok(n) => Ok(n),
+            Err(_) => Err(Failed),
+        },
+    }
+}
+
+impl<R: Files + Drop, O: Write + Drop, E: Write + Drop> RealDesk<R, O, E> {
+    /// A desk over the files of `rt`, and over the two writers as standard output and error.
+    pub fn new(rt: R, out: O, err: E) -> RealDesk<R, O, E> {
+        RealDesk {
+            rt,
+            out,
+            err,
+            model: None,
+            log: None,
+            schedule: None,
+            logged: None,
+            faults: 0,
+        }
+    }
+}
+
+impl<R: Files + Drop, O: Write + Drop, E: Write + Drop> Desk for RealDesk<R, O, E> {
+    ghost use Rattle.std.specs.Prelude.{is_some};
+    ghost use Rattle.schedtool.specs.Real.{real_state};
+
+    ghost state = { λ d. real_state (is_some d.model) (is_some d.log) (is_some d.schedule) (is_some d.logged) d.faults };
+
+    fn open_in(&mut self, slot: Inlet, name: &str) -> Result<(), Failed> {
+        match fs::open(&self.rt, name) {
+            Err(_) => {
+                self.faults = self.faults.saturating_add(1);
+                Err(Failed)
+            }
+            Ok(file) => {
+                match slot {
+                    Inlet::Model => self.model = Some(file),
+                    Inlet::Log => self.log = Some(file),
+                    Inlet::Schedule => self.schedule = Some(file),
+                }
+                Ok(())
+            }
+        }
+    }
+
+    fn read(&mut self, slot: Inlet, into: &mut [u8]) -> Result<usize, Failed> {
+        let answer = match slot {
+            Inlet::Model => read_from(&mut self.model, into),
+            Inlet::Log => read_from(&mut self.log, into),
+            Inlet::Schedule => read_from(&mut self.schedule, into),
+        };
+        if answer.is_err() {
+            self.faults = self.faults.saturating_add(1);
+        }
+        answer
+    }
+
+    fn create_log(&mut self, name: &str) -> Result<(), Failed> {
+        match fs::create(&self.rt, name) {
+            Err(_) => {
+                self.faults = self.faults.saturating_add(1);
+                Err(Failed)
+            }
+            Ok(file) => {
+                self.logged = Some(file);
+                Ok(())
+            }
+        }
+    }
+
+    fn write(&mut self, to: Port, bytes: &[u8]) -> Result<(), Failed> {
+        let answer = match to {
+            Port::Out => write_whole(&mut self.out, bytes),
+            Port::Err => write_whole(&mut self.err, bytes),
+            Port::Log => match &mut self.logged {
+                None => Err(Failed),
+                Some(file) => write_whole(file, bytes),
+            },
+        };
+        if answer.is_err() {
+            self.faults = self.faults.saturating_add(1);
+        }
+        answer
+    }
+
+    ghost calm_tells = { λ d e. Prim.cc };
+}
