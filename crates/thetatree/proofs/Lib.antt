@@ -2,3 +2,4 @@ pub mod Made
 pub mod Rooms
 pub mod Parts
 pub mod Joins
+pub mod Writes

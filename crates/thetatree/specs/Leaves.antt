@@ -1,5 +1,5 @@
 -- The tasks of a tree, their colours, and the earliest completion times of sets of them.
-use Rattle.std.specs.Prelude.{◌≡◌, ◌≢◌, ◌⊎◌, ℕ, ℤ, pos, ◌+ℤ◌, ◌≤ℤ◌, Bool, true, false, nat_eq, List, [], ◌∷◌, slice_index_or, Option, None, Some}
+use Rattle.std.specs.Prelude.{◌≡◌, ◌≢◌, ◌⊎◌, ℕ, ◌<◌, ◌≤◌, ℤ, pos, neg_ℤ, ◌+ℤ◌, ◌≤ℤ◌, Bool, true, false, nat_eq, List, [], ◌∷◌, length, slice_index_or, Option, None, Some}
 use Rattle.std.specs.List.{list_any}
 use Rattle.std.specs.Int.{int_min}
 use Rattle.thetatree.specs.declared.leaves.Task.{Task}
@@ -12,11 +12,23 @@ pub record Leaves : Type 0 where
   pub colours : List Colour
 
 -- what stands at a place; where there is no such place, a task that is in no set
+abbrev pub task_in : List Task → ℕ → Task
+task_in ts k = slice_index_or ts k (record { est = pos 0; p = pos 0 })
+
 abbrev pub task_at : Leaves → ℕ → Task
-task_at t k = slice_index_or t.tasks k (record { est = pos 0; p = pos 0 })
+task_at t k = task_in t.tasks k
 
 abbrev pub colour_at : Leaves → ℕ → Colour
 colour_at t k = slice_index_or t.colours k Out
+
+-- the tasks that a tree takes: few, in the order of their earliest starts, with small numbers
+pub record AreTasks (ts : List Task) : Type 0 where
+  pub few : length ts ≤ 500
+  pub in_order : (i j : ℕ) → i ≤ j → j < length ts → (task_in ts i).est ≤ℤ (task_in ts j).est
+  pub est_from : (i : ℕ) → i < length ts → neg_ℤ (pos 1000000000) ≤ℤ (task_in ts i).est
+  pub est_to : (i : ℕ) → i < length ts → (task_in ts i).est ≤ℤ pos 1000000000
+  pub p_from : (i : ℕ) → i < length ts → pos 0 ≤ℤ (task_in ts i).p
+  pub p_to : (i : ℕ) → i < length ts → (task_in ts i).p ≤ℤ pos 2000000000
 
 -- a set is the list of its places, in any order
 

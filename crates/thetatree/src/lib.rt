@@ -5,5 +5,7 @@
 
 mod leaves;
 mod node;
+mod tree;
 
 pub use leaves::{Colour, Task};
+pub use tree::ThetaTree;
