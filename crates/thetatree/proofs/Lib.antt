@@ -3,3 +3,4 @@ pub mod Rooms
 pub mod Parts
 pub mod Joins
 pub mod Writes
+pub mod Climb
