@@ -99,11 +99,11 @@ abbrev pub leaf_count : ℕ → ℕ
 leaf_count zero = 1
 leaf_count (suc h) = leaf_count h + leaf_count h
 
-count_is : (h : ℕ) → leaf_count h ≡ 2 ^ h
+pub count_is : (h : ℕ) → leaf_count h ≡ 2 ^ h
 count_is zero = refl
 count_is (suc h) = omega (arith, count_is h, pow-suc 2 h)
 
-count_some : (h : ℕ) → 1 ≤ leaf_count h
+pub count_some : (h : ℕ) → 1 ≤ leaf_count h
 count_some zero = omega arith
 count_some (suc h) = omega (arith, count_some h)
 

@@ -4,3 +4,7 @@ pub mod Parts
 pub mod Joins
 pub mod Writes
 pub mod Climb
+pub mod Weights
+pub mod Members
+pub mod Sets
+pub mod Tops

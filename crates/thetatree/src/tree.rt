@@ -76,4 +76,19 @@ impl ThetaTree {
         self.nodes[at] = leaf(self.tasks[place], c, k);
         refresh(&mut self.nodes, at);
     }
+
+    /// The greatest earliest completion time of a set of white tasks, or None where no task is white.
+    pub fn ect(&self) -> Option<i64>
+        ensures { GivesEct self.now result }
+    {
+        self.nodes[1].ect
+    }
+
+    /// The same over the sets of white tasks and at most one gray task, with the gray task of a set
+    /// that attains it, where that set has one. None where each task is out.
+    pub fn ect_gray(&self) -> Option<(i64, Option<u32>)>
+        ensures { GivesEctGray self.now result }
+    {
+        self.nodes[1].gray_ect.map(|b| (b.value, b.leaf))
+    }
 }
