@@ -17,7 +17,7 @@ use Rattle.thetatree.proofs.Joins.{joined_holds}
 -- no size is negative
 pub size_from : (ts : List Task) → AreTasks ts → (k : ℕ) → pos 0 ≤ℤ (task_in ts k).p
 size_from ts tasks k = elim (cases_lt k (length ts)) [
-  | inl within ↦ tasks.p_from k within
+  | inl within ↦ (tasks.small k within).p_from
   | inr past ↦ let none : task_in ts k ≡ record { est = pos 0; p = pos 0 } = get_or_past ts k (record { est = pos 0; p = pos 0 }) past in
       omega (arith, ints, ap (λ (a : Task). a.p) none)
 ]

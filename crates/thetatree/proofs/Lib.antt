@@ -8,3 +8,4 @@ pub mod Weights
 pub mod Members
 pub mod Sets
 pub mod Tops
+pub mod Takes

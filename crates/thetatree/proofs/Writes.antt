@@ -114,5 +114,5 @@ paint_small t width ns k c x tree within is = small_write ns (width + k) x (omeg
     (subst (IsSmall (4096000000000 / (width + k))) (sym is)
       (leaf_small (4096000000000 / (width + k)) (task_at t k) c k
         (le-div 2000000000 4096000000000 (width + k) (omega (arith, tree.room, within)) (omega (arith, tree.low, tree.room, within)))
-        (tree.tasks.est_from k within, tree.tasks.est_to k within) (tree.tasks.p_from k within) (tree.tasks.p_to k within)))
+        ((tree.tasks.small k within).est_from, omega (arith, ints, (tree.tasks.small k within).est_to)) (tree.tasks.small k within).p_from (tree.tasks.small k within).p_to))
     tree.small

@@ -2,6 +2,7 @@
 use Rattle.std.specs.Prelude.{◌≡◌, ◌≢◌, ◌⊎◌, ℕ, ◌<◌, ◌≤◌, ℤ, pos, neg_ℤ, ◌+ℤ◌, ◌≤ℤ◌, Bool, true, false, nat_eq, List, [], ◌∷◌, length, slice_index_or, Option, None, Some}
 use Rattle.std.specs.List.{list_any}
 use Rattle.std.specs.Int.{int_min}
+use Rattle.sched_base.specs.declared.ids.TheConstants.{H}
 use Rattle.thetatree.specs.declared.leaves.Task.{Task}
 use Rattle.thetatree.specs.declared.leaves.Colour.{Colour}
 use Rattle.thetatree.specs.declared.leaves.Colour.TheVariants.{Out, White, Gray}
@@ -21,14 +22,18 @@ task_at t k = task_in t.tasks k
 abbrev pub colour_at : Leaves → ℕ → Colour
 colour_at t k = slice_index_or t.colours k Out
 
--- the tasks that a tree takes: few, in the order of their earliest starts, with small numbers
+-- a task whose moments and size fit a model's bound on moments
+pub record IsSmallTask (a : Task) : Type 0 where
+  pub est_from : neg_ℤ H ≤ℤ a.est
+  pub est_to : a.est ≤ℤ H
+  pub p_from : pos 0 ≤ℤ a.p
+  pub p_to : a.p ≤ℤ (H +ℤ H)
+
+-- the tasks that a tree takes: few and small, in the order of their earliest starts
 pub record AreTasks (ts : List Task) : Type 0 where
   pub few : length ts ≤ 500
-  pub in_order : (i j : ℕ) → i ≤ j → j < length ts → (task_in ts i).est ≤ℤ (task_in ts j).est
-  pub est_from : (i : ℕ) → i < length ts → neg_ℤ (pos 1000000000) ≤ℤ (task_in ts i).est
-  pub est_to : (i : ℕ) → i < length ts → (task_in ts i).est ≤ℤ pos 1000000000
-  pub p_from : (i : ℕ) → i < length ts → pos 0 ≤ℤ (task_in ts i).p
-  pub p_to : (i : ℕ) → i < length ts → (task_in ts i).p ≤ℤ pos 2000000000
+  pub small : (k : ℕ) → k < length ts → IsSmallTask (task_in ts k)
+  pub in_order : (j k : ℕ) → j ≤ k → k < length ts → (task_in ts j).est ≤ℤ (task_in ts k).est
 
 -- a set is the list of its places, in any order
 

@@ -1,6 +1,7 @@
 -- The nodes of the tree, and the rules that join two of them.
 use Rattle.std.specs.Prelude.{◌≡◌, ℕ, ℤ, pos, neg_ℤ, ◌+◌, ◌*◌, ◌/◌, ◌+ℤ◌, ◌≤ℤ◌, cond, int_lt, Option, None, Some, IfSome}
 use Rattle.std.specs.Option.{option_map}
+use Rattle.sched_base.specs.declared.ids.TheConstants.{H}
 use Rattle.thetatree.specs.declared.leaves.Task.{Task}
 use Rattle.thetatree.specs.declared.leaves.Colour.{Colour}
 use Rattle.thetatree.specs.declared.leaves.Colour.TheVariants.{Out, White, Gray}
@@ -55,7 +56,7 @@ joined l r = record {
 -- the numbers of a node are small: its sums are at most a room, its completion times lie from -H to
 -- H and that room
 abbrev pub IsNear : ℕ → ℤ → Type 0
-IsNear room z = (neg_ℤ (pos 1000000000) ≤ℤ z) × (z ≤ℤ pos (1000000000 + room))
+IsNear room z = (neg_ℤ H ≤ℤ z) × (z ≤ℤ (H +ℤ pos room))
 
 pub record IsSmall (room : ℕ) (n : Node) : Type 0 where
   pub sum_from : pos 0 ≤ℤ n.sum

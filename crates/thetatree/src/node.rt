@@ -3,6 +3,7 @@ ghost use Rattle.std.specs.Option.{option_map};
 ghost use Rattle.thetatree.specs.Nodes.{greater_of, later, better, best_of, no_node, leaf_node, joined, IsNear, IsSmall};
 
 use crate::leaves::{Colour, Task};
+use sched_base::H;
 
 /// A greatest number over sets of white leaves and at most one gray leaf, and the gray leaf of a set
 /// that reaches it, where that set has one.
@@ -85,7 +86,7 @@ fn later(n: i64, b: Best) -> Best
 pub fn leaf(task: Task, colour: Colour, place: u32) -> Node
     requires est { IsNear 0 task.est }
     requires from { pos 0 ≤ℤ task.p }
-    requires to { task.p ≤ℤ pos 2000000000 }
+    requires to { task.p ≤ℤ (H +ℤ H) }
     ensures { result ≡ leaf_node task colour place }
 {
     let ect = plus(task.est, task.p);

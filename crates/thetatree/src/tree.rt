@@ -1,10 +1,10 @@
-ghost use Rattle.std.specs.Prelude.{◌≡◌, ◌≢◌, ℕ, ◌+◌, ◌*◌, ◌/◌, ◌<◌, ◌≤◌, length, slice_set, replicate, IfOk};
-ghost use Rattle.thetatree.specs.Leaves.{Leaves, colour_at, AreTasks, GivesEct, GivesEctGray};
+ghost use Rattle.std.specs.Prelude.{◌≡◌, ◌≢◌, ℕ, ◌+◌, ◌-◌, ◌*◌, ◌/◌, ◌<◌, ◌≤◌, ◌≤ℤ◌, length, slice_set, replicate, IsTrue, ◌↔◌, IfOk};
+ghost use Rattle.thetatree.specs.Leaves.{Leaves, task_in, colour_at, IsSmallTask, AreTasks, GivesEct, GivesEctGray};
 ghost use Rattle.thetatree.specs.Trees.{node_at, IsJoin, AreSmall};
 
 use crate::leaves::{Colour, Task};
 use crate::node::{EMPTY, Node, join, leaf};
-use sched_base::NoMemory;
+use sched_base::{H, NoMemory};
 use std::alloc::Global;
 use std::marker::Model;
 
@@ -50,6 +50,23 @@ fn refresh(nodes: &mut [Node], leaf: usize)
     }
 }
 
+fn is_small(task: Task) -> bool
+    ensures { IsTrue result ↔ IsSmallTask task }
+{
+    -H <= task.est && task.est <= H && 0 <= task.p && task.p <= 2 * H
+}
+
+/// Whether the task at a place starts no earlier than the one before it.
+fn is_in_order(tasks: &[Task], i: usize) -> bool
+    requires { i < length tasks.now }
+    ensures { IsTrue result ↔ (0 < i → (task_in tasks.now (i - 1)).est ≤ℤ (task_in tasks.now i).est) }
+{
+    if i == 0 {
+        return true;
+    }
+    tasks[i - 1].est <= tasks[i].est
+}
+
 impl ThetaTree {
     /// The tree of these tasks, each `Out`. After it, no call takes memory.
     pub fn new(alloc: Global, tasks: &[Task]) -> Result<ThetaTree, NoMemory>
@@ -65,10 +82,29 @@ impl ThetaTree {
         })
     }
 
-    /// Gives the task at a place a colour.
+    /// Whether these are tasks that a tree takes.
+    pub fn takes(tasks: &[Task]) -> bool
+        ensures { IsTrue result ↔ AreTasks tasks.now }
+    {
+        if tasks.len() > 500 {
+            return false;
+        }
+        for (i, task) in tasks.iter().enumerate() {
+            if !is_small(*task) {
+                return false;
+            }
+            if !is_in_order(tasks, i) {
+                return false;
+            }
+        }
+        true
+    }
+
+    /// Gives the task at a place a colour, in time logarithmic in the number of tasks.
     pub fn paint(&mut self, k: u32, c: Colour)
         requires { k < length self.old.tasks }
-        ensures { self.new ≡ record self.old { colours = slice_set self.old.colours k c } }
+        ensures painted { self.new ≡ record self.old { colours = slice_set self.old.colours k c } }
+        ensures colour { colour_at self.new k ≡ c }
     {
         let place = k as usize;
         let at = self.width + place;
