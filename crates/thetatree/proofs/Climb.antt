@@ -1,5 +1,5 @@
 -- From the leaves of a tree to its top: each node holds what its leaves give.
-use Rattle.std.proofs.Common.{◌≡◌, ℕ, zero, suc, ◌+◌, ◌*◌, ◌^◌, ◌<◌, ◌≤◌, ℤ, pos, ◌+ℤ◌, ◌-ℤ◌, ◌≤ℤ◌, List, length, Option, None, Some, IfSome, refl, ap, sym, ◌∙◌, subst, inl, inr, arith}
+use Rattle.std.proofs.Common.{◌≡◌, ℕ, zero, suc, ◌+◌, ◌*◌, ◌^◌, ◌<◌, ◌≤◌, pos, ◌+ℤ◌, ◌≤ℤ◌, List, length, Option, None, Some, refl, ap, sym, ◌∙◌, subst, inl, inr, arith}
 use Rattle.std.proofs.Math.Nat.{le-mul_of_pos_right, pow-suc}
 use Rattle.std.proofs.lemmas.Int.{ints}
 use Rattle.std.proofs.lemmas.Bool.{cases_lt}
@@ -9,9 +9,9 @@ use Rattle.thetatree.specs.declared.leaves.Colour.{Colour}
 use Rattle.thetatree.specs.declared.leaves.Colour.TheVariants.{Out, White, Gray}
 use Rattle.thetatree.specs.declared.node.Node.{Node}
 use Rattle.thetatree.specs.Leaves.{Leaves, task_in, task_at, colour_at, AreTasks}
-use Rattle.thetatree.specs.Nodes.{leaf_node, joined}
+use Rattle.thetatree.specs.Nodes.{leaf_node}
 use Rattle.thetatree.specs.Trees.{node_at, IsTree}
-use Rattle.thetatree.proofs.Parts.{weight, sum_below, white_at, white_sum, extra, Begins, Within, end_from, Reaches, AtMost, AtMostBest, HoldsPart}
+use Rattle.thetatree.proofs.Parts.{weight, white_sum, extra, Begins, Within, end_from, HoldsPart}
 use Rattle.thetatree.proofs.Joins.{joined_holds}
 
 -- no size is negative
@@ -45,6 +45,7 @@ out_holds t k is = record {
     sums : (gray : Option ℕ) → Within t k (suc k) gray → (white_sum t k (suc k) +ℤ extra t gray) ≤ℤ pos 0
     sums None within = omega (arith, ints, sum_here t k Out is)
     sums (Some g) within = absurd (let same : Out ≡ Gray = sym is ∙ (ap (colour_at t) (sym (only k g within.0 within.1)) ∙ within.2) in cc)
+
     ects : (gray : Option ℕ) (j : ℕ) → k ≤ j → j < suc k → Begins t j (suc k) gray → ⊥
     ects None j from to begins = let same : Out ≡ White = sym is ∙ (ap (colour_at t) (sym (only k j from to)) ∙ begins) in cc
     ects (Some g) j from to begins = let same : Out ≡ Gray = sym is ∙ (ap (colour_at t) (sym (only k g (omega (arith, from, begins.0)) begins.1)) ∙ begins.2) in cc
@@ -64,6 +65,7 @@ white_holds t k is = record {
     sums : (gray : Option ℕ) → Within t k (suc k) gray → (white_sum t k (suc k) +ℤ extra t gray) ≤ℤ (task_at t k).p
     sums None within = omega (arith, ints, sum_here t k White is)
     sums (Some g) within = absurd (let same : White ≡ Gray = sym is ∙ (ap (colour_at t) (sym (only k g within.0 within.1)) ∙ within.2) in cc)
+
     ects : (gray : Option ℕ) (j : ℕ) → k ≤ j → j < suc k → Begins t j (suc k) gray → end_from t j (suc k) gray ≤ℤ ((task_at t k).est +ℤ (task_at t k).p)
     ects None j from to begins = subst (λ i. end_from t i (suc k) None ≤ℤ ((task_at t k).est +ℤ (task_at t k).p)) (sym (only k j from to)) (omega (arith, ints, sum_here t k White is))
     ects (Some g) j from to begins = absurd (let same : White ≡ Gray = sym is ∙ (ap (colour_at t) (sym (only k g (omega (arith, from, begins.0)) begins.1)) ∙ begins.2) in cc)
@@ -83,6 +85,7 @@ gray_holds t k size is = record {
     sums : (gray : Option ℕ) → Within t k (suc k) gray → (white_sum t k (suc k) +ℤ extra t gray) ≤ℤ (task_at t k).p
     sums None within = omega (arith, ints, sum_here t k Gray is, size)
     sums (Some g) within = subst (λ i. (white_sum t k (suc k) +ℤ (task_at t i).p) ≤ℤ (task_at t k).p) (sym (only k g within.0 within.1)) (omega (arith, ints, sum_here t k Gray is))
+
     ects : (gray : Option ℕ) (j : ℕ) → k ≤ j → j < suc k → Begins t j (suc k) gray → end_from t j (suc k) gray ≤ℤ ((task_at t k).est +ℤ (task_at t k).p)
     ects None j from to begins = absurd (let same : Gray ≡ White = sym is ∙ (ap (colour_at t) (sym (only k j from to)) ∙ begins) in cc)
     ects (Some g) j from to begins = subst (λ i. end_from t i (suc k) (Some g) ≤ℤ ((task_at t k).est +ℤ (task_at t k).p)) (sym (only k j from to))
@@ -122,7 +125,7 @@ holds_below t width ns tree zero j lo hi at end within =
     let place : j ≡ width + lo = omega (arith, at) in
     let next : hi ≡ suc lo = omega (arith, end) in
     subst (λ i. HoldsPart t lo hi (node_at ns i)) (sym place) (subst (λ n. HoldsPart t lo hi n) (sym (tree.leaves lo (omega (arith, end, within))))
-      (subst (λ i. HoldsPart t lo i (leaf_node (task_at t lo) (colour_at t lo) lo)) (sym next) (leaf_holds t lo (colour_at t lo) (size_from t.tasks tree.tasks lo) refl)))
+    (subst (λ i. HoldsPart t lo i (leaf_node (task_at t lo) (colour_at t lo) lo)) (sym next) (leaf_holds t lo (colour_at t lo) (size_from t.tasks tree.tasks lo) refl)))
 holds_below t width ns tree (suc h) j lo hi at end within =
     let s = leaf_count h in
     let some = count_some h in
@@ -132,7 +135,7 @@ holds_below t width ns tree (suc h) j lo hi at end within =
     let left = holds_below t width ns tree h (2 * j) lo mid (omega (arith, at)) refl (omega (arith, end, within)) in
     let right = holds_below t width ns tree h (2 * j + 1) mid hi (omega (arith, at)) (omega (arith, end)) within in
     subst (λ n. HoldsPart t lo hi n) (sym (tree.joins j first low))
-      (joined_holds t lo mid hi (node_at ns (2 * j)) (node_at ns (2 * j + 1)) (omega arith) (omega (arith, end)) left right)
+    (joined_holds t lo mid hi (node_at ns (2 * j)) (node_at ns (2 * j + 1)) (omega arith) (omega (arith, end)) left right)
 
 -- the top holds all of them
 pub top_holds : (t : Leaves) (width : ℕ) (ns : List Node) → IsTree t width ns → HoldsPart t 0 width (node_at ns 1)

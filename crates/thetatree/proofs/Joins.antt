@@ -1,16 +1,15 @@
 -- The rules of the nodes hold: a row of white places with at most one gray place begins in the right
 -- part, or it begins in the left part and goes on through all of the right part.
-use Rattle.std.proofs.Common.{◌≡◌, ℕ, ◌<◌, ◌≤◌, ℤ, pos, ◌+ℤ◌, ◌-ℤ◌, ◌≤ℤ◌, ◌<ℤ◌, Bool, true, false, cond, int_lt, Option, None, Some, IfSome, refl, ap, sym, ◌∙◌, ◌⊎◌, inl, inr, arith}
+use Rattle.std.proofs.Common.{◌≡◌, ℕ, ◌<◌, ◌≤◌, ℤ, pos, ◌+ℤ◌, ◌≤ℤ◌, ◌<ℤ◌, Bool, true, false, cond, int_lt, Option, None, Some, IfSome, refl, inl, inr, arith}
 use Rattle.std.specs.Option.{option_map}
 use Rattle.std.proofs.lemmas.Bool.{cases_lt}
 use Rattle.std.proofs.lemmas.Int.{ints}
-use Rattle.thetatree.specs.declared.leaves.Colour.TheVariants.{Out, White, Gray}
 use Rattle.thetatree.specs.declared.node.Best.{Best}
 use Rattle.thetatree.specs.declared.node.Node.{Node}
-use Rattle.thetatree.specs.Leaves.{Leaves, task_at, colour_at}
+use Rattle.thetatree.specs.Leaves.{Leaves, task_at}
 use Rattle.thetatree.specs.Nodes.{greater_of, later, better, best_of, joined}
 use Rattle.thetatree.proofs.Rooms.{greater_in, better_in, best_in}
-use Rattle.thetatree.proofs.Parts.{sum_below, white_at, white_sum, extra, Begins, Within, end_from, Reaches, AtMost, AtMostBest, HoldsPart}
+use Rattle.thetatree.proofs.Parts.{white_sum, extra, Begins, Within, end_from, Reaches, AtMost, AtMostBest, HoldsPart}
 
 -- the greater of two numbers is no less than each
 
@@ -117,6 +116,7 @@ ect_reached t lo mid hi l r wide wide' left right =
     later_part : (o : Option ℤ) → IfSome o (λ z. Reaches t mid hi z None) → IfSome o (λ z. Reaches t lo hi z None)
     later_part None reaches = tt
     later_part (Some z) reaches = reaches_right t lo mid hi z None wide reaches
+
     first_part : (o : Option ℤ) → IfSome o (λ z. Reaches t lo mid z None) → IfSome (option_map (λ z. z +ℤ r.sum) o) (λ z. Reaches t lo hi z None)
     first_part None reaches = tt
     first_part (Some z) reaches = reaches_on t lo mid hi z r.sum None wide' right.sum reaches
@@ -124,16 +124,18 @@ ect_reached t lo mid hi l r wide wide' left right =
 gray_ect_reached : (t : Leaves) (lo mid hi : ℕ) (l r : Node) → lo ≤ mid → mid ≤ hi → HoldsPart t lo mid l → HoldsPart t mid hi r → IfSome (joined l r).gray_ect (λ b. Reaches t lo hi b.value b.leaf)
 gray_ect_reached t lo mid hi l r wide wide' left right =
     best_in (λ b. Reaches t lo hi b.value b.leaf) r.gray_ect (best_of (option_map (later r.sum) l.gray_ect) (option_map (λ z. later z r.gray_sum) l.ect))
-      (later_part r.gray_ect right.gray_ect_reached)
-      (best_in (λ b. Reaches t lo hi b.value b.leaf) (option_map (later r.sum) l.gray_ect) (option_map (λ z. later z r.gray_sum) l.ect)
-        (gray_first l.gray_ect left.gray_ect_reached) (gray_after l.ect left.ect_reached))
+    (later_part r.gray_ect right.gray_ect_reached)
+    (best_in (λ b. Reaches t lo hi b.value b.leaf) (option_map (later r.sum) l.gray_ect) (option_map (λ z. later z r.gray_sum) l.ect)
+    (gray_first l.gray_ect left.gray_ect_reached) (gray_after l.ect left.ect_reached))
   where
     later_part : (o : Option Best) → IfSome o (λ b. Reaches t mid hi b.value b.leaf) → IfSome o (λ b. Reaches t lo hi b.value b.leaf)
     later_part None reaches = tt
     later_part (Some b) reaches = reaches_right t lo mid hi b.value b.leaf wide reaches
+
     gray_first : (o : Option Best) → IfSome o (λ b. Reaches t lo mid b.value b.leaf) → IfSome (option_map (later r.sum) o) (λ b. Reaches t lo hi b.value b.leaf)
     gray_first None reaches = tt
     gray_first (Some b) reaches = reaches_on t lo mid hi b.value r.sum b.leaf wide' right.sum reaches
+
     gray_after : (o : Option ℤ) → IfSome o (λ z. Reaches t lo mid z None) → IfSome (option_map (λ z. later z r.gray_sum) o) (λ b. Reaches t lo hi b.value b.leaf)
     gray_after None reaches = tt
     gray_after (Some z) reaches = reaches_gray t lo mid hi z r.gray_sum wide' right.gray_sum_within right.gray_sum_is reaches
@@ -167,8 +169,8 @@ row_across : (t : Leaves) (lo mid hi : ℕ) (l r : Node) → HoldsPart t lo mid 
     → (gray : Option ℕ) (j : ℕ) → lo ≤ j → j < mid → Begins t j mid None → Within t mid hi gray → AtMostBest (end_from t j hi gray) (joined l r).gray_ect
 row_across t lo mid hi l r left right gray j from before begins within =
     best_second (end_from t j hi gray) r.gray_ect (best_of (option_map (later r.sum) l.gray_ect) (option_map (λ z. later z r.gray_sum) l.ect))
-      (best_second (end_from t j hi gray) (option_map (later r.sum) l.gray_ect) (option_map (λ z. later z r.gray_sum) l.ect)
-        (on l.ect (left.ect_greatest j from before begins)))
+    (best_second (end_from t j hi gray) (option_map (later r.sum) l.gray_ect) (option_map (λ z. later z r.gray_sum) l.ect)
+    (on l.ect (left.ect_greatest j from before begins)))
   where
     on : (o : Option ℤ) → AtMost (end_from t j mid None) o → AtMostBest (end_from t j hi gray) (option_map (λ z. later z r.gray_sum) o)
     on None h = absurd h
@@ -179,8 +181,8 @@ row_left : (t : Leaves) (lo mid hi : ℕ) (l r : Node) → HoldsPart t lo mid l 
     → (gray : Option ℕ) (j : ℕ) → lo ≤ j → j < mid → Begins t j mid gray → AtMostBest (end_from t j hi gray) (joined l r).gray_ect
 row_left t lo mid hi l r left right gray j from before begins =
     best_second (end_from t j hi gray) r.gray_ect (best_of (option_map (later r.sum) l.gray_ect) (option_map (λ z. later z r.gray_sum) l.ect))
-      (best_first (end_from t j hi gray) (option_map (later r.sum) l.gray_ect) (option_map (λ z. later z r.gray_sum) l.ect)
-        (on l.gray_ect (left.gray_ect_greatest gray j from before begins)))
+    (best_first (end_from t j hi gray) (option_map (later r.sum) l.gray_ect) (option_map (λ z. later z r.gray_sum) l.ect)
+    (on l.gray_ect (left.gray_ect_greatest gray j from before begins)))
   where
     on : (o : Option Best) → AtMostBest (end_from t j mid gray) o → AtMostBest (end_from t j hi gray) (option_map (later r.sum) o)
     on None h = absurd h

@@ -1,12 +1,12 @@
 -- Members of a set, its first place and its least earliest start.
-use Rattle.std.proofs.Common.{◌≡◌, ◌≢◌, ℕ, zero, suc, ◌<◌, ◌≤◌, ℤ, pos, ◌+ℤ◌, ◌-ℤ◌, ◌≤ℤ◌, Bool, true, false, List, [], ◌∷◌, refl, ap, sym, ◌∙◌, subst, ◌⊎◌, inl, inr, arith}
+use Rattle.std.proofs.Common.{◌≡◌, ◌≢◌, ℕ, ◌<◌, ◌≤◌, ℤ, pos, ◌-ℤ◌, ◌≤ℤ◌, Bool, true, false, List, [], ◌∷◌, refl, ap, sym, ◌∙◌, subst, ◌⊎◌, inl, inr, arith}
 use Rattle.std.specs.Prelude.{nat_eq, ◌||◌}
 use Rattle.std.specs.Int.{int_min}
 use Rattle.std.proofs.lemmas.Bool.{cases_eq, cases_lt}
 use Rattle.std.proofs.lemmas.Int.{ints, int_min_is}
 use Rattle.thetatree.specs.Leaves.{Leaves, task_at, has, IsOnce, least_est, sum_of}
 use Rattle.thetatree.proofs.Parts.{sum_below}
-use Rattle.thetatree.proofs.Weights.{eq_true, eq_false, eq_from, replaced, replaced_same, replaced_other, replaced_low, replaced_high, rises}
+use Rattle.thetatree.proofs.Weights.{eq_true, eq_from, replaced, replaced_same, replaced_other, replaced_low, replaced_high, rises}
 
 pub has_cases : (b : Bool) (ks : List ℕ) (y : ℕ) → (b || has ks y) ≡ true → (b ≡ true) ⊎ (has ks y ≡ true)
 has_cases true ks y is = inl refl
@@ -31,14 +31,22 @@ first_of k [] = (k, has_first k [], λ y here. elim (has_cases (nat_eq k y) [] y
 first_of k (i ∷ ks) =
     let rest = first_of i ks in
     elim (cases_lt k rest.0) [
-      | inl less ↦ (k, has_first k (i ∷ ks), λ y here. elim (has_cases (nat_eq k y) (i ∷ ks) y here) [
+      | inl less ↦ (
+        k,
+        has_first k (i ∷ ks),
+        λ y here. elim (has_cases (nat_eq k y) (i ∷ ks) y here) [
           | inl same ↦ omega (arith, eq_from k y same)
           | inr later ↦ omega (arith, less, rest.2 y later)
-        ])
-      | inr more ↦ (rest.0, has_later k (i ∷ ks) rest.0 rest.1, λ y here. elim (has_cases (nat_eq k y) (i ∷ ks) y here) [
+        ],
+      )
+      | inr more ↦ (
+        rest.0,
+        has_later k (i ∷ ks) rest.0 rest.1,
+        λ y here. elim (has_cases (nat_eq k y) (i ∷ ks) y here) [
           | inl same ↦ omega (arith, eq_from k y same, more)
           | inr later ↦ rest.2 y later
-        ])
+        ],
+      )
     ]
 
 -- the least earliest start is at most that of each member, and is one
@@ -75,8 +83,10 @@ covered t lo hi wide (k ∷ ks) once w from each =
       | inl same ↦ omega (arith, ints, replaced_same w k i (pos 0) same)
       | inr other ↦ omega (arith, ints, replaced_other w k i (pos 0) other, from i)
     ]
+
     apart : (y : ℕ) → has ks y ≡ true → k ≢ y
     apart y there same = let clash : true ≡ false = sym there ∙ ap (has ks) (sym same) ∙ once.0 in cc
+
     kept_each : (y : ℕ) → has ks y ≡ true → (lo ≤ y) × (y < hi) × ((task_at t y).p ≤ℤ replaced w k (pos 0) y)
     kept_each y there =
         let old = each y (has_later k ks y there) in

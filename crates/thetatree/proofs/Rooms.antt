@@ -1,6 +1,6 @@
 -- The numbers of a node get no larger than the room of its place: the room of a node has place for the
 -- rooms of the two nodes below it.
-use Rattle.std.proofs.Common.{◌≡◌, ℕ, ◌+◌, ◌*◌, ◌/◌, ◌<◌, ◌≤◌, ◌^◌, ℤ, pos, neg_ℤ, ◌+ℤ◌, ◌≤ℤ◌, Bool, true, false, cond, int_lt, Option, None, Some, IfSome, refl, arith}
+use Rattle.std.proofs.Common.{ℕ, ◌+◌, ◌*◌, ◌/◌, ◌<◌, ◌≤◌, ℤ, pos, ◌+ℤ◌, ◌≤ℤ◌, Bool, true, false, cond, int_lt, Option, None, Some, IfSome, arith}
 use Rattle.std.specs.Option.{option_map}
 use Rattle.std.proofs.Math.Nat.{div-mul-le_self}
 use Rattle.std.proofs.lemmas.Nat.{le-div}
@@ -39,6 +39,7 @@ small_wider a b n wide small = record {
     ends : (o : Option ℤ) → IfSome o (IsNear a) → IfSome o (IsNear b)
     ends None near = tt
     ends (Some z) near = near_wider a b z wide near
+
     bests : (o : Option Best) → IfSome o (λ r. IsNear a r.value) → IfSome o (λ r. IsNear b r.value)
     bests None near = tt
     bests (Some r) near = near_wider a b r.value wide near
@@ -80,21 +81,25 @@ joined_small a b c l r wide left right = record {
   gray_ect = best_in (λ x. IsNear c x.value) r.gray_ect (best_of (option_map (later r.sum) l.gray_ect) (option_map (λ z. later z r.gray_sum) l.ect))
       (wider_best r.gray_ect right.gray_ect)
       (best_in (λ x. IsNear c x.value) (option_map (later r.sum) l.gray_ect) (option_map (λ z. later z r.gray_sum) l.ect)
-        (after_best l.gray_ect left.gray_ect) (gray_after l.ect left.ect));
+      (after_best l.gray_ect left.gray_ect) (gray_after l.ect left.ect));
 }
   where
     wider : (o : Option ℤ) → IfSome o (IsNear b) → IfSome o (IsNear c)
     wider None near = tt
     wider (Some z) near = near_wider b c z (omega (arith, wide)) near
+
     wider_best : (o : Option Best) → IfSome o (λ x. IsNear b x.value) → IfSome o (λ x. IsNear c x.value)
     wider_best None near = tt
     wider_best (Some x) near = near_wider b c x.value (omega (arith, wide)) near
+
     after : (o : Option ℤ) → IfSome o (IsNear a) → IfSome (option_map (λ z. z +ℤ r.sum) o) (IsNear c)
     after None near = tt
     after (Some z) near = near_after a b c z r.sum wide near right.sum_from right.sum_to
+
     after_best : (o : Option Best) → IfSome o (λ x. IsNear a x.value) → IfSome (option_map (later r.sum) o) (λ x. IsNear c x.value)
     after_best None near = tt
     after_best (Some x) near = near_after a b c x.value r.sum wide near right.sum_from right.sum_to
+
     gray_after : (o : Option ℤ) → IfSome o (IsNear a) → IfSome (option_map (λ z. later z r.gray_sum) o) (λ x. IsNear c x.value)
     gray_after None near = tt
     gray_after (Some z) near = (omega (arith, ints, near.0, right.gray_from), omega (arith, ints, near.1, right.gray_to, wide))

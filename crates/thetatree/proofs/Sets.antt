@@ -1,15 +1,15 @@
 -- Rows of white places with at most one gray place, and sets of places.
-use Rattle.std.proofs.Common.{◌≡◌, ◌≢◌, ℕ, zero, suc, ◌+◌, ◌-◌, ◌<◌, ◌≤◌, ℤ, pos, ◌+ℤ◌, ◌-ℤ◌, ◌≤ℤ◌, Bool, true, false, List, [], ◌∷◌, length, Option, None, Some, IfSome, refl, ap, sym, ◌∙◌, subst, ◌⊎◌, inl, inr, arith}
+use Rattle.std.proofs.Common.{◌≡◌, ◌≢◌, ℕ, zero, suc, ◌+◌, ◌-◌, ◌<◌, ◌≤◌, ℤ, pos, ◌+ℤ◌, ◌≤ℤ◌, Bool, true, false, List, [], ◌∷◌, length, Option, None, Some, refl, ap, sym, ◌∙◌, subst, ◌⊎◌, inl, inr, arith}
 use Rattle.std.specs.Prelude.{nat_eq}
 use Rattle.std.proofs.lemmas.Bool.{cases_eq, cases_lt}
 use Rattle.std.proofs.lemmas.List.{get_or_past}
 use Rattle.std.proofs.lemmas.Int.{ints}
 use Rattle.thetatree.specs.declared.leaves.Colour.{Colour}
 use Rattle.thetatree.specs.declared.leaves.Colour.TheVariants.{Out, White, Gray}
-use Rattle.thetatree.specs.Leaves.{Leaves, task_at, colour_at, AreTasks, has, IsOnce, least_est, sum_of, end_of, HasGray, IsChosen}
-use Rattle.thetatree.proofs.Parts.{weight, sum_below, white_at, white_sum, extra, Begins, end_from, Reaches}
+use Rattle.thetatree.specs.Leaves.{Leaves, task_at, colour_at, AreTasks, has, IsOnce, sum_of, end_of, IsChosen}
+use Rattle.thetatree.proofs.Parts.{weight, white_at, white_sum, Begins, end_from, Reaches}
 use Rattle.thetatree.proofs.Weights.{replaced, replaced_same, replaced_other, replaced_low, replaced_high, eq_from}
-use Rattle.thetatree.proofs.Members.{has_cases, has_first, has_later, has_same, first_of, least_below, least_is, covered}
+use Rattle.thetatree.proofs.Members.{has_cases, has_first, has_later, first_of, least_below, least_is, covered}
 
 -- what the proofs ask of a tree: its tasks, and that its width has all places
 pub record IsWide (t : Leaves) (width : ℕ) : Type 0 where
@@ -62,9 +62,13 @@ gray_set t width lo g wide low high ks chosen from =
       | inl same ↦ omega (arith, ints, replaced_same (white_at t) g i (task_at t g).p same, wide.sizes g)
       | inr other ↦ omega (arith, ints, replaced_other (white_at t) g i (task_at t g).p other, white_from t width wide i)
     ]
+
     each : (y : ℕ) → lo ≤ y → (colour_at t y ≡ White) ⊎ (Some g ≡ Some y) → (lo ≤ y) × (y < width) × ((task_at t y).p ≤ℤ replaced (white_at t) g (task_at t g).p y)
-    each y after (inl white) = (after, omega (arith, white_there t y white, wide.same, wide.room),
-        omega (arith, ints, white_weight t y white, replaced_other (white_at t) g y (task_at t g).p (λ same. let clash : White ≡ Gray = sym white ∙ ap (colour_at t) (sym same) ∙ chosen.gray_in.1 in cc)))
+    each y after (inl white) = (
+      after,
+      omega (arith, white_there t y white, wide.same, wide.room),
+      omega (arith, ints, white_weight t y white, replaced_other (white_at t) g y (task_at t g).p (λ same. let clash : White ≡ Gray = sym white ∙ ap (colour_at t) (sym same) ∙ chosen.gray_in.1 in cc)),
+    )
     each y after (inr gray) =
         let same : g ≡ y = cc in
         (after, omega (arith, same, high), omega (arith, ints, replaced_same (white_at t) g y (task_at t g).p same, ap (λ i. (task_at t i).p) same))
@@ -170,8 +174,14 @@ white_row t width wide j n end white = record {
     ];
     gray_in = tt;
   };
-  is = omega (arith, ints, whites_sum t (suc j) n width end, white_weight t j white, least_is t j (whites t (suc j) n) (λ y here.
-      let is = whites_has t (suc j) n y here in starts_later t width wide j y (omega (arith, is.0)) (white_there t y is.1)));
+  is = omega (
+    arith,
+    ints,
+    whites_sum t (suc j) n width end,
+    white_weight t j white,
+    least_is t j (whites t (suc j) n) (λ y here.
+        let is = whites_has t (suc j) n y here in starts_later t width wide j y (omega (arith, is.0)) (white_there t y is.1)),
+  );
 }
 
 -- the row from a gray place on
@@ -187,8 +197,14 @@ gray_row t width wide g n end gray = record {
     ];
     gray_in = (has_first g (whites t (suc g) n), gray);
   };
-  is = omega (arith, ints, whites_sum t (suc g) n width end, gray_weight t g gray, least_is t g (whites t (suc g) n) (λ y here.
-      let is = whites_has t (suc g) n y here in starts_later t width wide g y (omega (arith, is.0)) (white_there t y is.1)));
+  is = omega (
+    arith,
+    ints,
+    whites_sum t (suc g) n width end,
+    gray_weight t g gray,
+    least_is t g (whites t (suc g) n) (λ y here.
+        let is = whites_has t (suc g) n y here in starts_later t width wide g y (omega (arith, is.0)) (white_there t y is.1)),
+  );
 }
 
 -- the row from a white place on, with a gray place after it
@@ -197,10 +213,13 @@ mixed_row t width wide j g n end low white gray = record {
   first = j;
   others = g ∷ whites t (suc j) n;
   chosen = record {
-    once = (absent (g ∷ whites t (suc j) n) j (λ here. elim (has_cases (nat_eq g j) (whites t (suc j) n) j here) [
+    once = (
+      absent (g ∷ whites t (suc j) n) j (λ here. elim (has_cases (nat_eq g j) (whites t (suc j) n) j here) [
         | inl same ↦ clash j (eq_from g j same) white
         | inr later ↦ omega (arith, (whites_has t (suc j) n j later).0)
-      ]), (absent (whites t (suc j) n) g (λ here. clash g refl (whites_has t (suc j) n g here).1), whites_once t (suc j) n));
+      ]),
+      (absent (whites t (suc j) n) g (λ here. clash g refl (whites_has t (suc j) n g here).1), whites_once t (suc j) n),
+    );
     white = λ y here. elim (has_cases (nat_eq j y) (g ∷ whites t (suc j) n) y here) [
       | inl same ↦ inl (subst (λ i. colour_at t i ≡ White) (eq_from j y same) white)
       | inr after ↦ elim (has_cases (nat_eq g y) (whites t (suc j) n) y after) [
@@ -210,10 +229,16 @@ mixed_row t width wide j g n end low white gray = record {
     ];
     gray_in = (has_later j (g ∷ whites t (suc j) n) g (has_first g (whites t (suc j) n)), gray);
   };
-  is = omega (arith, ints, whites_sum t (suc j) n width end, white_weight t j white, least_is t j (g ∷ whites t (suc j) n) (λ y here. elim (has_cases (nat_eq g y) (whites t (suc j) n) y here) [
+  is = omega (
+    arith,
+    ints,
+    whites_sum t (suc j) n width end,
+    white_weight t j white,
+    least_is t j (g ∷ whites t (suc j) n) (λ y here. elim (has_cases (nat_eq g y) (whites t (suc j) n) y here) [
       | inl same ↦ let at : g ≡ y = eq_from g y same in starts_later t width wide j y (omega (arith, low, at)) (subst (λ i. i < length t.colours) at (gray_there t g gray))
       | inr later ↦ let is = whites_has t (suc j) n y later in starts_later t width wide j y (omega (arith, is.0)) (white_there t y is.1)
-    ]));
+    ]),
+  );
 }
   where
     clash : (i : ℕ) → g ≡ i → colour_at t i ≡ White → ⊥

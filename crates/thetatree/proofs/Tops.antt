@@ -1,5 +1,5 @@
 -- What the top of a tree says of the sets of its places.
-use Rattle.std.proofs.Common.{◌≡◌, ◌≢◌, ℕ, ◌+◌, ◌*◌, ◌^◌, ◌<◌, ◌≤◌, ℤ, pos, ◌≤ℤ◌, List, ◌∷◌, length, get_or, Option, None, Some, IfSome, refl, ap, sym, ◌∙◌, subst, inl, inr, arith}
+use Rattle.std.proofs.Common.{◌≡◌, ℕ, ◌<◌, ◌≤◌, ℤ, ◌≤ℤ◌, List, length, get_or, Option, None, Some, IfSome, refl, sym, subst, inr, arith}
 use Rattle.std.specs.Option.{option_map}
 use Rattle.std.proofs.lemmas.List.{get_or_read_under}
 use Rattle.std.proofs.lemmas.Int.{ints}
@@ -7,12 +7,12 @@ use Rattle.thetatree.specs.declared.leaves.Colour.{Colour}
 use Rattle.thetatree.specs.declared.leaves.Colour.TheVariants.{Out, White, Gray}
 use Rattle.thetatree.specs.declared.node.Best.{Best}
 use Rattle.thetatree.specs.declared.node.Node.{Node}
-use Rattle.thetatree.specs.Leaves.{Leaves, task_at, colour_at, end_of, IsChosen, IsEct, IsEctGray, GivesEct, GivesEctGray}
+use Rattle.thetatree.specs.Leaves.{Leaves, colour_at, end_of, GivesEct, GivesEctGray}
 use Rattle.thetatree.specs.Nodes.{no_node}
 use Rattle.thetatree.specs.Trees.{node_at, IsTree}
 use Rattle.thetatree.proofs.Parts.{Begins, end_from, Reaches, AtMost, AtMostBest, HoldsPart}
-use Rattle.thetatree.proofs.Climb.{size_from, leaf_count, count_is, count_some, top_holds}
-use Rattle.thetatree.proofs.Sets.{IsWide, EndsBy, Ends, there, white_there, gray_there, set_ends, row_ends}
+use Rattle.thetatree.proofs.Climb.{size_from, count_is, count_some, top_holds}
+use Rattle.thetatree.proofs.Sets.{IsWide, EndsBy, white_there, gray_there, set_ends, row_ends}
 
 wide_of : (t : Leaves) (width : ℕ) (ns : List Node) → IsTree t width ns → IsWide t width
 wide_of t width ns tree = record { tasks = tree.tasks; sizes = size_from t.tasks tree.tasks; same = tree.same; room = tree.room }

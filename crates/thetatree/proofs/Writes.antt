@@ -1,5 +1,5 @@
 -- Writes of one node of a tree.
-use Rattle.std.proofs.Common.{◌≡◌, ◌≢◌, ℕ, ◌+◌, ◌*◌, ◌/◌, ◌<◌, ◌≤◌, List, ◌++◌, length, get_or, set, take, drop, refl, ap, sym, ◌∙◌, subst, inl, inr, arith, length-set}
+use Rattle.std.proofs.Common.{◌≡◌, ◌≢◌, ℕ, ◌+◌, ◌*◌, ◌/◌, ◌<◌, ◌≤◌, List, ◌++◌, length, get_or, take, refl, ap, sym, ◌∙◌, subst, inl, inr, arith, length-set}
 use Rattle.std.specs.Prelude.{slice_set, slice_index_or}
 use Rattle.std.proofs.lemmas.Bool.{cases_eq}
 use Rattle.std.proofs.lemmas.List.{get_or-set_same, get_or-set_other, get_or_read_under, get_or_default}
@@ -9,8 +9,8 @@ use Rattle.thetatree.specs.declared.leaves.Task.{Task}
 use Rattle.thetatree.specs.declared.leaves.Colour.{Colour}
 use Rattle.thetatree.specs.declared.leaves.Colour.TheVariants.{Out}
 use Rattle.thetatree.specs.declared.node.Node.{Node}
-use Rattle.thetatree.specs.Leaves.{Leaves, task_at, task_in, colour_at, AreTasks}
-use Rattle.std.specs.Prelude.{ℤ, pos, neg_ℤ, ◌≤ℤ◌}
+use Rattle.thetatree.specs.Leaves.{Leaves, task_at, colour_at}
+use Rattle.std.specs.Prelude.{pos}
 use Rattle.std.proofs.lemmas.Int.{ints}
 use Rattle.thetatree.specs.Nodes.{no_node, leaf_node, joined, IsSmall}
 use Rattle.thetatree.specs.Trees.{node_at, IsJoin, AreSmall, IsTree}
@@ -44,7 +44,7 @@ small_write ns i x within small before j some in_list = elim (cases_eq j i) [
 pub join_small : (ns : List Node) (i : ℕ) (x : Node) → 0 < i → 2 * i + 1 < length ns → x ≡ joined (node_at ns (2 * i)) (node_at ns (2 * i + 1)) → AreSmall ns → IsSmall (4096000000000 / i) x
 join_small ns i x some within is small = subst (IsSmall (4096000000000 / i)) (sym is)
     (joined_small (4096000000000 / (2 * i)) (4096000000000 / (2 * i + 1)) (4096000000000 / i) (node_at ns (2 * i)) (node_at ns (2 * i + 1))
-      (rooms 4096000000000 i some) (small (2 * i) (omega (arith, some)) (omega (arith, within))) (small (2 * i + 1) (omega arith) within))
+    (rooms 4096000000000 i some) (small (2 * i) (omega (arith, some)) (omega (arith, within))) (small (2 * i + 1) (omega arith) within))
 
 pub joins_up : (ns : List Node) (at : ℕ) (x : Node) → 0 < at → at < length ns → x ≡ joined (node_at ns (2 * at)) (node_at ns (2 * at + 1))
     → ((j : ℕ) → 0 < j → j < length ns / 2 → j ≢ at → IsJoin ns j)
@@ -112,7 +112,7 @@ pub paint_small : (t : Leaves) (width : ℕ) (ns : List Node) (k : ℕ) (c : Col
     → AreSmall (slice_set ns (width + k) x)
 paint_small t width ns k c x tree within is = small_write ns (width + k) x (omega (arith, tree.size, tree.room, within))
     (subst (IsSmall (4096000000000 / (width + k))) (sym is)
-      (leaf_small (4096000000000 / (width + k)) (task_at t k) c k
-        (le-div 2000000000 4096000000000 (width + k) (omega (arith, tree.room, within)) (omega (arith, tree.low, tree.room, within)))
-        ((tree.tasks.small k within).est_from, omega (arith, ints, (tree.tasks.small k within).est_to)) (tree.tasks.small k within).p_from (tree.tasks.small k within).p_to))
+    (leaf_small (4096000000000 / (width + k)) (task_at t k) c k
+    (le-div 2000000000 4096000000000 (width + k) (omega (arith, tree.room, within)) (omega (arith, tree.low, tree.room, within)))
+    ((tree.tasks.small k within).est_from, omega (arith, ints, (tree.tasks.small k within).est_to)) (tree.tasks.small k within).p_from (tree.tasks.small k within).p_to))
     tree.small

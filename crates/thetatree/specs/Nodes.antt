@@ -1,5 +1,5 @@
 -- The nodes of the tree, and the rules that join two of them.
-use Rattle.std.specs.Prelude.{◌≡◌, ℕ, ℤ, pos, neg_ℤ, ◌+◌, ◌*◌, ◌/◌, ◌+ℤ◌, ◌≤ℤ◌, cond, int_lt, Option, None, Some, IfSome}
+use Rattle.std.specs.Prelude.{ℕ, ℤ, pos, neg_ℤ, ◌+ℤ◌, ◌≤ℤ◌, cond, int_lt, Option, None, Some, IfSome}
 use Rattle.std.specs.Option.{option_map}
 use Rattle.sched_base.specs.declared.ids.TheConstants.{H}
 use Rattle.thetatree.specs.declared.leaves.Task.{Task}

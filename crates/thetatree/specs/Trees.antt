@@ -1,6 +1,6 @@
 -- A balanced tree in one list: the node at 1 is the top, those below the node at j stand at 2j and
 -- 2j + 1, and the leaves stand from the width on.
-use Rattle.std.specs.Prelude.{◌≡◌, ◌≢◌, ℕ, ◌+◌, ◌*◌, ◌/◌, ◌<◌, ◌≤◌, List, length, slice_index_or}
+use Rattle.std.specs.Prelude.{◌≡◌, ℕ, ◌+◌, ◌*◌, ◌/◌, ◌<◌, ◌≤◌, List, length, slice_index_or}
 use Rattle.std.specs.Int.{IsPowerOfTwo}
 use Rattle.thetatree.specs.declared.node.Node.{Node}
 use Rattle.thetatree.specs.Leaves.{Leaves, task_at, colour_at, AreTasks}

@@ -9,3 +9,6 @@ mod tree;
 
 pub use leaves::{Colour, Task};
 pub use tree::ThetaTree;
+
+#[cfg(test)]
+mod tests;

@@ -1,4 +1,4 @@
-use Rattle.std.proofs.Common.{◌≡◌, ◌≢◌, ℕ, ◌*◌, ◌/◌, ◌<◌, ◌≤◌, length}
+use Rattle.std.proofs.Common.{◌≡◌, ◌≢◌, ℕ, ◌/◌, ◌<◌, ◌≤◌, length}
 use Rattle.thetatree.specs.Trees.{node_at, IsJoin, AreSmall}
 use Rattle.thetatree.proofs.tree.refresh.Given as goal
 

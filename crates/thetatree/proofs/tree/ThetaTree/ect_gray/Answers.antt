@@ -8,4 +8,4 @@ pub returns : goal.returns
 returns c =
     let is : c.map.result ≡ option_map answer_of c.index.result.now.gray_ect = search rules in
     subst (λ (t : Leaves). GivesEctGray t c.map.result) c.self.view_is
-      (subst (GivesEctGray _) (sym is) (top_gives_gray _ c.self.inside.width c.self.inside.nodes.items c.self.invariant c.index.result.now c.index.ensures))
+    (subst (GivesEctGray _) (sym is) (top_gives_gray _ c.self.inside.width c.self.inside.nodes.items c.self.invariant c.index.result.now c.index.ensures))

@@ -1,9 +1,8 @@
-use Rattle.std.proofs.Common.{◌≡◌, List, ◌+◌, arith, rules, sym, ap, subst, ◌<◌, ◌∙◌, length, length-set}
+use Rattle.std.proofs.Common.{◌≡◌, ◌+◌, arith, rules, sym, ap, subst, ◌<◌, ◌∙◌, length, length-set}
 use Rattle.std.specs.Prelude.{slice_set}
-use Rattle.thetatree.specs.declared.node.Node.{Node}
 use Rattle.thetatree.specs.Leaves.{Leaves, task_at}
 use Rattle.thetatree.specs.Nodes.{leaf_node}
-use Rattle.thetatree.specs.Trees.{node_at, IsJoin, AreSmall, IsTree}
+use Rattle.thetatree.specs.Trees.{node_at, AreSmall, IsTree}
 use Rattle.thetatree.proofs.Writes.{JoinBut, joins_leaf, whole, painted, leaf_is, paint_small}
 use Rattle.thetatree.proofs.tree.ThetaTree.paint.Goals as goal
 
@@ -17,7 +16,7 @@ pub refresh-requires-clause-joins : goal.refresh-requires-clause-joins
 refresh-requires-clause-joins c =
     let tree : IsTree _ c.self.inside.width c.self.inside.nodes.items = c.self.invariant in
     subst (JoinBut (c.self.inside.width + c.args.k)) (sym c.deref_mut.ensures.value)
-      (joins_leaf c.self.inside.nodes.items c.self.inside.width (c.self.inside.width + c.args.k) c.leaf.result tree.size (omega arith) tree.joins)
+    (joins_leaf c.self.inside.nodes.items c.self.inside.width (c.self.inside.width + c.args.k) c.leaf.result tree.size (omega arith) tree.joins)
 
 pub invariant_of-self : goal.invariant_of-self
 invariant_of-self c =
@@ -32,7 +31,7 @@ invariant_of-self c =
     let kept : length new ≡ length c.deref_mut.result.now = search rules in
     let all : c.self.inside.nodes.len ≡ length new = omega (arith, kept, c.deref_mut.ensures.len) in
     subst (IsTree (record { tasks = t.tasks; colours = slice_set t.colours c.args.k c.args.c }) c.self.inside.width) (sym (whole c.self.inside.nodes.len new _ all))
-      (painted t c.self.inside.width ns new c.args.k c.args.c c.self.invariant within (kept ∙ same_length)
-        (λ j low. c.refresh.ensures.leaves j (omega (arith, low, same_length)) ∙ ap (λ xs. node_at xs j) written)
-        (λ j some high. c.refresh.ensures.joins j some (omega (arith, high, same_length)))
-        c.refresh.ensures.small)
+    (painted t c.self.inside.width ns new c.args.k c.args.c c.self.invariant within (kept ∙ same_length)
+    (λ j low. c.refresh.ensures.leaves j (omega (arith, low, same_length)) ∙ ap (λ xs. node_at xs j) written)
+    (λ j some high. c.refresh.ensures.joins j some (omega (arith, high, same_length)))
+    c.refresh.ensures.small)
