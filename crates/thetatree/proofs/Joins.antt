@@ -7,9 +7,10 @@ use Rattle.std.proofs.lemmas.Int.{ints}
 use Rattle.thetatree.specs.declared.node.Best.{Best}
 use Rattle.thetatree.specs.declared.node.Node.{Node}
 use Rattle.thetatree.specs.Leaves.{Leaves, task_at}
+use Rattle.thetatree.specs.Subsets.{IsAtMost}
 use Rattle.thetatree.specs.Nodes.{greater_of, later, better, best_of, joined}
 use Rattle.thetatree.proofs.Rooms.{greater_in, better_in, best_in}
-use Rattle.thetatree.proofs.Parts.{white_sum, extra, Begins, Within, end_from, Reaches, AtMost, AtMostBest, HoldsPart}
+use Rattle.thetatree.proofs.Parts.{white_sum, extra, Begins, Within, end_from, Reaches, AtMostBest, HoldsPart}
 
 -- the greater of two numbers is no less than each
 
@@ -27,12 +28,12 @@ second_below z a b h = picked (int_lt a b) refl
     picked true is = h
     picked false is = let less : b ≤ℤ a = grind (arith, ints) in omega (arith, ints, h, less)
 
-at_first : (z : ℤ) (a b : Option ℤ) → AtMost z a → AtMost z (greater_of a b)
+pub at_first : (z : ℤ) (a b : Option ℤ) → IsAtMost z a → IsAtMost z (greater_of a b)
 at_first z None b h = absurd h
 at_first z (Some a) None h = h
 at_first z (Some a) (Some b) h = first_below z a b h
 
-at_second : (z : ℤ) (a b : Option ℤ) → AtMost z b → AtMost z (greater_of a b)
+pub at_second : (z : ℤ) (a b : Option ℤ) → IsAtMost z b → IsAtMost z (greater_of a b)
 at_second z None b h = h
 at_second z (Some a) None h = absurd h
 at_second z (Some a) (Some b) h = second_below z a b h
@@ -143,13 +144,13 @@ gray_ect_reached t lo mid hi l r wide wide' left right =
 -- and no row passes it
 
 ect_greatest : (t : Leaves) (lo mid hi : ℕ) (l r : Node) → HoldsPart t lo mid l → HoldsPart t mid hi r
-    → (j : ℕ) → lo ≤ j → j < hi → Begins t j hi None → AtMost (end_from t j hi None) (joined l r).ect
+    → (j : ℕ) → lo ≤ j → j < hi → Begins t j hi None → IsAtMost (end_from t j hi None) (joined l r).ect
 ect_greatest t lo mid hi l r left right j from to begins = elim (cases_lt j mid) [
   | inl before ↦ at_second (end_from t j hi None) r.ect (option_map (λ z. z +ℤ r.sum) l.ect) (on l.ect (left.ect_greatest j from before begins))
   | inr after ↦ at_first (end_from t j hi None) r.ect (option_map (λ z. z +ℤ r.sum) l.ect) (right.ect_greatest j after to begins)
 ]
   where
-    on : (o : Option ℤ) → AtMost (end_from t j mid None) o → AtMost (end_from t j hi None) (option_map (λ z. z +ℤ r.sum) o)
+    on : (o : Option ℤ) → IsAtMost (end_from t j mid None) o → IsAtMost (end_from t j hi None) (option_map (λ z. z +ℤ r.sum) o)
     on None h = absurd h
     on (Some z) h = omega (arith, ints, h, right.sum)
 
@@ -172,7 +173,7 @@ row_across t lo mid hi l r left right gray j from before begins within =
     (best_second (end_from t j hi gray) (option_map (later r.sum) l.gray_ect) (option_map (λ z. later z r.gray_sum) l.ect)
     (on l.ect (left.ect_greatest j from before begins)))
   where
-    on : (o : Option ℤ) → AtMost (end_from t j mid None) o → AtMostBest (end_from t j hi gray) (option_map (λ z. later z r.gray_sum) o)
+    on : (o : Option ℤ) → IsAtMost (end_from t j mid None) o → AtMostBest (end_from t j hi gray) (option_map (λ z. later z r.gray_sum) o)
     on None h = absurd h
     on (Some z) h = omega (arith, ints, h, right.gray_sum_greatest gray within)
 

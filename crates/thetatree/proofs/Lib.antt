@@ -9,3 +9,4 @@ pub mod Members
 pub mod Sets
 pub mod Tops
 pub mod Takes
+pub mod Trials

@@ -6,6 +6,7 @@ use Rattle.thetatree.specs.declared.leaves.Colour.TheVariants.{Out, White, Gray}
 use Rattle.thetatree.specs.declared.node.Best.{Best}
 use Rattle.thetatree.specs.declared.node.Node.{Node}
 use Rattle.thetatree.specs.Leaves.{Leaves, task_at, colour_at}
+use Rattle.thetatree.specs.Subsets.{IsAtMost}
 
 abbrev pub weight : Colour → ℤ → ℤ
 weight Out p = pos 0
@@ -50,10 +51,6 @@ pub record Reaches (t : Leaves) (lo hi : ℕ) (z : ℤ) (gray : Option ℕ) : Ty
   pub begins : Begins t first hi gray
   pub is : z ≡ end_from t first hi gray
 
-abbrev pub AtMost : ℤ → Option ℤ → Type 0
-AtMost z None = ⊥
-AtMost z (Some a) = z ≤ℤ a
-
 abbrev pub AtMostBest : ℤ → Option Best → Type 0
 AtMostBest z None = ⊥
 AtMostBest z (Some b) = z ≤ℤ b.value
@@ -61,7 +58,7 @@ AtMostBest z (Some b) = z ≤ℤ b.value
 pub record HoldsPart (t : Leaves) (lo hi : ℕ) (n : Node) : Type 0 where
   pub sum : n.sum ≡ white_sum t lo hi
   pub ect_reached : IfSome n.ect (λ z. Reaches t lo hi z None)
-  pub ect_greatest : (j : ℕ) → lo ≤ j → j < hi → Begins t j hi None → AtMost (end_from t j hi None) n.ect
+  pub ect_greatest : (j : ℕ) → lo ≤ j → j < hi → Begins t j hi None → IsAtMost (end_from t j hi None) n.ect
   pub gray_sum_within : Within t lo hi n.gray_sum.leaf
   pub gray_sum_is : n.gray_sum.value ≡ white_sum t lo hi +ℤ extra t n.gray_sum.leaf
   pub gray_sum_greatest : (gray : Option ℕ) → Within t lo hi gray → (white_sum t lo hi +ℤ extra t gray) ≤ℤ n.gray_sum.value

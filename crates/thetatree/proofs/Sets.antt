@@ -126,7 +126,7 @@ whites_has t lo (suc n) y here = split (colour_at t lo) refl here (λ later. let
     ]
 
 -- a place that isn't in a list
-absent : (ks : List ℕ) (k : ℕ) → (has ks k ≡ true → ⊥) → has ks k ≡ false
+pub absent : (ks : List ℕ) (k : ℕ) → (has ks k ≡ true → ⊥) → has ks k ≡ false
 absent ks k none = decided (has ks k) refl
   where
     decided : (b : Bool) → has ks k ≡ b → has ks k ≡ false

@@ -8,9 +8,10 @@ use Rattle.thetatree.specs.declared.leaves.Colour.TheVariants.{Out, White, Gray}
 use Rattle.thetatree.specs.declared.node.Best.{Best}
 use Rattle.thetatree.specs.declared.node.Node.{Node}
 use Rattle.thetatree.specs.Leaves.{Leaves, colour_at, end_of, GivesEct, GivesEctGray}
+use Rattle.thetatree.specs.Subsets.{IsAtMost}
 use Rattle.thetatree.specs.Nodes.{no_node}
 use Rattle.thetatree.specs.Trees.{node_at, IsTree}
-use Rattle.thetatree.proofs.Parts.{Begins, end_from, Reaches, AtMost, AtMostBest, HoldsPart}
+use Rattle.thetatree.proofs.Parts.{Begins, end_from, Reaches, AtMostBest, HoldsPart}
 use Rattle.thetatree.proofs.Climb.{size_from, count_is, count_some, top_holds}
 use Rattle.thetatree.proofs.Sets.{IsWide, EndsBy, white_there, gray_there, set_ends, row_ends}
 
@@ -25,7 +26,7 @@ below_row : (t : Leaves) (width : ℕ) (gray : Option ℕ) (z a : ℤ) → EndsB
 below_row t width gray z a ends bound = omega (arith, ints, ends.by, bound ends.first ends.within ends.begins)
 
 ect_of_part : (t : Leaves) (width : ℕ) → IsWide t width → (o : Option ℤ) → IfSome o (λ z. Reaches t 0 width z None)
-    → ((j : ℕ) → 0 ≤ j → j < width → Begins t j width None → AtMost (end_from t j width None) o) → GivesEct t o
+    → ((j : ℕ) → 0 ≤ j → j < width → Begins t j width None → IsAtMost (end_from t j width None) o) → GivesEct t o
 ect_of_part t width wide None reached greatest = λ k white. greatest k (omega arith) (omega (arith, white_there t k white, wide.same, wide.room)) white
 ect_of_part t width wide (Some z) reached greatest =
     let set = row_ends t width wide None z reached in
