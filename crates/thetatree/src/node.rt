@@ -45,7 +45,7 @@ fn plus(a: i64, b: i64) -> i64
     a + b
 }
 
-fn greater_of(a: Option<i64>, b: Option<i64>) -> Option<i64>
+pub fn greater_of(a: Option<i64>, b: Option<i64>) -> Option<i64>
     ensures { result ≡ greater_of a b }
 {
     match (a, b) {

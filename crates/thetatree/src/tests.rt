@@ -1,7 +1,11 @@
-ghost use Rattle.std.specs.Prelude.{◌≡◌, length, IfOk};
-ghost use Rattle.thetatree.specs.Leaves.{AreTasks};
+ghost use Rattle.std.specs.Prelude.{◌≡◌, ◌-◌, ◌*◌, ◌^◌, ◌≤◌, ◌+ℤ◌, ◌≤ℤ◌, pos, length, IfSome};
+ghost use Rattle.std.specs.Option.{option_map};
+ghost use Rattle.thetatree.specs.Leaves.{Leaves, AreTasks};
+ghost use Rattle.thetatree.specs.Nodes.{IsNear};
+ghost use Rattle.thetatree.specs.Subsets.{IsGreatestEnd, least_with, gray_left, tried, greatest_from};
 
 use crate::Colour::{Gray, Out, White};
+use crate::node::greater_of;
 use crate::{Colour, Task, ThetaTree};
 use sched_base::{H, NoMemory};
 use std::alloc::Global;
@@ -36,32 +40,87 @@ fn answers(alloc: Global, tasks: &[Task], colours: &[Colour]) -> Result<Option<A
     Ok(Some((tree.ect(), tree.ect_gray())))
 }
 
-/// The greatest completion time over all sets of the tasks from a place on, with those chosen
-/// before it, whose least start and sum these are: straight from the definition. `gray` says
-/// whether a gray task may still be chosen.
-fn greatest(
-    tasks: &[Task],
-    colours: &[Colour],
+/// A choice of tasks: their least earliest start, where there is one, the sum of their sizes, and
+/// whether a gray task may still join them.
+#[derive(Clone, Copy)]
+struct Choice {
     least: Option<i64>,
     sum: i64,
     gray: bool,
-) -> Option<i64> {
-    let ([task, tasks @ ..], [colour, colours @ ..]) = (tasks, colours) else {
-        return least.map(|est| est.saturating_add(sum));
+}
+
+fn completed(choice: Choice) -> Option<i64>
+    requires from { pos 0 ≤ℤ choice.sum }
+    requires to { choice.sum ≤ℤ pos (2 ^ 50) }
+    requires least { IfSome choice.least (IsNear 0) }
+    ensures { result ≡ option_map (λ a. a +ℤ choice.sum) choice.least }
+{
+    choice.least.map(|est| est + choice.sum)
+}
+
+fn joined_by(choice: Choice, task: Task, colour: Colour) -> Choice
+    requires from { pos 0 ≤ℤ (choice.sum +ℤ task.p) }
+    requires to { (choice.sum +ℤ task.p) ≤ℤ pos (2 ^ 50) }
+    ensures least { result.least ≡ Some (least_with choice.least task.est) }
+    ensures sum { result.sum ≡ choice.sum +ℤ task.p }
+    ensures gray { result.gray ≡ gray_left colour choice.gray }
+{
+    let least = match choice.least {
+        None => task.est,
+        Some(est) => task.est.min(est),
     };
-    let without = greatest(tasks, colours, least, sum, gray);
-    if *colour == Out || *colour == Gray && !gray {
-        return without;
+    let gray = match colour {
+        Gray => false,
+        White | Out => choice.gray,
+    };
+    Choice {
+        least: Some(least),
+        sum: choice.sum + task.p,
+        gray,
     }
-    let least = least.map_or(task.est, |est| est.min(task.est));
-    let with = greatest(
-        tasks,
-        colours,
-        Some(least),
-        sum.saturating_add(task.p),
-        gray && *colour == White,
-    );
-    without.max(with)
+}
+
+fn tried(colour: Colour, gray: bool, without: Option<i64>, with: Option<i64>) -> Option<i64>
+    ensures { result ≡ tried colour gray without with }
+{
+    match (colour, gray) {
+        (White, _) | (Gray, true) => greater_of(without, with),
+        (Out, _) | (Gray, false) => without,
+    }
+}
+
+/// The greatest completion time over all choices of the tasks from a place on.
+fn greatest_from(tasks: &[Task], colours: &[Colour], i: usize, choice: Choice) -> Option<i64>
+    requires tasks { AreTasks tasks.now }
+    requires colours { length colours.now ≡ length tasks.now }
+    requires within { i ≤ length tasks.now }
+    requires from { pos 0 ≤ℤ choice.sum }
+    requires to { choice.sum ≤ℤ pos (2000000000 * i) }
+    requires least { IfSome choice.least (IsNear 0) }
+    ensures { result ≡ greatest_from (record { tasks = tasks.now; colours = colours.now }) i (length tasks.now - i) choice.least choice.sum choice.gray }
+{
+    if i == tasks.len() {
+        return completed(choice);
+    }
+    let without = greatest_from(tasks, colours, i + 1, choice);
+    let more = joined_by(choice, tasks[i], colours[i]);
+    let with = greatest_from(tasks, colours, i + 1, more);
+    tried(colours[i], choice.gray, without, with)
+}
+
+/// The greatest completion time over all sets of white tasks and, where `gray` says so, at most one
+/// gray task.
+fn greatest(tasks: &[Task], colours: &[Colour], gray: bool) -> Option<i64>
+    requires tasks { AreTasks tasks.now }
+    requires colours { length colours.now ≡ length tasks.now }
+    ensures { IsGreatestEnd (record { tasks = tasks.now; colours = colours.now }) gray result }
+{
+    let none = Choice {
+        least: None,
+        sum: 0,
+        gray,
+    };
+    greatest_from(tasks, colours, 0, none)
 }
 
 #[test]
@@ -107,6 +166,7 @@ fn takes_few_small_tasks_in_order(rt: HostRuntime) -> Result<(), Fail> {
 fn agrees_with_all_subsets(rt: HostRuntime) -> Result<(), Fail> {
     let alloc = rt.alloc();
     let tasks = [task(-3, 5), task(2, 3), task(2, 0), task(6, 4), task(15, 1)];
+    assert!(rt; ThetaTree::takes(&tasks));
     for code in 0..243usize {
         let mut colours = [Out; 5];
         let mut rest = code;
@@ -120,10 +180,10 @@ fn agrees_with_all_subsets(rt: HostRuntime) -> Result<(), Fail> {
         };
         assert_eq!(rt;
             ect,
-            greatest(&tasks, &colours, None, 0, false),
+            greatest(&tasks, &colours, false),
             "at {code}"
         );
-        let gray = greatest(&tasks, &colours, None, 0, true);
+        let gray = greatest(&tasks, &colours, true);
         assert_eq!(rt; ect_gray.map(|best| best.0), gray, "at {code}");
 
         // the gray task that is named, and no other, is as good
@@ -134,7 +194,7 @@ fn agrees_with_all_subsets(rt: HostRuntime) -> Result<(), Fail> {
             }
         }
         assert_eq!(rt;
-            greatest(&tasks, &colours, None, 0, true),
+            greatest(&tasks, &colours, true),
             gray,
             "at {code}"
         );
