@@ -1,14 +1,12 @@
 -- Trying all choices finds the greatest completion time.
-use Rattle.std.proofs.Common.{◌≡◌, ◌≢◌, ℕ, zero, suc, ◌+◌, ◌<◌, ◌≤◌, ℤ, pos, ◌+ℤ◌, ◌-ℤ◌, ◌≤ℤ◌, ◌<ℤ◌, Bool, true, false, cond, int_lt, List, [], ◌∷◌, length, Option, None, Some, IfSome, refl, ap, sym, ◌∙◌, subst, ◌⊎◌, inl, inr, arith}
+use Rattle.std.proofs.Common.{◌≡◌, ℕ, zero, suc, ◌+◌, ◌<◌, ◌≤◌, ℤ, pos, ◌+ℤ◌, ◌≤ℤ◌, Bool, true, false, cond, List, [], ◌∷◌, length, Option, None, Some, IfSome, refl, ap, sym, ◌∙◌, subst, inl, inr, arith}
 use Rattle.std.specs.Prelude.{nat_eq}
 use Rattle.std.specs.Option.{option_map}
-use Rattle.std.specs.Int.{int_min}
 use Rattle.std.proofs.lemmas.Bool.{cases_eq}
 use Rattle.std.proofs.lemmas.Int.{ints, int_min_is}
 use Rattle.thetatree.specs.declared.leaves.Colour.{Colour}
 use Rattle.thetatree.specs.declared.leaves.Colour.TheVariants.{Out, White, Gray}
-use Rattle.thetatree.specs.Leaves.{Leaves, task_at, colour_at, has, IsOnce, least_est, sum_of, end_of, HasGray, IsChosen}
-use Rattle.thetatree.specs.Nodes.{greater_of}
+use Rattle.thetatree.specs.Leaves.{Leaves, task_at, colour_at, has, least_est, sum_of, end_of, HasGray, IsChosen}
 use Rattle.thetatree.specs.Subsets.{Allows, IsAtMost, EndsAt, IsGreatestEnd, least_with, gray_left, tried, greatest_from}
 use Rattle.thetatree.proofs.Parts.{sum_below}
 use Rattle.thetatree.proofs.Joins.{at_first, at_second}
@@ -16,6 +14,13 @@ use Rattle.thetatree.proofs.Rooms.{greater_in}
 use Rattle.thetatree.proofs.Members.{has_cases, has_first, has_later, least_below, covered}
 use Rattle.thetatree.proofs.Weights.{eq_from}
 use Rattle.thetatree.proofs.Sets.{absent, white_there, gray_there}
+
+-- the greatest over the choices that leave out the place i, and over those that take it
+abbrev without_it : Leaves → ℕ → ℕ → Option ℤ → ℤ → Bool → Option ℤ
+without_it t i n least sum gray = greatest_from t (suc i) n least sum gray
+
+abbrev with_it : Leaves → ℕ → ℕ → Option ℤ → ℤ → Bool → Option ℤ
+with_it t i n least sum gray = greatest_from t (suc i) n (Some (least_with least (task_at t i).est)) (sum +ℤ (task_at t i).p) gray
 
 -- no set passes the greatest
 
@@ -87,30 +92,36 @@ bound_end : (t : Leaves) → ((y : ℕ) → pos 0 ≤ℤ (task_at t y).p) → (a
     → ((y : ℕ) → has (k ∷ ks) y ≡ true → y < i) → Accounts t k ks i least sum gray → IsAtMost (end_of t k ks) (option_map (λ a. a +ℤ sum) least)
 bound_end t sizes any k ks chosen i None sum gray below before = omega (arith, before.none_yet refl k (has_first k ks), below k (has_first k ks))
 bound_end t sizes any k ks chosen i (Some a) sum gray below before =
-    omega (arith, ints, before.least_up, before.sum_up, covered t 0 i (omega arith) (k ∷ ks) chosen.once (member_size t (k ∷ ks)) (size_from t sizes (k ∷ ks))
-      (λ y here. (omega arith, below y here, omega (arith, ints, size_in t (k ∷ ks) y here))))
+    omega (
+      arith,
+      ints,
+      before.least_up,
+      before.sum_up,
+      covered t 0 i (omega arith) (k ∷ ks) chosen.once (member_size t (k ∷ ks)) (size_from t sizes (k ∷ ks))
+          (λ y here. (omega arith, below y here, omega (arith, ints, size_in t (k ∷ ks) y here))),
+    )
 
 bound : (t : Leaves) → ((y : ℕ) → pos 0 ≤ℤ (task_at t y).p) → (any : Option ℕ) (k : ℕ) (ks : List ℕ) → IsChosen t any (k ∷ ks) → (n i : ℕ) (least : Option ℤ) (sum : ℤ) (gray : Bool)
     → ((y : ℕ) → has (k ∷ ks) y ≡ true → y < i + n) → Accounts t k ks i least sum gray → IsAtMost (end_of t k ks) (greatest_from t i n least sum gray)
 bound t sizes any k ks chosen zero i least sum gray below before = bound_end t sizes any k ks chosen i least sum gray (λ y here. omega (arith, below y here)) before
 bound t sizes any k ks chosen (suc n) i least sum gray below before =
     split (has (k ∷ ks) i) refl (colour_at t i) refl gray before
-      (λ g out acc. bound t sizes any k ks chosen n (suc i) least sum g (λ y here. omega (arith, below y here)) (skipped t k ks i least sum g out acc))
-      (λ g acc. bound t sizes any k ks chosen n (suc i) (Some (least_with least (task_at t i).est)) (sum +ℤ (task_at t i).p) g (λ y here. omega (arith, below y here)) acc)
+    (λ g out acc. bound t sizes any k ks chosen n (suc i) least sum g (λ y here. omega (arith, below y here)) (skipped t k ks i least sum g out acc))
+    (λ g acc. bound t sizes any k ks chosen n (suc i) (Some (least_with least (task_at t i).est)) (sum +ℤ (task_at t i).p) g (λ y here. omega (arith, below y here)) acc)
   where
     split : (b : Bool) → has (k ∷ ks) i ≡ b → (c : Colour) → colour_at t i ≡ c → (g : Bool) → Accounts t k ks i least sum g
-        → ((g' : Bool) → has (k ∷ ks) i ≡ false → Accounts t k ks i least sum g' → IsAtMost (end_of t k ks) (greatest_from t (suc i) n least sum g'))
+        → ((g' : Bool) → has (k ∷ ks) i ≡ false → Accounts t k ks i least sum g' → IsAtMost (end_of t k ks) (without_it t i n least sum g'))
         → ((g' : Bool) → Accounts t k ks (suc i) (Some (least_with least (task_at t i).est)) (sum +ℤ (task_at t i).p) g'
-          → IsAtMost (end_of t k ks) (greatest_from t (suc i) n (Some (least_with least (task_at t i).est)) (sum +ℤ (task_at t i).p) g'))
-        → IsAtMost (end_of t k ks) (tried c g (greatest_from t (suc i) n least sum g) (greatest_from t (suc i) n (Some (least_with least (task_at t i).est)) (sum +ℤ (task_at t i).p) (gray_left c g)))
+        → IsAtMost (end_of t k ks) (with_it t i n least sum g'))
+        → IsAtMost (end_of t k ks) (tried c g (without_it t i n least sum g) (with_it t i n least sum (gray_left c g)))
     split false here Out is g acc skip take_it = skip g here acc
-    split false here White is g acc skip take_it = at_first (end_of t k ks) (greatest_from t (suc i) n least sum g) (greatest_from t (suc i) n (Some (least_with least (task_at t i).est)) (sum +ℤ (task_at t i).p) g) (skip g here acc)
-    split false here Gray is true acc skip take_it = at_first (end_of t k ks) (greatest_from t (suc i) n least sum true) (greatest_from t (suc i) n (Some (least_with least (task_at t i).est)) (sum +ℤ (task_at t i).p) false) (skip true here acc)
+    split false here White is g acc skip take_it = at_first (end_of t k ks) (without_it t i n least sum g) (with_it t i n least sum g) (skip g here acc)
+    split false here Gray is true acc skip take_it = at_first (end_of t k ks) (without_it t i n least sum true) (with_it t i n least sum false) (skip true here acc)
     split false here Gray is false acc skip take_it = skip false here acc
     split true here Out is g acc skip take_it = absurd (coloured t any (k ∷ ks) i chosen here is)
-    split true here White is g acc skip take_it = at_second (end_of t k ks) (greatest_from t (suc i) n least sum g) (greatest_from t (suc i) n (Some (least_with least (task_at t i).est)) (sum +ℤ (task_at t i).p) g)
+    split true here White is g acc skip take_it = at_second (end_of t k ks) (without_it t i n least sum g) (with_it t i n least sum g)
         (take_it g (taken t k ks i least sum g g here (λ off y low there. acc.gray_used off y (omega (arith, low)) there) acc))
-    split true here Gray is true acc skip take_it = at_second (end_of t k ks) (greatest_from t (suc i) n least sum true) (greatest_from t (suc i) n (Some (least_with least (task_at t i).est)) (sum +ℤ (task_at t i).p) false)
+    split true here Gray is true acc skip take_it = at_second (end_of t k ks) (without_it t i n least sum true) (with_it t i n least sum false)
         (take_it false (taken t k ks i least sum true false here (λ off. whites_after t any (k ∷ ks) i chosen here is) acc))
     split true here Gray is false acc skip take_it = absurd (let clash : White ≡ Gray = sym (acc.gray_used refl i (omega arith) here) ∙ is in cc)
 
@@ -200,22 +211,22 @@ reached : (t : Leaves) (grays : Bool) (n i : ℕ) (s : List ℕ) (any : Option �
 reached t grays zero i s any least sum gray built = built_end t grays i s any least sum gray built
 reached t grays (suc n) i s any least sum gray built =
     split (colour_at t i) refl gray built
-      (λ g acc. reached t grays n (suc i) s any least sum g (built_skip t grays i s any least sum g acc))
-      (λ any' g acc. reached t grays n (suc i) (i ∷ s) any' (Some (least_with least (task_at t i).est)) (sum +ℤ (task_at t i).p) g acc)
+    (λ g acc. reached t grays n (suc i) s any least sum g (built_skip t grays i s any least sum g acc))
+    (λ any' g acc. reached t grays n (suc i) (i ∷ s) any' (Some (least_with least (task_at t i).est)) (sum +ℤ (task_at t i).p) g acc)
   where
     split : (c : Colour) → colour_at t i ≡ c → (g : Bool) → Built t grays i s any least sum g
-        → ((g' : Bool) → Built t grays i s any least sum g' → IfSome (greatest_from t (suc i) n least sum g') (EndsAt t grays))
+        → ((g' : Bool) → Built t grays i s any least sum g' → IfSome (without_it t i n least sum g') (EndsAt t grays))
         → ((any' : Option ℕ) (g' : Bool) → Built t grays (suc i) (i ∷ s) any' (Some (least_with least (task_at t i).est)) (sum +ℤ (task_at t i).p) g'
-          → IfSome (greatest_from t (suc i) n (Some (least_with least (task_at t i).est)) (sum +ℤ (task_at t i).p) g') (EndsAt t grays))
-        → IfSome (tried c g (greatest_from t (suc i) n least sum g) (greatest_from t (suc i) n (Some (least_with least (task_at t i).est)) (sum +ℤ (task_at t i).p) (gray_left c g))) (EndsAt t grays)
+        → IfSome (with_it t i n least sum g') (EndsAt t grays))
+        → IfSome (tried c g (without_it t i n least sum g) (with_it t i n least sum (gray_left c g))) (EndsAt t grays)
     split Out is g acc skip take_it = skip g acc
-    split White is g acc skip take_it = greater_in (EndsAt t grays) (greatest_from t (suc i) n least sum g) (greatest_from t (suc i) n (Some (least_with least (task_at t i).est)) (sum +ℤ (task_at t i).p) g)
+    split White is g acc skip take_it = greater_in (EndsAt t grays) (without_it t i n least sum g) (with_it t i n least sum g)
         (skip g acc) (take_it any g (built_white t grays i s any least sum g is acc))
     split Gray is false acc skip take_it = skip false acc
-    split Gray is true acc skip take_it = greater_in (EndsAt t grays) (greatest_from t (suc i) n least sum true) (greatest_from t (suc i) n (Some (least_with least (task_at t i).est)) (sum +ℤ (task_at t i).p) false)
+    split Gray is true acc skip take_it = greater_in (EndsAt t grays) (without_it t i n least sum true) (with_it t i n least sum false)
         (skip true acc) (take_it (Some i) false
-          (subst (λ b. Built t b (suc i) (i ∷ s) (Some i) (Some (least_with least (task_at t i).est)) (sum +ℤ (task_at t i).p) false) (sym (acc.free refl).1)
-            (built_gray t i s least sum true is (subst (λ b. Built t b i s None least sum true) (acc.free refl).1 (subst (λ o. Built t grays i s o least sum true) (acc.free refl).0 acc)))))
+        (subst (λ b. Built t b (suc i) (i ∷ s) (Some i) (Some (least_with least (task_at t i).est)) (sum +ℤ (task_at t i).p) false) (sym (acc.free refl).1)
+        (built_gray t i s least sum true is (subst (λ b. Built t b i s None least sum true) (acc.free refl).1 (subst (λ o. Built t grays i s o least sum true) (acc.free refl).0 acc)))))
 
 -- all choices of all places
 pub all_choices : (t : Leaves) (grays : Bool) (n : ℕ) → ((y : ℕ) → pos 0 ≤ℤ (task_at t y).p) → length t.colours ≤ n → IsGreatestEnd t grays (greatest_from t 0 n None (pos 0) grays)
@@ -239,11 +250,13 @@ all_choices t grays n sizes room = record {
     none_allowed : (b : Bool) → Allows b None
     none_allowed true = tt
     none_allowed false = refl
+
     place : (u : Leaves) (any : Option ℕ) (s : List ℕ) → IsChosen u any s → (y : ℕ) → has s y ≡ true → y < length u.colours
     place u any s chosen y here = elim (chosen.white y here) [
       | inl white ↦ white_there u y white
       | inr at_y ↦ (let is : HasGray u (Some y) s = subst (λ g. HasGray u g s) at_y chosen.gray_in in gray_there u y is.1)
     ]
+
     only_white : (any : Option ℕ) (s : List ℕ) → IsChosen t any s → any ≡ None → (y : ℕ) → has s y ≡ true → colour_at t y ≡ White
     only_white any s chosen none y here = elim (chosen.white y here) [
       | inl white ↦ white

@@ -13,7 +13,7 @@ use Rattle.thetatree.specs.Leaves.{Leaves, task_at, colour_at}
 use Rattle.std.specs.Prelude.{pos}
 use Rattle.std.proofs.lemmas.Int.{ints}
 use Rattle.thetatree.specs.Nodes.{no_node, leaf_node, joined, IsSmall}
-use Rattle.thetatree.specs.Trees.{node_at, IsJoin, AreSmall, IsTree}
+use Rattle.thetatree.specs.Trees.{node_at, whole_room, IsJoin, AreSmall, IsTree}
 use Rattle.thetatree.proofs.Rooms.{rooms, joined_small, leaf_small}
 
 pub same_node : (ns : List Node) (i j : ℕ) (x : Node) → j ≡ i → i < length ns → node_at (slice_set ns i x) j ≡ x
@@ -34,17 +34,17 @@ join_made ns i j x same some within is = subst (IsJoin (slice_set ns i x)) (sym 
     (same_node ns i i x refl within ∙ is ∙ ap (λ r. joined (node_at ns (2 * i)) r) (sym (other_node ns i (2 * i + 1) x (λ e. omega (arith, e, some))))
     ∙ ap (λ l. joined l (node_at (slice_set ns i x) (2 * i + 1))) (sym (other_node ns i (2 * i) x (λ e. omega (arith, e, some)))))
 
-pub small_write : (ns : List Node) (i : ℕ) (x : Node) → i < length ns → IsSmall (4096000000000 / i) x → AreSmall ns → AreSmall (slice_set ns i x)
+pub small_write : (ns : List Node) (i : ℕ) (x : Node) → i < length ns → IsSmall (whole_room / i) x → AreSmall ns → AreSmall (slice_set ns i x)
 small_write ns i x within small before j some in_list = elim (cases_eq j i) [
-  | inl same ↦ subst (λ n. IsSmall (4096000000000 / j) n) (sym (same_node ns i j x same within)) (subst (λ m. IsSmall (4096000000000 / m) x) (sym same) small)
-  | inr other ↦ subst (λ n. IsSmall (4096000000000 / j) n) (sym (other_node ns i j x other)) (before j some (omega (arith, in_list, length-set ns i x)))
+  | inl same ↦ subst (λ n. IsSmall (whole_room / j) n) (sym (same_node ns i j x same within)) (subst (λ m. IsSmall (whole_room / m) x) (sym same) small)
+  | inr other ↦ subst (λ n. IsSmall (whole_room / j) n) (sym (other_node ns i j x other)) (before j some (omega (arith, in_list, length-set ns i x)))
 ]
 
 -- the step of the way up
-pub join_small : (ns : List Node) (i : ℕ) (x : Node) → 0 < i → 2 * i + 1 < length ns → x ≡ joined (node_at ns (2 * i)) (node_at ns (2 * i + 1)) → AreSmall ns → IsSmall (4096000000000 / i) x
-join_small ns i x some within is small = subst (IsSmall (4096000000000 / i)) (sym is)
-    (joined_small (4096000000000 / (2 * i)) (4096000000000 / (2 * i + 1)) (4096000000000 / i) (node_at ns (2 * i)) (node_at ns (2 * i + 1))
-    (rooms 4096000000000 i some) (small (2 * i) (omega (arith, some)) (omega (arith, within))) (small (2 * i + 1) (omega arith) within))
+pub join_small : (ns : List Node) (i : ℕ) (x : Node) → 0 < i → 2 * i + 1 < length ns → x ≡ joined (node_at ns (2 * i)) (node_at ns (2 * i + 1)) → AreSmall ns → IsSmall (whole_room / i) x
+join_small ns i x some within is small = subst (IsSmall (whole_room / i)) (sym is)
+    (joined_small (whole_room / (2 * i)) (whole_room / (2 * i + 1)) (whole_room / i) (node_at ns (2 * i)) (node_at ns (2 * i + 1))
+    (rooms whole_room i some) (small (2 * i) (omega (arith, some)) (omega (arith, within))) (small (2 * i + 1) (omega arith) within))
 
 pub joins_up : (ns : List Node) (at : ℕ) (x : Node) → 0 < at → at < length ns → x ≡ joined (node_at ns (2 * at)) (node_at ns (2 * at + 1))
     → ((j : ℕ) → 0 < j → j < length ns / 2 → j ≢ at → IsJoin ns j)
@@ -111,8 +111,8 @@ leaf_is t k c a x within read is =
 pub paint_small : (t : Leaves) (width : ℕ) (ns : List Node) (k : ℕ) (c : Colour) (x : Node) → IsTree t width ns → k < length t.tasks → x ≡ leaf_node (task_at t k) c k
     → AreSmall (slice_set ns (width + k) x)
 paint_small t width ns k c x tree within is = small_write ns (width + k) x (omega (arith, tree.size, tree.room, within))
-    (subst (IsSmall (4096000000000 / (width + k))) (sym is)
-    (leaf_small (4096000000000 / (width + k)) (task_at t k) c k
-    (le-div 2000000000 4096000000000 (width + k) (omega (arith, tree.room, within)) (omega (arith, tree.low, tree.room, within)))
+    (subst (IsSmall (whole_room / (width + k))) (sym is)
+    (leaf_small (whole_room / (width + k)) (task_at t k) c k
+    (le-div 2000000000 whole_room (width + k) (omega (arith, tree.room, within)) (omega (arith, tree.low, tree.room, within)))
     ((tree.tasks.small k within).est_from, omega (arith, ints, (tree.tasks.small k within).est_to)) (tree.tasks.small k within).p_from (tree.tasks.small k within).p_to))
     tree.small

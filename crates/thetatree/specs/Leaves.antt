@@ -3,6 +3,7 @@ use Rattle.std.specs.Prelude.{◌≡◌, ◌≢◌, ◌⊎◌, ℕ, ◌<◌, ◌
 use Rattle.std.specs.List.{list_any}
 use Rattle.std.specs.Int.{int_min}
 use Rattle.sched_base.specs.declared.ids.TheConstants.{H}
+use Rattle.thetatree.specs.declared.leaves.TheConstants.{MAX_TASKS}
 use Rattle.thetatree.specs.declared.leaves.Task.{Task}
 use Rattle.thetatree.specs.declared.leaves.Colour.{Colour}
 use Rattle.thetatree.specs.declared.leaves.Colour.TheVariants.{Out, White, Gray}
@@ -31,7 +32,7 @@ pub record IsSmallTask (a : Task) : Type 0 where
 
 -- the tasks that a tree takes: few and small, in the order of their earliest starts
 pub record AreTasks (ts : List Task) : Type 0 where
-  pub few : length ts ≤ 500
+  pub few : length ts ≤ MAX_TASKS
   pub small : (k : ℕ) → k < length ts → IsSmallTask (task_in ts k)
   pub in_order : (j k : ℕ) → j ≤ k → k < length ts → (task_in ts j).est ≤ℤ (task_in ts k).est
 

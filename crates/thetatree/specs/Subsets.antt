@@ -52,4 +52,4 @@ abbrev pub greatest_from : Leaves → ℕ → ℕ → Option ℤ → ℤ → Boo
 greatest_from t i zero least sum gray = option_map (λ a. a +ℤ sum) least
 greatest_from t i (suc n) least sum gray =
     tried (colour_at t i) gray (greatest_from t (suc i) n least sum gray)
-      (greatest_from t (suc i) n (Some (least_with least (task_at t i).est)) (sum +ℤ (task_at t i).p) (gray_left (colour_at t i) gray))
+    (greatest_from t (suc i) n (Some (least_with least (task_at t i).est)) (sum +ℤ (task_at t i).p) (gray_left (colour_at t i) gray))

@@ -13,9 +13,13 @@ node_at ns j = slice_index_or ns j no_node
 abbrev pub IsJoin : List Node → ℕ → Type 0
 IsJoin ns j = node_at ns j ≡ joined (node_at ns (2 * j)) (node_at ns (2 * j + 1))
 
--- the numbers of each node have place in the room of its place
+-- room for 2H at each of 2048 leaves; the node at j has a jth part of it
+abbrev pub whole_room : ℕ
+whole_room = 4096000000000
+
+-- no node's numbers get too large
 abbrev pub AreSmall : List Node → Type 0
-AreSmall ns = (j : ℕ) → 0 < j → j < length ns → IsSmall (4096000000000 / j) (node_at ns j)
+AreSmall ns = (j : ℕ) → 0 < j → j < length ns → IsSmall (whole_room / j) (node_at ns j)
 
 pub record IsTree (t : Leaves) (width : ℕ) (ns : List Node) : Type 0 where
   pub power : IsPowerOfTwo width

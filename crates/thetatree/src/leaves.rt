@@ -1,3 +1,6 @@
+/// The most tasks that a tree takes.
+pub const MAX_TASKS: usize = 500;
+
 /// A task that runs without a break on the machine: it starts at `est` at the earliest and takes
 /// time `p`.
 #[derive(Clone, Copy, Debug, PartialEq, Eq)]

@@ -7,7 +7,7 @@ mod leaves;
 mod node;
 mod tree;
 
-pub use leaves::{Colour, Task};
+pub use leaves::{Colour, MAX_TASKS, Task};
 pub use tree::ThetaTree;
 
 #[cfg(test)]

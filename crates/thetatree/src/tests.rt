@@ -6,7 +6,7 @@ ghost use Rattle.thetatree.specs.Subsets.{IsGreatestEnd, least_with, gray_left, 
 
 use crate::Colour::{Gray, Out, White};
 use crate::node::greater_of;
-use crate::{Colour, Task, ThetaTree};
+use crate::{Colour, MAX_TASKS, Task, ThetaTree};
 use sched_base::{H, NoMemory};
 use std::alloc::Global;
 use std::test::Fail;
@@ -148,8 +148,8 @@ fn answers_for_worked_rows(rt: HostRuntime) -> Result<(), Fail> {
 fn takes_few_small_tasks_in_order(rt: HostRuntime) -> Result<(), Fail> {
     let alloc = rt.alloc();
     assert!(rt; ThetaTree::takes(&[task(-H, 0), task(H, 2 * H)]));
-    assert!(rt; ThetaTree::takes(&vec![in alloc; task(1, 1); 500]?));
-    assert!(rt; !ThetaTree::takes(&vec![in alloc; task(1, 1); 501]?));
+    assert!(rt; ThetaTree::takes(&vec![in alloc; task(1, 1); MAX_TASKS]?));
+    assert!(rt; !ThetaTree::takes(&vec![in alloc; task(1, 1); MAX_TASKS + 1]?));
     for wrong in [
         task(-H - 1, 0),
         task(H + 1, 0),
@@ -178,11 +178,7 @@ fn agrees_with_all_subsets(rt: HostRuntime) -> Result<(), Fail> {
             assert!(rt; false);
             return Ok(());
         };
-        assert_eq!(rt;
-            ect,
-            greatest(&tasks, &colours, false),
-            "at {code}"
-        );
+        assert_eq!(rt; ect, greatest(&tasks, &colours, false), "at {code}");
         let gray = greatest(&tasks, &colours, true);
         assert_eq!(rt; ect_gray.map(|best| best.0), gray, "at {code}");
 
@@ -193,11 +189,7 @@ fn agrees_with_all_subsets(rt: HostRuntime) -> Result<(), Fail> {
                 colours[k] = Out;
             }
         }
-        assert_eq!(rt;
-            greatest(&tasks, &colours, true),
-            gray,
-            "at {code}"
-        );
+        assert_eq!(rt; greatest(&tasks, &colours, true), gray, "at {code}");
     }
     Ok(())
 }

@@ -2,7 +2,7 @@ ghost use Rattle.std.specs.Prelude.{◌≡◌, ◌≢◌, ℕ, ◌+◌, ◌-◌,
 ghost use Rattle.thetatree.specs.Leaves.{Leaves, task_in, colour_at, IsSmallTask, AreTasks, GivesEct, GivesEctGray};
 ghost use Rattle.thetatree.specs.Trees.{node_at, IsJoin, AreSmall};
 
-use crate::leaves::{Colour, Task};
+use crate::leaves::{Colour, MAX_TASKS, Task};
 use crate::node::{EMPTY, Node, join, leaf};
 use sched_base::{H, NoMemory};
 use std::alloc::Global;
@@ -14,6 +14,7 @@ use std::marker::Model;
 #[derive(Debug, Drop)]
 pub struct ThetaTree {
     tasks: Vec<Task>,
+    /// What the leaves were painted with last.
     colours: Vec<Colour>,
     /// The top at 1, the nodes below the node at j at 2j and 2j + 1, the leaves from `width` on.
     nodes: Vec<Node>,
@@ -86,7 +87,7 @@ impl ThetaTree {
     pub fn takes(tasks: &[Task]) -> bool
         ensures { IsTrue result ↔ AreTasks tasks.now }
     {
-        if tasks.len() > 500 {
+        if tasks.len() > MAX_TASKS {
             return false;
         }
         for (i, task) in tasks.iter().enumerate() {

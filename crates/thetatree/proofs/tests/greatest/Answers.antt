@@ -9,4 +9,4 @@ pub returns : goal.returns
 returns c =
     let t : Leaves = record { tasks = c.args.tasks.now; colours = c.args.colours.now } in
     subst (IsGreatestEnd t c.args.gray) (sym c.greatest_from.ensures)
-      (all_choices t c.args.gray (length t.tasks - 0) (size_from t.tasks c.requires.tasks) (omega (arith, c.requires.colours)))
+    (all_choices t c.args.gray (length t.tasks - 0) (size_from t.tasks c.requires.tasks) (omega (arith, c.requires.colours)))
