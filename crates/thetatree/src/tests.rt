@@ -97,7 +97,8 @@ fn greatest_from(tasks: &[Task], colours: &[Colour], i: usize, choice: Choice) -
     requires from { pos 0 ≤ℤ choice.sum }
     requires to { choice.sum ≤ℤ pos (2000000000 * i) }
     requires least { IfSome choice.least (IsNear 0) }
-    ensures { result ≡ greatest_from (record { tasks = tasks.now; colours = colours.now }) i (length tasks.now - i) choice.least choice.sum choice.gray }
+    ensures { result ≡ greatest_from (record { tasks = tasks.now; colours = colours.now })
+        i (length tasks.now - i) choice.least choice.sum choice.gray }
 {
     if i == tasks.len() {
         return completed(choice);

@@ -30,7 +30,8 @@ impl Model for ThetaTree {
 
     ghost view = { λ t. record { tasks = t.tasks.items; colours = t.colours.items } };
 
-    ghost invariant = { λ t. IsTree (record { tasks = t.tasks.items; colours = t.colours.items }) t.width t.nodes.items };
+    ghost invariant = { λ t.
+        IsTree (record { tasks = t.tasks.items; colours = t.colours.items }) t.width t.nodes.items };
 }
 
 /// Joins anew each node above a leaf.
@@ -39,8 +40,10 @@ fn refresh(nodes: &mut [Node], leaf: usize)
     requires even { length nodes.old ≡ 2 * (length nodes.old / 2) }
     requires few { length nodes.old ≤ 2000 }
     requires small { AreSmall nodes.old }
-    requires joins { (j : ℕ) → 0 < j → j < length nodes.old / 2 → j ≢ leaf / 2 → IsJoin nodes.old j }
-    ensures leaves { (j : ℕ) → length nodes.old / 2 ≤ j → node_at nodes.new j ≡ node_at nodes.old j }
+    requires joins { (j : ℕ) → 0 < j → j < length nodes.old / 2 → j ≢ leaf / 2
+        → IsJoin nodes.old j }
+    ensures leaves { (j : ℕ) → length nodes.old / 2 ≤ j
+        → node_at nodes.new j ≡ node_at nodes.old j }
     ensures joins { (j : ℕ) → 0 < j → j < length nodes.old / 2 → IsJoin nodes.new j }
     ensures small { AreSmall nodes.new }
 {
@@ -60,7 +63,8 @@ fn is_small(task: Task) -> bool
 /// Whether the task at a place starts no earlier than the one before it.
 fn is_in_order(tasks: &[Task], i: usize) -> bool
     requires { i < length tasks.now }
-    ensures { IsTrue result ↔ (0 < i → (task_in tasks.now (i - 1)).est ≤ℤ (task_in tasks.now i).est) }
+    ensures { IsTrue result
+        ↔ (0 < i → (task_in tasks.now (i - 1)).est ≤ℤ (task_in tasks.now i).est) }
 {
     if i == 0 {
         return true;
@@ -69,10 +73,12 @@ fn is_in_order(tasks: &[Task], i: usize) -> bool
 }
 
 impl ThetaTree {
-    /// The tree of these tasks, each `Out`. After it, no call takes memory.
+    /// The tree of these tasks, each `Out`; `takes` tests the condition. After it, no call takes
+    /// memory.
     pub fn new(alloc: Global, tasks: &[Task]) -> Result<ThetaTree, NoMemory>
         requires { AreTasks tasks.now }
-        ensures { IfOk result (λ t. t ≡ record { tasks = tasks.now; colours = replicate (length tasks.now) Colour.Out }) }
+        ensures { IfOk result (λ t.
+            t ≡ record { tasks = tasks.now; colours = replicate (length tasks.now) Colour.Out }) }
     {
         let width = tasks.len().next_power_of_two();
         Ok(ThetaTree {
@@ -83,7 +89,8 @@ impl ThetaTree {
         })
     }
 
-    /// Whether these are tasks that a tree takes.
+    /// Whether these are tasks that a tree takes: at most [`MAX_TASKS`], in the order of their earliest
+    /// starts, which lie from `-H` to `H`, and of sizes from 0 to `2 * H`.
     pub fn takes(tasks: &[Task]) -> bool
         ensures { IsTrue result ↔ AreTasks tasks.now }
     {
