@@ -1,0 +1,12 @@
+pub mod Made
+pub mod Rooms
+pub mod Parts
+pub mod Joins
+pub mod Writes
+pub mod Climb
+pub mod Weights
+pub mod Members
+pub mod Sets
+pub mod Tops
+pub mod Takes
+pub mod Trials
