@@ -1,5 +1,5 @@
 -- A region: what is still open of each interval, and which assignments this allows.
-use Rattle.std.specs.Prelude.{◌≡◌, ◌*◌, ℕ, ◌<◌, ℤ, pos, Bool, true, false, not, ◌&&◌, IsTrue, List, map, length, slice_index_or, if◌then◌else◌}
+use Rattle.std.specs.Prelude.{◌*◌, ℕ, ◌<◌, ℤ, pos, Bool, true, false, not, ◌&&◌, IsTrue, List, map, length, slice_index_or, if◌then◌else◌}
 use Rattle.std.specs.Ordering.{int_eq}
 use Rattle.std.specs.List.{list_all}
 use Rattle.sched_base.specs.declared.ids.Itv.{Itv}
@@ -72,6 +72,13 @@ is_fixed c = not (says_maybe c.presence) && (says_present c.presence implies (in
 
 abbrev pub is_settled : Region → Bool
 is_settled r = list_all is_fixed r.bounds
+
+-- the slots that a settled region leaves
+abbrev pub settled_slot : Bounds → Slot
+settled_slot c = if says_present c.presence then slot.Present c.smin c.emin else slot.Absent
+
+abbrev pub settled_slots : Region → List Slot
+settled_slots r = map settled_slot r.bounds
 
 abbrev pub cell_count : Region → ℕ
 cell_count r = 5 * length r.bounds

@@ -3,3 +3,5 @@ pub mod Guesses
 pub mod Looks
 pub mod Tight
 pub mod Points
+pub mod Narrows
+pub mod laws
