@@ -1,0 +1,200 @@
+ghost use Rattle.std.specs.Prelude.{◌≡◌, ◌+◌, ◌≤◌, ◌<◌, ◌++◌, ◌∷◌, [], length, IfOk, IsOk, OnOk, OnErr, slice_set, slice_index_or, ℤ};
+ghost use Rattle.trail.specs.Trail.{Regains};
+
+use crate::entry::{Entry, put, rewind};
+use sched_base::NoMemory;
+use std::alloc::Global;
+use std::marker::Model;
+
+/// A list of numbers with a stack of saved lists. Behind it stands one log of the saves and of the
+/// numbers that were written over since the first of them; its spare entries are what it can take
+/// before it asks for memory. Reading, writing and saving cost a constant, going back costs what
+/// was written since the save.
+#[derive(Drop)]
+pub struct Cells {
+    list: Vec<i64>,
+    log: Vec<Entry>,
+    saves: usize,
+}
+
+impl Model for Cells {
+    ghost use Rattle.std.specs.Prelude.{◌≡◌, ◌-◌, length, vec_len, vec_capacity};
+    ghost use Rattle.trail.specs.Trail.{Trail};
+    ghost use Rattle.trail.specs.Entries.{IsLog, promises, saved_lists};
+
+    ghost Value = { Trail };
+
+    ghost view = { λ c. record {
+      list = c.list.items;
+      saved = saved_lists c.log.items c.list.items;
+      promised = promises c.log.items;
+      spare = vec_capacity c.log - vec_len c.log;
+    } };
+
+    ghost invariant = { λ c. IsLog (length c.list.items) (vec_capacity c.log) c.log.items
+        × (c.saves ≡ length (promises c.log.items)) };
+}
+
+impl Cells {
+    /// Cells that hold these numbers, with no save.
+    pub fn new(alloc: Global, first: &[i64]) -> Result<Cells, NoMemory>
+        ensures { IfOk result (λ c. c
+            ≡ record { list = first.now; saved = []; promised = []; spare = c.spare }) }
+    {
+        Ok(Cells {
+            list: Vec::from_slice(alloc, first)?,
+            log: Vec::new(alloc),
+            saves: 0,
+        })
+    }
+
+    pub fn len(&self) -> usize
+        ensures { result ≡ length self.now.list }
+    {
+        self.list.len()
+    }
+
+    pub fn as_slice(&self) -> &[i64]
+        ensures { result.now ≡ self.now.list }
+    {
+        self.list.as_slice()
+    }
+
+    /// One cell.
+    pub fn get(&self, i: usize) -> i64
+        requires { i < length self.now.list }
+        ensures { (default : ℤ) → result ≡ slice_index_or self.now.list i default }
+    {
+        self.list[i]
+    }
+
+    /// Writes one cell. Without a save it takes no memory.
+    #[tactic(auto, using(crate::proofs::Log::log_written, crate::proofs::Log::log_set, crate::proofs::Log::log_grown, crate::proofs::Log::lists_written, crate::proofs::Log::lists_unsaved, crate::proofs::Log::promises_write, crate::proofs::Log::saved_count))]
+    pub fn set(&mut self, i: usize, v: i64) -> Result<(), NoMemory>
+        requires { i < length self.old.list }
+        ensures ok { OnOk result (self.new
+            ≡ record self.old { list = slice_set self.old.list i v; spare = self.new.spare }) }
+        ensures err { OnErr result (self.new ≡ self.old) }
+        ensures spends { self.old.spare ≤ self.new.spare + 1 }
+
+        // Where it can't be refused.
+        ensures given { 0 < self.old.spare → IsOk result }
+        ensures unsaved { self.old.saved ≡ [] → IsOk result × (self.new.spare ≡ self.old.spare) }
+    {
+        if self.saves == 0 {
+            self.list[i] = v;
+            return Ok(());
+        }
+        let was = self.list[i];
+        put(&mut self.log, Entry::Write { cell: i, was })?;
+        self.list[i] = v;
+        Ok(())
+    }
+
+    /// Puts the list on the stack of saved lists.
+    #[tactic(auto, using(crate::proofs::Log::log_saved, crate::proofs::Log::log_grown, crate::proofs::Log::saved_save, crate::proofs::Log::promises_save, crate::proofs::Log::promises_within))]
+    pub fn save(&mut self) -> Result<(), NoMemory>
+        ensures ok { OnOk result (self.new ≡ record self.old {
+          saved = self.old.saved ++ self.old.list ∷ [];
+          promised = self.old.promised ++ self.old.spare ∷ [];
+          spare = self.new.spare;
+        }) }
+        ensures err { OnErr result (self.new ≡ self.old) }
+        ensures spends { self.old.spare ≤ self.new.spare + 1 }
+        ensures given { 0 < self.old.spare → IsOk result }
+    {
+        let spare = self.spare();
+        put(&mut self.log, Entry::Save { spare })?;
+        self.saves += 1;
+        Ok(())
+    }
+
+    /// Takes the list that was saved last from the stack.
+    #[tactic(auto, using(crate::proofs::Log::saved_count))]
+    pub fn undo(&mut self)
+        requires { 0 < length self.old.saved }
+        ensures list { self.old.saved ≡ self.new.saved ++ self.new.list ∷ [] }
+        ensures spare { Regains self.old self.new }
+    {
+        rewind(&mut self.list, &mut self.log);
+        self.saves -= 1;
+    }
+
+    /// Makes room for so many entries.
+    #[tactic(auto, using(crate::proofs::Log::log_grown))]
+    pub fn reserve(&mut self, n: usize) -> Result<(), NoMemory>
+        ensures ok { OnOk result (n ≤ self.new.spare) }
+        ensures same { self.new ≡ record self.old { spare = self.new.spare } }
+        ensures grows { self.old.spare ≤ self.new.spare }
+        ensures given { n ≤ self.old.spare → IsOk result }
+    {
+        self.log.reserve(n)?;
+        Ok(())
+    }
+
+    /// How many entries the log takes before it asks for memory.
+    pub fn spare(&self) -> usize
+        ensures { result ≡ self.now.spare }
+    {
+        self.log.capacity() - self.log.len()
+    }
+
+    /// How many lists are saved.
+    #[tactic(auto, using(crate::proofs::Log::saved_count))]
+    pub fn saves(&self) -> usize
+        ensures { result ≡ length self.now.saved }
+    {
+        self.saves
+    }
+}
+
+#[cfg(test)]
+mod tests {
+    use super::*;
+    use std::test::Fail;
+
+    #[test]
+    fn goes_back_to_the_saved_list(rt: HostRuntime) -> Result<(), Fail> {
+        let mut cells = Cells::new(rt.alloc(), &[7, 8, -9])?;
+        assert_eq!(rt; cells.len(), 3);
+        let spare = cells.spare();
+        cells.set(2, i64::MIN)?;
+        assert_eq!(rt; cells.spare(), spare);
+        cells.save()?;
+        cells.set(0, 1)?;
+        cells.save()?;
+        cells.set(0, 2)?;
+        cells.set(1, 3)?;
+        assert_eq!(rt; cells.as_slice(), [2, 3, i64::MIN].as_slice());
+        assert_eq!(rt; cells.saves(), 2);
+        cells.undo();
+        assert_eq!(rt; cells.as_slice(), [1, 8, i64::MIN].as_slice());
+        assert_eq!(rt; cells.saves(), 1);
+        cells.undo();
+        assert_eq!(rt; cells.len(), 3);
+        assert_eq!(rt; cells.get(0), 7);
+        assert_eq!(rt; cells.as_slice(), [7, 8, i64::MIN].as_slice());
+        assert_eq!(rt; cells.saves(), 0);
+        Ok(())
+    }
+
+    #[test]
+    fn keeps_what_was_reserved(rt: HostRuntime) -> Result<(), Fail> {
+        let mut cells = Cells::new(rt.alloc(), &[7, 8])?;
+        cells.reserve(600)?;
+        cells.save()?;
+        for i in 1..600 {
+            assert_eq!(rt; cells.len(), 2);
+            cells.set(0, i)?;
+        }
+        assert_eq!(rt; cells.saves(), 1);
+        cells.undo();
+        assert_eq!(rt; cells.as_slice(), [7, 8].as_slice());
+        assert!(rt; cells.spare() >= 600);
+        cells.save()?;
+        assert_eq!(rt; cells.len(), 2);
+        cells.set(1, 9)?;
+        assert_eq!(rt; cells.as_slice(), [7, 9].as_slice());
+        Ok(())
+    }
+}
