@@ -10,18 +10,9 @@ use Rattle.sched_model.specs.declared.types.Assignment.{Assignment}
 use Rattle.sched_model.specs.Words.{◌implies◌, is_between, placewise}
 use Rattle.sched_model.specs.Data.{Data}
 use Rattle.sched_model.specs.Value.{slot_of}
+pub use Rattle.region.specs.declared.types.Bounds.{Bounds}
 use Rattle.region.specs.declared.types.Presence.{Presence}
 use Rattle.region.specs.declared.types.Presence.TheVariants.{Absent, Present, Maybe}
-
--- the five cells of an interval, whose bounds speak of it where it is present, and its declared least and greatest size
-pub record Bounds : Type 0 where
-  pub presence : Presence
-  pub smin : ℤ
-  pub smax : ℤ
-  pub emin : ℤ
-  pub emax : ℤ
-  pub pmin : ℤ
-  pub pmax : ℤ
 
 -- one for each interval, in the order of ids
 pub record Region : Type 0 where

@@ -80,3 +80,9 @@ placewise-changed r n f xs [] e within keeps h = h
 placewise-changed r n f [] (y ∷ ys) e within keeps h = cc
 placewise-changed r zero f (x ∷ xs) (y ∷ ys) e within keeps h = let two = both_true (r x y) (placewise r xs ys) h in true_both (r x (f y)) (placewise r xs ys) (keeps x two.0) two.1
 placewise-changed r (suc n) f (x ∷ xs) (y ∷ ys) e within keeps h = let two = both_true (r x y) (placewise r xs ys) h in true_both (r x y) _ two.0 (placewise-changed r n f xs ys e (omega (arith, within)) keeps two.1)
+
+-- two changes that make the same of the element there
+pub changed_at-same : {X : Type 0} → (n : ℕ) (f h : X → X) (xs : List X) (d : X) → f (get_or xs n d) ≡ h (get_or xs n d) → changed_at n f xs ≡ changed_at n h xs
+changed_at-same n f h [] d same = refl
+changed_at-same zero f h (x ∷ xs) d same = ap (λ y. y ∷ xs) same
+changed_at-same (suc n) f h (x ∷ xs) d same = ap (λ ys. x ∷ ys) (changed_at-same n f h xs d same)

@@ -1,5 +1,5 @@
 -- What guesses and facts make of a region: which cell changes, which assignments are allowed, and that it stays a region of its models.
-use Rattle.std.specs.Prelude.{◌≡◌, ◌⊎◌, ◌↔◌, ◌<◌, ℤ, Bool, true, false, not, ◌&&◌, IsTrue, length, nat_lt, int_le, int_lt, pos, ◌+ℤ◌, ◌-ℤ◌}
+use Rattle.std.specs.Prelude.{◌≡◌, ◌⊎◌, ◌↔◌, ◌<◌, ℤ, Bool, true, false, not, ◌&&◌, IsTrue, Option, Some, None, length, nat_lt, int_le, int_lt, pos, ◌+ℤ◌, ◌-ℤ◌}
 use Rattle.std.proofs.Common.{refl, sym, ap, subst, inl, inr, ◌∙◌, arith}
 use Rattle.std.proofs.lemmas.Int.{ints}
 use Rattle.std.proofs.lemmas.Bool.{cases_eq, ltb-true, true≢false}
@@ -7,6 +7,7 @@ use Rattle.sched_base.specs.declared.ids.Itv.{Itv}
 use Rattle.sched_model.specs.declared.types.IntervalDef.{IntervalDef}
 use Rattle.sched_model.specs.declared.types.Slot.{Slot}
 use Rattle.sched_model.specs.declared.types.Assignment.{Assignment}
+use Rattle.sched_model.specs.Words.{passes_if_any}
 use Rattle.sched_model.specs.Data.{Data}
 use Rattle.sched_model.specs.Value.{slot_of}
 use Rattle.region.specs.declared.types.Presence.{Presence}
@@ -16,7 +17,7 @@ use Rattle.region.specs.declared.types.Guess.TheVariants.{Present, Absent, Start
 use Rattle.region.specs.declared.types.CellName.{CellName}
 use Rattle.region.specs.declared.types.CellName.TheVariants as cell
 use Rattle.region.specs.Cells.{Bounds, Region, unknown, bounds_of, fits_bounds, says_present, says_absent, says_maybe, Allows}
-use Rattle.region.specs.Guesses.{with_guess, with_fact, with_bounds, subject, guess_holds, is_open_at, is_ready_at, admits, splits, guess_cell, fact_cell, SameCell}
+use Rattle.region.specs.Guesses.{with_guess, with_fact, with_bounds, looked_at, subject, guess_holds, is_open_at, is_ready_at, admits, splits, guess_cell, fact_cell, SameCell}
 use Rattle.region.specs.Looks.{IsRegionOf, is_narrowed}
 use Rattle.region.specs.Narrows.{Narrows}
 use Rattle.region.specs.laws.Lists.{both_true, true_both, length-changed_at, get_or-changed_at, get_or-changed_other, placewise-changed}
@@ -31,13 +32,13 @@ pub admitted : (r : Region) (g : Guess) → admits r g ≡ true → IsAdmitted r
 admitted r g h = let two = both_true (nat_lt (subject g).0 (length r.bounds)) _ h in record { within = ltb-true _ _ two.0; is_open = two.1 }
 
 -- the bounds of the interval that is changed, and of another
-bounds_there : (x : Itv) (f : Bounds → Bounds) (r : Region) → x.0 < length r.bounds → bounds_of (with_bounds x f r) x ≡ f (bounds_of r x)
+pub bounds_there : (x : Itv) (f : Bounds → Bounds) (r : Region) → x.0 < length r.bounds → bounds_of (with_bounds x f r) x ≡ f (bounds_of r x)
 bounds_there x f r within = get_or-changed_at x.0 f r.bounds unknown within
 
-bounds_elsewhere : (x y : Itv) (f : Bounds → Bounds) (r : Region) → (y.0 ≡ x.0 → ⊥) → bounds_of (with_bounds x f r) y ≡ bounds_of r y
+pub bounds_elsewhere : (x y : Itv) (f : Bounds → Bounds) (r : Region) → (y.0 ≡ x.0 → ⊥) → bounds_of (with_bounds x f r) y ≡ bounds_of r y
 bounds_elsewhere x y f r other = get_or-changed_other x.0 y.0 f r.bounds unknown other
 
-at_same : (x y : Itv) (P : Itv → Type 0) → y.0 ≡ x.0 → P x → P y
+pub at_same : (x y : Itv) (P : Itv → Type 0) → y.0 ≡ x.0 → P x → P y
 at_same x y P e p = subst (λ n. P (record { 0 = n })) (sym e) p
 
 -- what is allowed where one interval is narrowed by a test of its slot
@@ -103,7 +104,7 @@ elsewhere : {A : Type 0} → (field : Bounds → A) (x : Itv) (f : Bounds → Bo
 elsewhere field x f r name y other = ap field (sym (bounds_elsewhere x y f r (λ e. other (at_same x y (λ z. name z ≡ name x) e refl))))
 
 -- a bound guess that splits leaves the presence
-ready_present : (c : Bounds) → says_present c.presence ≡ true → presence.Present ≡ c.presence
+pub ready_present : (c : Bounds) → says_present c.presence ≡ true → presence.Present ≡ c.presence
 ready_present c h = by_case c.presence h
   where
     by_case : (p : Presence) → says_present p ≡ true → presence.Present ≡ p
@@ -222,3 +223,12 @@ guess_narrows r g h = let two = splitting r g h in let ok = admitted r g two.0 i
 pub fact_narrows : (r : Region) (g : Guess) → admits r g ≡ true → Narrows (fact_cell g) (λ a. not (guess_holds g a)) r (with_fact g r)
 fact_narrows r g h = let ok = admitted r g h in
     record { changed = fact_moves g r ok.within ok.is_open; others = fact_leaves g r ok.within; allowed = λ a. fact_allows g r a h; of = λ m. fact_stays g m r h }
+
+-- what a look allows, under an admitted guess or under none
+pub looked_allows : (o : Option Guess) (r : Region) (a : Assignment) → IsTrue (passes_if_any (admits r) o) → Allows (looked_at o r) a ↔ (Allows r a × IsTrue (passes_if_any (λ g. guess_holds g a) o))
+looked_allows None r a h = ((λ allows. (allows, refl)), (λ both. both.0))
+looked_allows (Some g) r a h = guess_allows g r a h
+
+pub looked_stays : (o : Option Guess) (m : Data) (r : Region) → IsTrue (passes_if_any (admits r) o) → IsRegionOf m r → IsRegionOf m (looked_at o r)
+looked_stays None m r h of = of
+looked_stays (Some g) m r h of = guess_stays g m r h of
