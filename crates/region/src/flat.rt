@@ -109,7 +109,25 @@ pub fn write(cells: &mut Cells, to: (CellName, i64)) -> Result<CellName, NoMemor
     Ok(name)
 }
 
-/// The cells of the root of a model: each interval as declared.
+fn size_range(d: &IntervalDef) -> SizeRange
+    ensures { result ≡ size_range d.now }
+{
+    SizeRange {
+        least: d.size_lo,
+        greatest: d.size_hi,
+    }
+}
+
+fn first_numbers(d: &IntervalDef) -> [i64; 5]
+    ensures { result ≡ first_numbers d.now }
+{
+    if d.optional {
+        return [MAYBE, d.start_lo, d.start_hi, d.end_lo, d.end_hi];
+    }
+    [PRESENT, d.start_lo, d.start_hi, d.end_lo, d.end_hi]
+}
+
+/// The cells of the root of a model, and its ranges of sizes: each interval as declared.
 pub fn first_cells(
     alloc: Global,
     defs: &[IntervalDef],
@@ -120,12 +138,8 @@ pub fn first_cells(
     let mut sizes = Vec::new(alloc);
     let mut cells = Vec::new(alloc);
     for d in defs {
-        sizes.push(SizeRange {
-            least: d.size_lo,
-            greatest: d.size_hi,
-        })?;
-        let presence = if d.optional { MAYBE } else { PRESENT };
-        cells.extend_from_slice(&[presence, d.start_lo, d.start_hi, d.end_lo, d.end_hi])?;
+        sizes.push(size_range(d))?;
+        cells.extend_from_slice(&first_numbers(d))?;
     }
     Ok((List::from_vec(sizes), List::from_vec(cells)))
 }
