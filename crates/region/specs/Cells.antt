@@ -1,5 +1,5 @@
 -- A region: what is still open of each interval, and which assignments this allows.
-use Rattle.std.specs.Prelude.{◌≡◌, ◌*◌, ℕ, ◌<◌, ℤ, pos, Bool, true, false, not, ◌&&◌, IsTrue, List, map, length, slice_index_or, if◌then◌else◌}
+use Rattle.std.specs.Prelude.{◌*◌, ℕ, ◌<◌, ℤ, pos, Bool, true, false, not, ◌&&◌, IsTrue, List, map, length, slice_index_or, if◌then◌else◌}
 use Rattle.std.specs.Ordering.{int_eq}
 use Rattle.std.specs.List.{list_all}
 use Rattle.sched_base.specs.declared.ids.Itv.{Itv}
@@ -10,18 +10,9 @@ use Rattle.sched_model.specs.declared.types.Assignment.{Assignment}
 use Rattle.sched_model.specs.Words.{◌implies◌, is_between, placewise}
 use Rattle.sched_model.specs.Data.{Data}
 use Rattle.sched_model.specs.Value.{slot_of}
+pub use Rattle.region.specs.declared.types.Bounds.{Bounds}
 use Rattle.region.specs.declared.types.Presence.{Presence}
 use Rattle.region.specs.declared.types.Presence.TheVariants.{Absent, Present, Maybe}
-
--- the five cells of an interval, whose bounds speak of it where it is present, and its declared least and greatest size
-pub record Bounds : Type 0 where
-  pub presence : Presence
-  pub smin : ℤ
-  pub smax : ℤ
-  pub emin : ℤ
-  pub emax : ℤ
-  pub pmin : ℤ
-  pub pmax : ℤ
 
 -- one for each interval, in the order of ids
 pub record Region : Type 0 where
@@ -72,6 +63,13 @@ is_fixed c = not (says_maybe c.presence) && (says_present c.presence implies (in
 
 abbrev pub is_settled : Region → Bool
 is_settled r = list_all is_fixed r.bounds
+
+-- the slots that a settled region leaves
+abbrev pub settled_slot : Bounds → Slot
+settled_slot c = if says_present c.presence then slot.Present c.smin c.emin else slot.Absent
+
+abbrev pub settled_slots : Region → List Slot
+settled_slots r = map settled_slot r.bounds
 
 abbrev pub cell_count : Region → ℕ
 cell_count r = 5 * length r.bounds

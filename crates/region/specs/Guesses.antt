@@ -1,5 +1,5 @@
 -- Guesses and their facts: what they say, when they are open, and what they make of a region.
-use Rattle.std.specs.Prelude.{◌≡◌, ℕ, zero, suc, length, nat_lt, ℤ, pos, ◌+ℤ◌, ◌-ℤ◌, Bool, true, not, ◌&&◌, List, [], ◌∷◌, Option, Some, None, int_le, int_lt}
+use Rattle.std.specs.Prelude.{◌≡◌, ℕ, zero, suc, length, nat_lt, pos, ◌+ℤ◌, ◌-ℤ◌, Bool, true, not, ◌&&◌, List, [], ◌∷◌, Option, Some, None, int_le, int_lt}
 use Rattle.sched_base.specs.declared.ids.Itv.{Itv}
 use Rattle.sched_model.specs.declared.types.Assignment.{Assignment}
 use Rattle.sched_model.specs.Value.{is_present, start_of, end_of}

@@ -3,3 +3,8 @@ pub mod Guesses
 pub mod Looks
 pub mod Tight
 pub mod Points
+pub mod Held
+pub mod Narrows
+pub mod Flat
+pub mod laws
+pub mod Spelled

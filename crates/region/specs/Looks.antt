@@ -1,5 +1,5 @@
 -- What a look shows, the numbers that are derived from it, and what it is to refute it.
-use Rattle.std.specs.Prelude.{ℤ, pos, ◌+ℤ◌, ◌-ℤ◌, Bool, ◌&&◌, ◌||◌, IsTrue, Option, int_le}
+use Rattle.std.specs.Prelude.{ℤ, ◌+ℤ◌, ◌-ℤ◌, Bool, ◌&&◌, ◌||◌, IsTrue, Option, int_le}
 use Rattle.std.specs.Int.{int_max, int_min}
 use Rattle.std.specs.Ordering.{int_eq}
 use Rattle.sched_base.specs.declared.ids.Itv.{Itv}

@@ -2,7 +2,14 @@
 //! show them under a guess, and the interface of whatever refutes a look.
 #![tactic(auto)]
 
-mod probe;
+mod cells;
+mod flat;
+mod guess;
+mod look;
+mod refuter;
 mod types;
 
-pub use types::{CellName, Fact, Guess, Presence};
+pub use cells::Region;
+pub use look::Look;
+pub use refuter::{Numbers, Refuter};
+pub use types::{Bounds, CellName, Fact, Guess, Presence, SizeRange};

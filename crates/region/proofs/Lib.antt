@@ -1,0 +1,4 @@
+pub mod Places
+pub mod Moments
+pub mod Kept
+pub mod Rooting

@@ -1,0 +1,11 @@
+use Rattle.std.proofs.Common.{sym, ◌∙◌}
+use Rattle.region.proofs.Rooting.{first_kept, first_view}
+use Rattle.region.proofs.cells.Region.first.Goals as goal
+
+pub invariant_of-result : goal.invariant_of-result
+invariant_of-result c = first_kept c.args.model.now.intervals c.intervals.result.now c.in_ok-sizes.sizes c.as_slice.result.now c.in_ok-cells.cells _
+    c.intervals.ensures.valid.intervals c.intervals.ensures.list c.in_ok-sizes.ensures.sizes (c.as_slice.ensures ∙ c.in_ok-sizes.ensures.cells) c.in_ok-cells.ensures
+
+pub returns-clause-value : goal.returns-clause-value
+returns-clause-value c = first_view c.args.model.now.intervals c.intervals.result.now c.in_ok-sizes.sizes c.as_slice.result.now c.in_ok-cells.cells _
+    c.intervals.ensures.list c.in_ok-sizes.ensures.sizes (c.as_slice.ensures ∙ c.in_ok-sizes.ensures.cells) c.in_ok-cells.ensures

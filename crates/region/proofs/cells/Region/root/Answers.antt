@@ -1,0 +1,21 @@
+use Rattle.std.specs.Prelude.{IsTrue}
+use Rattle.std.proofs.Common.{sym, ap, subst}
+use Rattle.sched_model.specs.declared.types.Assignment.{Assignment}
+use Rattle.sched_model.specs.Domain.{is_in_domain}
+use Rattle.region.specs.Cells.{Region, Allows, root}
+use Rattle.region.specs.Looks.{IsRegionOf}
+use Rattle.region.specs.Held.{Held}
+use Rattle.region.specs.Narrows.{HasPoint}
+use Rattle.region.specs.laws.Rooted.{root_of, root_allows}
+use Rattle.region.specs.laws.Counts.{some_point}
+use Rattle.region.proofs.Kept.{if_ok}
+use Rattle.region.proofs.cells.Region.root.Goals as goal
+
+pub returns-clause-of : goal.returns-clause-of
+returns-clause-of c = if_ok c.first.result (λ r is. subst (λ (h : Held). IsRegionOf c.args.model.now h.region) (sym is) (root_of c.args.model.now c.first.ensures.valid)) c.first.ensures.value
+
+pub returns-clause-allows : goal.returns-clause-allows
+returns-clause-allows c = if_ok c.first.result (λ r is. subst (λ (h : Held). (a : Assignment) → IsTrue (is_in_domain c.args.model.now a) → Allows h.region a) (sym is) (root_allows c.args.model.now)) c.first.ensures.value
+
+pub returns-clause-point : goal.returns-clause-point
+returns-clause-point c = if_ok c.first.result (λ r is. subst (λ (h : Held). HasPoint h.region) (sym is) (some_point c.args.model.now (root c.args.model.now) (root_of c.args.model.now c.first.ensures.valid))) c.first.ensures.value

@@ -1,0 +1,88 @@
+-- Laws of lists of which one element is changed, and of two lists side by side.
+use Rattle.std.specs.Prelude.{◌≡◌, ℕ, zero, suc, ◌<◌, Bool, true, false, ◌&&◌, List, [], ◌∷◌, length}
+use Rattle.std.proofs.Common.{refl, ap, arith, get_or}
+use Rattle.sched_model.specs.Words.{placewise}
+use Rattle.region.specs.Guesses.{changed_at}
+
+pub both_true : (p q : Bool) → (p && q) ≡ true → (p ≡ true) × (q ≡ true)
+both_true true q h = (refl, h)
+both_true false q h = cc
+
+pub true_both : (p q : Bool) → p ≡ true → q ≡ true → (p && q) ≡ true
+true_both true q h k = k
+true_both false q h k = cc
+
+pub length-changed_at : {X : Type 0} → (n : ℕ) (f : X → X) (xs : List X) → length (changed_at n f xs) ≡ length xs
+length-changed_at n f [] = refl
+length-changed_at zero f (x ∷ xs) = refl
+length-changed_at (suc n) f (x ∷ xs) = ap suc (length-changed_at n f xs)
+
+pub get_or-changed_at : {X : Type 0} → (n : ℕ) (f : X → X) (xs : List X) (d : X) → n < length xs → get_or (changed_at n f xs) n d ≡ f (get_or xs n d)
+get_or-changed_at n f [] d within = absurd (omega (arith, within))
+get_or-changed_at zero f (x ∷ xs) d within = refl
+get_or-changed_at (suc n) f (x ∷ xs) d within = get_or-changed_at n f xs d (omega (arith, within))
+
+pub get_or-changed_other : {X : Type 0} → (n k : ℕ) (f : X → X) (xs : List X) (d : X) → (k ≡ n → ⊥) → get_or (changed_at n f xs) k d ≡ get_or xs k d
+get_or-changed_other n k f [] d other = refl
+get_or-changed_other zero zero f (x ∷ xs) d other = absurd (other refl)
+get_or-changed_other zero (suc k) f (x ∷ xs) d other = refl
+get_or-changed_other (suc n) zero f (x ∷ xs) d other = refl
+get_or-changed_other (suc n) (suc k) f (x ∷ xs) d other = get_or-changed_other n k f xs d (λ e. other (ap suc e))
+
+pub placewise-length : {X Y : Type 0} → (r : X → Y → Bool) (xs : List X) (ys : List Y) → placewise r xs ys ≡ true → length xs ≡ length ys
+placewise-length r [] [] h = refl
+placewise-length r (x ∷ xs) [] h = cc
+placewise-length r [] (y ∷ ys) h = cc
+placewise-length r (x ∷ xs) (y ∷ ys) h = ap suc (placewise-length r xs ys (both_true (r x y) (placewise r xs ys) h).1)
+
+pub placewise-at : {X Y : Type 0} → (r : X → Y → Bool) (xs : List X) (ys : List Y) (n : ℕ) (d : X) (e : Y) → placewise r xs ys ≡ true → n < length xs → r (get_or xs n d) (get_or ys n e) ≡ true
+placewise-at r [] ys n d e h within = absurd (omega (arith, within))
+placewise-at r (x ∷ xs) [] n d e h within = cc
+placewise-at r (x ∷ xs) (y ∷ ys) zero d e h within = (both_true (r x y) (placewise r xs ys) h).0
+placewise-at r (x ∷ xs) (y ∷ ys) (suc n) d e h within = placewise-at r xs ys n d e (both_true (r x y) (placewise r xs ys) h).1 (omega (arith, within))
+
+pub placewise-from : {X Y : Type 0} → (r : X → Y → Bool) (xs : List X) (ys : List Y) (d : X) (e : Y) → length xs ≡ length ys → ((n : ℕ) → n < length xs → r (get_or xs n d) (get_or ys n e) ≡ true) → placewise r xs ys ≡ true
+placewise-from r [] [] d e same each = refl
+placewise-from r (x ∷ xs) [] d e same each = absurd (omega (arith, same))
+placewise-from r [] (y ∷ ys) d e same each = absurd (omega (arith, same))
+placewise-from r (x ∷ xs) (y ∷ ys) d e same each = true_both (r x y) (placewise r xs ys) (each 0 (omega arith)) (placewise-from r xs ys d e (omega (arith, same)) (λ n within. each (suc n) (omega (arith, within))))
+
+-- the left list changed at one place, where there this is the same as a further test of the right one
+pub placewise-narrowed : {X Y : Type 0} → (r : X → Y → Bool) (n : ℕ) (f : X → X) (says : Y → Bool) (xs : List X) (ys : List Y) (d : X) (e : Y) → n < length xs → ((y : Y) → r (f (get_or xs n d)) y ≡ (r (get_or xs n d) y && says y))
+    → placewise r (changed_at n f xs) ys ≡ (placewise r xs ys && says (get_or ys n e))
+placewise-narrowed r n f says [] ys d e within at = absurd (omega (arith, within))
+placewise-narrowed r zero f says (x ∷ xs) [] d e within at = refl
+placewise-narrowed r (suc n) f says (x ∷ xs) [] d e within at = refl
+placewise-narrowed r zero f says (x ∷ xs) (y ∷ ys) d e within at = swapped (r (f x) y) (r x y) (says y) (placewise r xs ys) (at y)
+  where
+    swapped : (p q s t : Bool) → p ≡ (q && s) → (p && t) ≡ (q && t && s)
+    swapped p true true t h = rw h (sides t)
+      where
+        sides : (t : Bool) → t ≡ (t && true)
+        sides true = refl
+        sides false = refl
+    swapped p true false t h = rw h (sides t)
+      where
+        sides : (t : Bool) → false ≡ (t && false)
+        sides true = refl
+        sides false = refl
+    swapped p false s t h = rw h refl
+placewise-narrowed r (suc n) f says (x ∷ xs) (y ∷ ys) d e within at = rw (placewise-narrowed r n f says xs ys d e (omega (arith, within)) at) (regroup (r x y) (placewise r xs ys) (says (get_or ys n e)))
+  where
+    regroup : (p q s : Bool) → (p && (q && s)) ≡ (p && q && s)
+    regroup true q s = refl
+    regroup false q s = refl
+
+-- the right list changed at one place, where the test stays true
+pub placewise-changed : {X Y : Type 0} → (r : X → Y → Bool) (n : ℕ) (f : Y → Y) (xs : List X) (ys : List Y) (e : Y) → n < length ys → ((x : X) → r x (get_or ys n e) ≡ true → r x (f (get_or ys n e)) ≡ true)
+    → placewise r xs ys ≡ true → placewise r xs (changed_at n f ys) ≡ true
+placewise-changed r n f xs [] e within keeps h = h
+placewise-changed r n f [] (y ∷ ys) e within keeps h = cc
+placewise-changed r zero f (x ∷ xs) (y ∷ ys) e within keeps h = let two = both_true (r x y) (placewise r xs ys) h in true_both (r x (f y)) (placewise r xs ys) (keeps x two.0) two.1
+placewise-changed r (suc n) f (x ∷ xs) (y ∷ ys) e within keeps h = let two = both_true (r x y) (placewise r xs ys) h in true_both (r x y) _ two.0 (placewise-changed r n f xs ys e (omega (arith, within)) keeps two.1)
+
+-- two changes that make the same of the element there
+pub changed_at-same : {X : Type 0} → (n : ℕ) (f h : X → X) (xs : List X) (d : X) → f (get_or xs n d) ≡ h (get_or xs n d) → changed_at n f xs ≡ changed_at n h xs
+changed_at-same n f h [] d same = refl
+changed_at-same zero f h (x ∷ xs) d same = ap (λ y. y ∷ xs) same
+changed_at-same (suc n) f h (x ∷ xs) d same = ap (λ ys. x ∷ ys) (changed_at-same n f h xs d same)
