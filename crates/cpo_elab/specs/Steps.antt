@@ -1,0 +1,28 @@
+-- The statements of a text one after another.
+use Rattle.std.specs.Prelude.{◌≡◌, ℕ, ◌+◌, Option, Some, None, Result, Ok, Err, ⊤}
+use Rattle.sched_model.specs.Data.{Data, empty_model}
+use Rattle.cpo_text.specs.declared.text.Reading.{Reading}
+use Rattle.cpo_text.specs.declared.text.ReadFault.{ReadFault}
+use Rattle.cpo_text.specs.declared.text.ReadFault.TheVariants as fault
+use Rattle.cpo_elab.specs.Answers.{number_at, after_form}
+
+-- the model of the statements read so far, and how many there are
+pub record State : Type 0 where
+  pub model : Data
+  pub statements : ℕ
+
+abbrev pub first_state : State
+first_state = record { model = empty_model; statements = 0 }
+
+-- the number that the next statement deserves
+abbrev pub next_number : State → Reading → Option ℕ
+next_number e x = number_at e.model (e.statements + 1) x.form
+
+abbrev pub next_state : State → Reading → State
+next_state e x = record { model = after_form e.model x.form; statements = e.statements + 1 }
+
+-- one statement more, or its refusal
+abbrev pub Takes : State → Reading → Result State ReadFault → Type 0
+Takes e x (Ok next) = (next_number e x ≡ None) × (next ≡ next_state e x)
+Takes e x (Err (fault.Refused r)) = (next_number e x ≡ Some r.number) × (r ≡ record { number = r.number; statement = e.statements + 1; at = x.at })
+Takes e x (Err fault.NoMemory) = ⊤
