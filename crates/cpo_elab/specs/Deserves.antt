@@ -1,5 +1,5 @@
 -- What a text deserves: one refusal, or one model.
-use Rattle.std.specs.Prelude.{◌≡◌, ℕ, Bool, true, false, List, Result, Ok, Err, if◌then◌else◌, ⊤}
+use Rattle.std.specs.Prelude.{◌≡◌, ℕ, Bool, List, Result, Ok, Err, if◌then◌else◌, ⊤}
 use Rattle.sched_model.specs.Data.{Data, empty_model}
 use Rattle.cpo_text.specs.Reads.{IsRead, IsRefused}
 use Rattle.cpo_text.specs.declared.text.Refusal.{Refusal}

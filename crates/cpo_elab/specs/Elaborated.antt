@@ -1,5 +1,5 @@
 -- The model after a statement that deserves no refusal.
-use Rattle.std.specs.Prelude.{ℕ, ℤ, pos, neg_ℤ, Bool, false, List, [], ◌∷◌, Option, Some, None, if◌then◌else◌, unwrap_or}
+use Rattle.std.specs.Prelude.{ℕ, ℤ, pos, neg_ℤ, false, List, [], ◌∷◌, Option, Some, None, if◌then◌else◌, unwrap_or}
 use Rattle.sched_model.specs.Data.{Data, horizon, with_interval, with_constraint, with_objective}
 use Rattle.sched_model.specs.declared.types.IntervalDef.{IntervalDef}
 use Rattle.sched_model.specs.declared.types.End.TheVariants.{Start as FromStart, Finish}
@@ -15,7 +15,6 @@ use Rattle.cpo_text.specs.declared.tree.Ivarg.{Ivarg}
 use Rattle.cpo_text.specs.declared.tree.Ivarg.TheVariants.{Start, End, Size}
 use Rattle.cpo_text.specs.declared.tree.Definition.{Definition}
 use Rattle.cpo_text.specs.declared.tree.Definition.TheVariants.{IntervalVar}
-use Rattle.cpo_text.specs.declared.tree.Temporal.{Temporal}
 use Rattle.cpo_text.specs.declared.tree.Temporal.TheVariants.{EndBeforeStart}
 use Rattle.cpo_text.specs.declared.tree.Constrained.{Constrained}
 use Rattle.cpo_text.specs.declared.tree.Constrained.TheVariants.{Between}
@@ -53,8 +52,11 @@ abbrev pub with_ivargs : IntervalDef → List Ivarg → IntervalDef
 with_ivargs d [] = d
 with_ivargs d (a ∷ rest) = with_ivargs (with_ivarg d a) rest
 
+abbrev pub interval_of : List ℕ → List Ivarg → IntervalDef
+interval_of n args = with_ivargs (plain_interval n) args
+
 abbrev pub defined : Data → List ℕ → Definition → Data
-defined m n (IntervalVar args) = with_interval (with_ivargs (plain_interval n) args) m
+defined m n (IntervalVar args) = with_interval (interval_of n args) m
 
 abbrev pub constraint_of : Data → Constrained → Constraint
 constraint_of m (Between EndBeforeStart a b z) = Precedence Finish FromStart false (itv_of m a) (itv_of m b) (int_or_zero z)

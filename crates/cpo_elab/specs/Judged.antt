@@ -1,5 +1,5 @@
 -- The number that a statement deserves behind the statements before it: a test for each line of the table of refusals.
-use Rattle.std.specs.Prelude.{ℕ, ◌+◌, ℤ, pos, Bool, true, false, not, ◌&&◌, ◌||◌, List, [], ◌∷◌, map, length, Option, Some, None, if◌then◌else◌, is_some, nat_lt, int_lt}
+use Rattle.std.specs.Prelude.{ℕ, ℤ, pos, Bool, true, false, not, ◌&&◌, ◌||◌, List, [], ◌∷◌, length, Option, Some, None, if◌then◌else◌, is_some, nat_lt, int_lt}
 use Rattle.std.specs.List.{list_all, list_any}
 use Rattle.sched_model.specs.Data.{Data}
 use Rattle.sched_model.specs.Valid.{is_moment, is_within_limits}
@@ -8,17 +8,22 @@ use Rattle.cpo_text.specs.declared.tree.Int.{Int}
 use Rattle.cpo_text.specs.declared.tree.Range.{Range}
 use Rattle.cpo_text.specs.declared.tree.Ivarg.{Ivarg}
 use Rattle.cpo_text.specs.declared.tree.Ivarg.TheVariants.{Start, End, Size}
+use Rattle.cpo_text.specs.declared.tree.Definition.{Definition}
 use Rattle.cpo_text.specs.declared.tree.Definition.TheVariants.{IntervalVar}
+use Rattle.cpo_text.specs.declared.tree.Constrained.{Constrained}
 use Rattle.cpo_text.specs.declared.tree.Constrained.TheVariants.{Between}
 use Rattle.cpo_text.specs.declared.tree.Statement.{Statement}
 use Rattle.cpo_text.specs.declared.tree.Statement.TheVariants.{Define, Constrain, Aim}
 use Rattle.cpo_elab.specs.Named.{is_defined, definition_names, uses_of}
-use Rattle.cpo_elab.specs.Elaborated.{int_of, range_of, after}
+use Rattle.cpo_elab.specs.Elaborated.{range_of, after}
 
 -- What a statement holds, by what is tested of it.
 
+abbrev pub args_in : Definition → List Ivarg
+args_in (IntervalVar args) = args
+
 abbrev pub ivargs_of : Statement → List Ivarg
-ivargs_of (Define n (IntervalVar args)) = args
+ivargs_of (Define n d) = args_in d
 ivargs_of _ = []
 
 abbrev pub range_in : Ivarg → Range
@@ -39,11 +44,12 @@ abbrev pub is_misspelt : Statement → Bool
 is_misspelt s = list_any (λ n. not (is_spelt n)) (definition_names s)
 
 -- 3: a literal above the bound
+abbrev pub is_above_limit : Option ℕ → Bool
+is_above_limit None = true
+is_above_limit (Some n) = nat_lt literal_limit n
+
 abbrev pub is_large_int : Int → Bool
-is_large_int i = is_above i.size where
-  is_above : Option ℕ → Bool
-  is_above None = true
-  is_above (Some n) = nat_lt literal_limit n
+is_large_int i = is_above_limit i.size
 
 abbrev pub is_large_if_any : Option Int → Bool
 is_large_if_any None = false
@@ -52,9 +58,12 @@ is_large_if_any (Some i) = is_large_int i
 abbrev pub is_large_range : Range → Bool
 is_large_range r = is_large_int r.from || is_large_if_any r.to
 
+abbrev pub has_large_delay : Constrained → Bool
+has_large_delay (Between t a b z) = is_large_if_any z
+
 abbrev pub has_large_literal : Statement → Bool
 has_large_literal (Define n (IntervalVar args)) = list_any (λ a. is_large_range (range_in a)) args
-has_large_literal (Constrain (Between t a b z)) = is_large_if_any z
+has_large_literal (Constrain c) = has_large_delay c
 has_large_literal _ = false
 
 -- 4: a name that is defined already

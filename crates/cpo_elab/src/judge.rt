@@ -3,7 +3,7 @@ ghost use Rattle.std.specs.List.{list_all, list_any};
 ghost use Rattle.sched_model.specs.Valid.{is_moment};
 ghost use Rattle.cpo_text.specs.Tokens.{is_letter, is_name_byte};
 ghost use Rattle.cpo_elab.specs.Elaborated.{int_of, range_of};
-ghost use Rattle.cpo_elab.specs.Judged.{is_spelt, is_misspelt, is_large_int, is_large_if_any, is_large_range, has_large_literal, is_reversed, has_reversed, is_negative_size, has_negative, is_outside, is_wide, range_in, bounds_in};
+ghost use Rattle.cpo_elab.specs.Judged.{is_spelt, is_misspelt, is_large_int, is_large_if_any, is_large_range, has_large_literal, is_reversed, has_reversed, is_negative_size, has_negative, is_outside, is_wide, range_in, bounds_in, args_in};
 
 use cpo_text::{Constrained, Definition, Int, Ivarg, Range, Statement};
 use sched_base::H;
@@ -38,6 +38,14 @@ fn is_spelt(name: &[u8]) -> bool
     match name {
         [] => false,
         [first, rest @ ..] => is_letter(*first) && are_name_bytes(rest),
+    }
+}
+
+pub fn args_in(d: &Definition) -> &[Ivarg]
+    ensures { result.now ≡ args_in d.now }
+{
+    match d {
+        Definition::IntervalVar(args) => args.as_slice(),
     }
 }
 

@@ -2,7 +2,12 @@
 //! text becomes a model or deserves a refusal.
 #![tactic(auto)]
 
+mod elaborator;
+mod interval;
 mod judge;
 mod names;
+mod whole;
 
-pub use names::Names;
+pub use cpo_text::{ReadFault, Refusal, Tree};
+pub use sched_model::Model;
+pub use whole::{elaborate, read_model};

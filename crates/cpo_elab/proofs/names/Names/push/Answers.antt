@@ -1,4 +1,4 @@
-use Rattle.std.proofs.Common.{sym, ap, ◌∙◌, ◌++◌, ◌∷◌, []}
+use Rattle.std.proofs.Common.{ap, ◌∙◌, ◌++◌, ◌∷◌, []}
 use Rattle.cpo_elab.specs.Named.{place_of}
 use Rattle.cpo_elab.proofs.Places.{pushed}
 use Rattle.cpo_elab.proofs.names.Names.push.Goals as goal
