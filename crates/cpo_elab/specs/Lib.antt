@@ -1,0 +1,6 @@
+pub mod Named
+pub mod Elaborated
+pub mod Judged
+pub mod Answers
+pub mod Deserves
+pub mod Steps

@@ -1,0 +1,13 @@
+//! What the statements of a text mean: names are numbered, ranges and limits are tested, and a
+//! text becomes a model or deserves a refusal.
+#![tactic(auto)]
+
+mod elaborator;
+mod interval;
+mod judge;
+mod names;
+mod whole;
+
+pub use cpo_text::{ReadFault, Refusal, Tree};
+pub use sched_model::Model;
+pub use whole::{elaborate, read_model};

@@ -1,0 +1,29 @@
+-- Laws of reading: nothing in it is a choice.
+use Rattle.std.specs.Prelude.{◌≡◌, ◌⊎◌, ℕ, Bool, List, []}
+use Rattle.cpo_text.specs.Words.{Word}
+use Rattle.cpo_text.specs.Tokens.{Token, ArePieces, HasTokens, HasBadByte, NonePiece}
+use Rattle.cpo_text.specs.Spelling.{IsStatement}
+use Rattle.cpo_text.specs.declared.piece.Piece.{Piece}
+use Rattle.cpo_text.specs.declared.tree.Statement.{Statement}
+
+-- two lists of pieces that reach the end, or a place at which no piece begins, are one
+abbrev pub PiecesAreDetermined : Type 0
+PiecesAreDetermined = (text : List ℕ) (ps qs : List (Piece × ℕ)) (r s : List ℕ) → ArePieces text ps r → NonePiece r → ArePieces text qs s → NonePiece s → (ps ≡ qs) × (r ≡ s)
+
+-- so a text has one list of tokens, and comments or none
+abbrev pub TokensAreDetermined : Type 0
+TokensAreDetermined = (text : List ℕ) (ts us : List Token) (a b : Bool) → HasTokens text ts a → HasTokens text us b → (ts ≡ us) × (a ≡ b)
+
+abbrev pub BadByteIsDetermined : Type 0
+BadByteIsDetermined = (text : List ℕ) (ts us : List Token) (i j : ℕ) → HasBadByte text ts i → HasBadByte text us j → (ts ≡ us) × (i ≡ j)
+
+-- every text has tokens or a bad byte, and none has both
+abbrev pub EveryTextHasTokensOrBadByte : Type 0
+EveryTextHasTokensOrBadByte = (text : List ℕ) → ((ts : List Token) × (b : Bool) × HasTokens text ts b) ⊎ ((ts : List Token) × (at : ℕ) × HasBadByte text ts at)
+
+abbrev pub NotBoth : Type 0
+NotBoth = (text : List ℕ) (ts us : List Token) (b : Bool) (at : ℕ) → HasTokens text ts b → HasBadByte text us at → ⊥
+
+-- words are at most one statement
+abbrev pub StatementsAreDetermined : Type 0
+StatementsAreDetermined = (ws : List Word) (s t : Statement) → IsStatement ws s → IsStatement ws t → s ≡ t

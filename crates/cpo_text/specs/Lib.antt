@@ -1,0 +1,6 @@
+pub mod Words
+pub mod Tokens
+pub mod Runs
+pub mod Spelling
+pub mod Reads
+pub mod Laws

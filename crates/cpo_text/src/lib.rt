@@ -1,0 +1,12 @@
+//! The model language as it is written: tokens, statements and trees. A text is read once, and
+//! each statement is told as its words alone tell it; what its names mean is settled above.
+#![tactic(auto)]
+
+mod piece;
+mod text;
+mod tree;
+mod whole;
+
+pub use text::{Form, ReadFault, Reading, Refusal, TEXT_LIMIT, Tree};
+pub use tree::{Constrained, Definition, Int, Ivarg, Logic, Range, Sense, Statement, Temporal};
+pub use whole::read_text;
