@@ -25,16 +25,19 @@ if_text s name P Q h step =
     if_some (λ files. IfSome (bytes_of files name) (λ bytes. P (model_bytes bytes))) (λ files. IfSome (bytes_of files name) (λ bytes. Q (model_bytes bytes))) s.files h
     (λ files here. if_some (λ bytes. P (model_bytes bytes)) (λ bytes. Q (model_bytes bytes)) (bytes_of files name) here (λ bytes is. step (model_bytes bytes) is))
 
-pub printed : (old s new : State) (name : Bytes) (m : Data) (solved : Solved) (ended : Ended) (bytes : Bytes) → OnlyReads old s → IfText old name (λ text. DeservesServed text (Accepted m)) → IsAnswer m solved.answer → ended ≡ ending_of solved.answer
-    → bytes ≡ answer_text m solved → new.out ≡ appended bytes s.out → IfText old name (λ text. Prints text ended old.out new.out)
-printed old s new name m solved ended bytes reads deserved answer is text out =
-    if_text old name (λ text. DeservesServed text (Accepted m)) (λ text. Prints text ended old.out new.out) deserved (λ t d. (m, solved, d, answer, is, out ∙ ap (λ bs. appended bs s.out) text ∙ ap (appended (answer_text m solved)) (ap (λ (x : State). x.out) reads.only)))
+pub printed : (old s new : State) (name : Bytes) (m : Data) (solved : Solved) (ended : Ended) (bytes : Bytes) (u : Unit {0}) → OnlyReads old s → IfText old name (λ text. DeservesServed text (Accepted m)) → IsAnswer m solved.answer → ended ≡ ending_of solved.answer
+    → bytes ≡ answer_text m solved → Writes Out bytes (Ok u) s new → IfText old name (λ text. Prints text ended old.out new.out)
+printed old s new name m solved ended bytes u reads deserved answer is text writes =
+    if_text old name (λ text. DeservesServed text (Accepted m)) (λ text. Prints text ended old.out new.out) deserved
+    (λ t d. (m, solved, d, answer, is, ap (λ (x : State). x.out) writes.written ∙ ap (λ bs. appended bs s.out) text ∙ ap (appended (answer_text m solved)) (ap (λ (x : State). x.out) reads.only)))
 
-pub printed_part : (old s new : State) (name : Bytes) (m : Data) (solved : Solved) (bytes : Bytes) (n : ℕ) → OnlyReads old s → IfText old name (λ text. DeservesServed text (Accepted m)) → IsAnswer m solved.answer
-    → bytes ≡ answer_text m solved → n ≤ length bytes → new.out ≡ appended (take n bytes) s.out → IfText old name (λ text. PrintsPart text old.out new.out)
-printed_part old s new name m solved bytes n reads deserved answer text few out =
-    if_text old name (λ text. DeservesServed text (Accepted m)) (λ text. PrintsPart text old.out new.out) deserved (λ t d. inr (m, solved, d, answer, (n, subst (λ bs. n ≤ length bs) text few,
-      out ∙ ap (λ bs. appended (take n bs) s.out) text ∙ ap (appended (take n (answer_text m solved))) (ap (λ (x : State). x.out) reads.only))))
+pub printed_part : (old s new : State) (name : Bytes) (m : Data) (solved : Solved) (bytes : Bytes) (e : Failed) → OnlyReads old s → IfText old name (λ text. DeservesServed text (Accepted m)) → IsAnswer m solved.answer
+    → bytes ≡ answer_text m solved → Writes Out bytes (Err e) s new → IfText old name (λ text. PrintsPart text old.out new.out)
+printed_part old s new name m solved bytes e reads deserved answer text writes =
+    let n = writes.failed.0 in
+    if_text old name (λ text. DeservesServed text (Accepted m)) (λ text. PrintsPart text old.out new.out) deserved
+    (λ t d. inr (m, solved, d, answer, (n, subst (λ bs. n ≤ length bs) text writes.failed.1,
+      ap (λ (x : State). x.out) writes.failed.2 ∙ ap (λ bs. appended (take n bs) s.out) text ∙ ap (appended (take n (answer_text m solved))) (ap (λ (x : State). x.out) reads.only))))
 
 -- a failed write on a desk that was as calm as before it read
 pub fault_of_write : (old s new : State) (name bytes : Bytes) (e : Failed) → OnlyReads old s → s.faults ≡ old.faults → Writes Out bytes (Err e) s new → IsFault name old new
