@@ -3,9 +3,11 @@
 #![tactic(auto)]
 
 mod piece;
+mod place;
 mod text;
 mod tree;
 mod whole;
+mod word;
 
 pub use text::{Form, ReadFault, Reading, Refusal, TEXT_LIMIT, Tree};
 pub use tree::{Constrained, Definition, Int, Ivarg, Logic, Range, Sense, Statement, Temporal};

@@ -1,0 +1,7 @@
+pub mod Classes
+pub mod Closing
+pub mod Digits
+pub mod Fronts
+pub mod Covers
+pub mod Walks
+pub mod Steps
