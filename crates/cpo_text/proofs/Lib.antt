@@ -5,3 +5,4 @@ pub mod Fronts
 pub mod Covers
 pub mod Walks
 pub mod Steps
+pub mod Scans

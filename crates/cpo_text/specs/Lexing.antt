@@ -3,6 +3,7 @@ use Rattle.std.specs.Prelude.{ℕ, zero, suc, ◌+◌, ◌-◌, ◌==◌, Bool, 
 use Rattle.std.specs.List.{prefix_len}
 use Rattle.cpo_text.specs.declared.piece.Piece.{Piece}
 use Rattle.cpo_text.specs.declared.piece.Piece.TheVariants.{Name, Int, Sign, Quoted, Blank, Line, Block}
+use Rattle.cpo_text.specs.Words.{Word, is_sign}
 use Rattle.cpo_text.specs.Tokens.{is_letter, is_digit, is_name_byte, is_blank, is_sign_byte, is_sign_pair, is_on_line, begins, Token, tokens_of}
 
 -- how many bytes a quotation has behind its first quote, the last quote included
@@ -66,3 +67,8 @@ rest bs = rest_from bs 0
 -- the tokens of some bytes, the first of which stands at an offset
 unfoldable pub tokens_from : ℕ → List ℕ → List Token
 tokens_from at bs = tokens_of at bs (pieces bs)
+
+-- whether this is said by a semicolon
+abbrev pub says_end : Option Word → Bool
+says_end None = false
+says_end (Some w) = is_sign (codes ";") w

@@ -4,6 +4,7 @@
 
 mod piece;
 mod place;
+mod scan;
 mod text;
 mod tree;
 mod whole;
