@@ -6,3 +6,6 @@ pub mod Covers
 pub mod Walks
 pub mod Steps
 pub mod Scans
+pub mod Binds
+pub mod Takes
+pub mod Ivargs

@@ -4,5 +4,7 @@ pub mod Runs
 pub mod Spelling
 pub mod Lexing
 pub mod Places
+pub mod Rules
+pub mod Gives
 pub mod Reads
 pub mod Laws

@@ -2,6 +2,9 @@
 //! each statement is told as its words alone tell it; what its names mean is settled above.
 #![tactic(auto)]
 
+mod fault;
+mod grammar;
+mod parts;
 mod piece;
 mod place;
 mod scan;
