@@ -9,3 +9,5 @@ pub mod Scans
 pub mod Binds
 pub mod Takes
 pub mod Ivargs
+pub mod Spelt
+pub mod Again
