@@ -11,3 +11,5 @@ pub mod Takes
 pub mod Ivargs
 pub mod Spelt
 pub mod Again
+pub mod Surveyed
+pub mod Firsts

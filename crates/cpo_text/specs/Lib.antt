@@ -6,5 +6,6 @@ pub mod Lexing
 pub mod Places
 pub mod Rules
 pub mod Gives
+pub mod Surveys
 pub mod Reads
 pub mod Laws

@@ -8,6 +8,7 @@ mod parts;
 mod piece;
 mod place;
 mod scan;
+mod survey;
 mod text;
 mod tree;
 mod whole;

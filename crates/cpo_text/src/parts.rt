@@ -11,7 +11,7 @@ use crate::word::Said;
 use sched_base::{List, NoMemory};
 use std::alloc::Global;
 
-fn is_sign(sign: &[u8], word: Said<'_>) -> bool
+pub fn is_sign(sign: &[u8], word: Said<'_>) -> bool
     ensures { result ≡ is_sign sign.now (said_word word.entry) }
 {
     match word {
