@@ -13,3 +13,5 @@ pub mod Spelt
 pub mod Again
 pub mod Surveyed
 pub mod Firsts
+pub mod Forms
+pub mod Answered
