@@ -2,5 +2,10 @@ pub mod Words
 pub mod Tokens
 pub mod Runs
 pub mod Spelling
+pub mod Lexing
+pub mod Places
+pub mod Rules
+pub mod Gives
+pub mod Surveys
 pub mod Reads
 pub mod Laws

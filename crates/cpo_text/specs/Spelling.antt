@@ -1,8 +1,8 @@
 -- The grammar: each tree has one spelling, a list of words. A run is a statement exactly where it is the spelling of a tree.
 use Rattle.std.specs.Prelude.{◌≡◌, ℕ, ◌==◌, Bool, true, false, not, ◌&&◌, List, [], ◌∷◌, ◌++◌, map, codes, Option, Some, None}
 use Rattle.std.specs.List.{list_all}
-use Rattle.cpo_text.specs.Words.{Word, call}
-use Rattle.cpo_text.specs.Words.Word.{name, number, large, sign}
+use Rattle.cpo_text.specs.Words.{Word, size_word, call}
+use Rattle.cpo_text.specs.Words.Word.{name, sign}
 use Rattle.cpo_text.specs.declared.tree.Int.{Int}
 use Rattle.cpo_text.specs.declared.tree.Range.{Range}
 use Rattle.cpo_text.specs.declared.tree.Ivarg.{Ivarg}
@@ -24,10 +24,6 @@ use Rattle.cpo_text.specs.declared.tree.Statement.TheVariants.{Empty, Define, Co
 abbrev pub minus_words : Bool → List Word
 minus_words true = sign (codes "-") ∷ []
 minus_words false = []
-
-abbrev pub size_word : Option ℕ → Word
-size_word (Some n) = number n
-size_word None = large
 
 abbrev pub int_words : Int → List Word
 int_words i = minus_words i.minus ++ size_word i.size ∷ []

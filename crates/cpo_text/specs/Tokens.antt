@@ -1,11 +1,11 @@
 -- The tokens of a text: at each place the longest piece, where a piece is a token, a blank or a comment.
-use Rattle.std.specs.Prelude.{◌≡◌, ℕ, ◌+◌, ◌-◌, ◌^◌, ◌<◌, ◌≤◌, Bool, true, false, ◌||◌, ◌&&◌, ◌==◌, not, nat_le, if◌then◌else◌, List, [], ◌∷◌, ◌++◌, length, take, drop, map, bytes_eq}
+use Rattle.std.specs.Prelude.{◌≡◌, ℕ, ◌+◌, ◌-◌, ◌^◌, ◌<◌, ◌≤◌, Bool, true, false, ◌||◌, ◌&&◌, ◌==◌, not, nat_le, if◌then◌else◌, List, [], ◌∷◌, ◌++◌, length, take, drop, map, Option, Some, None}
 use Rattle.std.specs.List.{list_all, list_any}
 use Rattle.std.specs.Int.Digits.{number_from_digits}
 use Rattle.cpo_text.specs.declared.piece.Piece.{Piece}
 use Rattle.cpo_text.specs.declared.piece.Piece.TheVariants.{Name, Int, Sign, Quoted, Blank, Line, Block}
-use Rattle.cpo_text.specs.Words.{Word}
-use Rattle.cpo_text.specs.Words.Word.{name, number, large, sign, quoted}
+use Rattle.cpo_text.specs.Words.{Word, size_word}
+use Rattle.cpo_text.specs.Words.Word.{name, sign, quoted}
 
 abbrev pub is_letter : ℕ → Bool
 is_letter b = (nat_le 65 b && nat_le b 90) || (nat_le 97 b && nat_le b 122) || b == 95
@@ -87,24 +87,29 @@ pub record Token : Type 0 where
 abbrev pub literal_limit : ℕ
 literal_limit = 2 ^ 62
 
-abbrev pub number_word : ℕ → Word
-number_word n = if nat_le n literal_limit then number n else large
+abbrev pub bounded : ℕ → Option ℕ
+bounded n = if nat_le n literal_limit then Some n else None
 
 abbrev pub digits_value : List ℕ → ℕ
 digits_value bs = number_from_digits 10 (map (λ b. b - 48) bs)
 
--- what a token of these bytes says, in front of some others; blanks and comments say nothing
-abbrev pub put : Piece → ℕ → List ℕ → List Token → List Token
-put Name at bs ts = record { at = at; word = name bs } ∷ ts
-put Int at bs ts = record { at = at; word = number_word (digits_value bs) } ∷ ts
-put Sign at bs ts = record { at = at; word = sign bs } ∷ ts
-put Quoted at bs ts = record { at = at; word = quoted } ∷ ts
-put _ at bs ts = ts
+-- what a token of these bytes says; blanks and comments say nothing
+abbrev pub word_of : Piece → List ℕ → Option Word
+word_of Name bs = Some (name bs)
+word_of Int bs = Some (size_word (bounded (digits_value bs)))
+word_of Sign bs = Some (sign bs)
+word_of Quoted bs = Some quoted
+word_of _ bs = None
+
+-- a token in front of others, where something is said
+abbrev pub put : ℕ → Option Word → List Token → List Token
+put at None ts = ts
+put at (Some w) ts = record { at = at; word = w } ∷ ts
 
 -- the tokens among some pieces, the first of which stands at an offset
 abbrev pub tokens_of : ℕ → List ℕ → List (Piece × ℕ) → List Token
 tokens_of at bs [] = []
-tokens_of at bs (p ∷ ps) = put p.0 at (take p.1 bs) (tokens_of (at + p.1) (drop p.1 bs) ps)
+tokens_of at bs (p ∷ ps) = put at (word_of p.0 (take p.1 bs)) (tokens_of (at + p.1) (drop p.1 bs) ps)
 
 abbrev pub is_comment : Piece → Bool
 is_comment Line = true

@@ -1,5 +1,5 @@
 -- A word is what a token says: the bytes of a name or a sign, or the value of a number. The spelling of a tree is a list of words.
-use Rattle.std.specs.Prelude.{ℕ, Bool, false, List, [], ◌∷◌, ◌++◌, codes, bytes_eq}
+use Rattle.std.specs.Prelude.{ℕ, Bool, false, List, [], ◌∷◌, ◌++◌, Option, Some, None, codes, bytes_eq}
 use Rattle.std.specs.List.{list_any}
 
 -- a number above the bound on literals is a word without a value
@@ -9,6 +9,11 @@ pub data Word : Type 0 where
   large : Word
   sign : List ℕ → Word
   quoted : Word
+
+-- a number by its value, where it has one
+abbrev pub size_word : Option ℕ → Word
+size_word (Some n) = number n
+size_word None = large
 
 -- the word is this sign
 abbrev pub is_sign : List ℕ → Word → Bool

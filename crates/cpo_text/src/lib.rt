@@ -2,10 +2,17 @@
 //! each statement is told as its words alone tell it; what its names mean is settled above.
 #![tactic(auto)]
 
+mod fault;
+mod grammar;
+mod parts;
 mod piece;
+mod place;
+mod scan;
+mod survey;
 mod text;
 mod tree;
 mod whole;
+mod word;
 
 pub use text::{Form, ReadFault, Reading, Refusal, TEXT_LIMIT, Tree};
 pub use tree::{Constrained, Definition, Int, Ivarg, Logic, Range, Sense, Statement, Temporal};

@@ -1,11 +1,87 @@
-ghost use Rattle.cpo_text.specs.Reads.{Reads};
+ghost use Rattle.std.specs.Prelude.{◌≡◌, ◌≤◌, length, IfOk};
+ghost use Rattle.cpo_text.specs.Runs.{runs, words_of};
+ghost use Rattle.cpo_text.specs.Lexing.{tokens_from};
+ghost use Rattle.cpo_text.specs.Places.{left};
+ghost use Rattle.cpo_text.specs.Surveys.{first_run, after_run};
+ghost use Rattle.cpo_text.specs.Reads.{HasForm, AreReadings, Reads};
 
-use crate::text::{ReadFault, Tree};
+use crate::fault::Fault;
+use crate::grammar::statement;
+use crate::place::Place;
+use crate::scan::scan;
+use crate::survey::survey_run;
+use crate::text::{Form, ReadFault, Reading, Refusal, TEXT_LIMIT, Tree};
+use sched_base::{List, NoMemory};
 use std::alloc::Global;
 
-/// Reads a text whole.
-pub fn read_text(_alloc: Global, _text: &[u8]) -> Result<Tree, ReadFault>
-    ensures { Reads _text.now result }
+/// The number of a limit that is passed, in the table of refusals.
+const LIMIT_PASSED: u32 = 11;
+
+/// The number of a statement outside the grammar.
+const OUTSIDE: u32 = 2;
+
+/// The number of a literal above the bound on literals.
+const LARGE_LITERAL: u32 = 3;
+
+/// The statement that begins at a place, as its words alone tell it, and the place behind it.
+fn read_form(alloc: Global, place: Place<'_>) -> Result<(Form, Place<'_>), NoMemory>
+    ensures form { IfOk result (λ x. HasForm (words_of (first_run (left place.entry))) x.0) }
+    ensures behind { IfOk result (λ x. left x.1 ≡ after_run (left place.entry)) }
 {
-    Err(ReadFault::NoMemory)
+    let (survey, behind) = survey_run(place);
+    if let Some(number) = survey.early() {
+        return Ok((Form::Number(number), behind));
+    }
+    match statement(alloc, place) {
+        Err(Fault::NoMemory) => Err(NoMemory),
+        Err(Fault::Outside) => Ok((Form::Number(OUTSIDE), behind)),
+        Ok((tree, _)) => {
+            if survey.large {
+                Ok((Form::Number(LARGE_LITERAL), behind))
+            } else {
+                Ok((Form::Tree(tree), behind))
+            }
+        }
+    }
+}
+
+/// The statements of a text.
+fn statements(alloc: Global, text: &[u8]) -> Result<List<Reading>, NoMemory>
+    requires { length text.now ≤ 16777216 }
+    ensures { IfOk result (λ readings. AreReadings (runs (tokens_from 0 text.now)) readings) }
+{
+    let mut readings = List::new(alloc);
+    let mut here = Place::start(text);
+    while let Some((token, _)) = here.next() {
+        let (form, behind) = read_form(alloc, here)?;
+        readings.push(Reading {
+            at: token.at as u64,
+            form,
+        })?;
+        here = behind;
+    }
+    Ok(readings)
+}
+
+/// Reads a text whole. It is refused where it is longer than its limit (number 11 of the table of
+/// refusals, statement 0), and else where it has a byte at which no token, blank or comment begins
+/// (number 1, in the statement that its semicolons count); what its statements deserve stands in
+/// the tree. Each byte is looked at a few times at most.
+pub fn read_text(alloc: Global, text: &[u8]) -> Result<Tree, ReadFault>
+    ensures { Reads text.now result }
+{
+    if text.len() > TEXT_LIMIT {
+        return Err(ReadFault::Refused(Refusal {
+            number: LIMIT_PASSED,
+            statement: 0,
+            at: TEXT_LIMIT as u64,
+        }));
+    }
+    match scan(text) {
+        Err(refusal) => Err(ReadFault::Refused(refusal)),
+        Ok(commented) => Ok(Tree {
+            statements: statements(alloc, text)?,
+            commented,
+        }),
+    }
 }

@@ -1,0 +1,17 @@
+pub mod Classes
+pub mod Closing
+pub mod Digits
+pub mod Fronts
+pub mod Covers
+pub mod Walks
+pub mod Steps
+pub mod Scans
+pub mod Binds
+pub mod Takes
+pub mod Ivargs
+pub mod Spelt
+pub mod Again
+pub mod Surveyed
+pub mod Firsts
+pub mod Forms
+pub mod Answered

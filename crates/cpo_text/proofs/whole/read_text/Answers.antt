@@ -1,0 +1,12 @@
+use Rattle.std.proofs.Common.{arith}
+use Rattle.cpo_text.specs.Lexing.{tokens_from}
+use Rattle.cpo_text.proofs.Answered.{refused, has_tokens}
+use Rattle.cpo_text.proofs.whole.read_text.Goals as goal
+
+pub returns-in-Err : goal.returns-in-Err
+returns-in-Err c = let e = c.in-Err.ensures in refused _ _ (omega arith) e.err.0 e.err.1 e.err.2
+
+pub returns-in_ok-statements-in-Ok : goal.returns-in_ok-statements-in-Ok
+returns-in_ok-statements-in-Ok c =
+    let e = c.in-Ok.ensures in
+    record { short = omega arith; tokens = tokens_from 0 c.args.text.now; are = has_tokens _ _ e.ok.0 e.ok.1; readings = c.in_ok-statements-in-Ok.ensures }

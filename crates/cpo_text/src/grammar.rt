@@ -1,0 +1,197 @@
+ghost use Rattle.std.specs.Prelude.{◌≡◌, []};
+ghost use Rattle.cpo_text.specs.Spelling.{ivarg_sort};
+ghost use Rattle.cpo_text.specs.Rules.{given_at, ivarg_of, ivarg_at, has_sort, ivargs_at, interval_at, definition_at, between_at, enclosed_at, logic_at, aim_at, called_at, body_at, statement_at};
+ghost use Rattle.cpo_text.specs.Gives.{ahead, Gives};
+
+use crate::fault::Fault;
+use crate::parts::{behind, copy, int_behind, name, range, sign};
+use crate::place::Place;
+use crate::tree::{Constrained, Definition, Ivarg, Logic, Range, Sense, Statement, Temporal};
+use sched_base::List;
+use std::alloc::Global;
+
+#[tactic(auto, unfolding(crate::specs::Rules::given_at))]
+fn given(place: Place<'_>) -> Result<(Range, Place<'_>), Fault>
+    ensures { Gives result (given_at (ahead place.entry)) }
+{
+    range(sign(b"=", place)?)
+}
+
+/// The argument that this word begins.
+#[tactic(auto, unfolding(crate::specs::Rules::ivarg_of))]
+fn ivarg_of<'a>(word: &[u8], place: Place<'a>) -> Result<(Ivarg, Place<'a>), Fault>
+    ensures { Gives result (ivarg_of word.now (ahead place.entry)) }
+{
+    if word == b"start".as_slice() {
+        let (range, rest) = given(place)?;
+        return Ok((Ivarg::Start(range), rest));
+    }
+    if word == b"end".as_slice() {
+        let (range, rest) = given(place)?;
+        return Ok((Ivarg::End(range), rest));
+    }
+    if word == b"size".as_slice() {
+        let (range, rest) = given(place)?;
+        return Ok((Ivarg::Size(range), rest));
+    }
+    Err(Fault::Outside)
+}
+
+#[tactic(auto, unfolding(crate::specs::Rules::ivarg_at))]
+fn ivarg(place: Place<'_>) -> Result<(Ivarg, Place<'_>), Fault>
+    ensures { Gives result (ivarg_at (ahead place.entry)) }
+{
+    let (word, rest) = name(place)?;
+    ivarg_of(word, rest)
+}
+
+fn sort(arg: Ivarg) -> u8
+    ensures { result ≡ ivarg_sort arg }
+{
+    match arg {
+        Ivarg::Start(_) => 1,
+        Ivarg::End(_) => 2,
+        Ivarg::Size(_) => 3,
+    }
+}
+
+/// Whether an argument of the same kind is among some.
+fn has_sort(arg: Ivarg, args: &[Ivarg]) -> bool
+    ensures { result ≡ has_sort arg args.now }
+{
+    args.iter().any(|other| sort(*other) == sort(arg))
+}
+
+/// One or more arguments, each of a kind of its own.
+fn ivargs(alloc: Global, place: Place<'_>) -> Result<(List<Ivarg>, Place<'_>), Fault>
+    ensures { Gives result (ivargs_at [] (ahead place.entry)) }
+{
+    let mut args = List::new(alloc);
+    let mut here = place;
+    loop {
+        let (arg, rest) = ivarg(here)?;
+        if has_sort(arg, args.as_slice()) {
+            return Err(Fault::Outside);
+        }
+        args.push(arg)?;
+        match behind(b",", rest) {
+            Some(next) => here = next,
+            None => return Ok((args, rest)),
+        }
+    }
+}
+
+#[tactic(auto, unfolding(crate::specs::Rules::interval_at))]
+fn interval(alloc: Global, place: Place<'_>) -> Result<(Definition, Place<'_>), Fault>
+    ensures { Gives result (interval_at (ahead place.entry)) }
+{
+    let open = sign(b"(", place)?;
+    if let Some(rest) = behind(b")", open) {
+        return Ok((Definition::IntervalVar(List::new(alloc)), rest));
+    }
+    let (args, rest) = ivargs(alloc, open)?;
+    let rest = sign(b")", rest)?;
+    Ok((Definition::IntervalVar(args), rest))
+}
+
+#[tactic(auto, unfolding(crate::specs::Rules::definition_at))]
+fn definition(alloc: Global, place: Place<'_>) -> Result<(Definition, Place<'_>), Fault>
+    ensures { Gives result (definition_at (ahead place.entry)) }
+{
+    let (word, rest) = name(place)?;
+    if word == b"intervalVar".as_slice() {
+        return interval(alloc, rest);
+    }
+    Err(Fault::Outside)
+}
+
+#[tactic(auto, unfolding(crate::specs::Rules::between_at))]
+fn between(
+    alloc: Global,
+    temporal: Temporal,
+    place: Place<'_>,
+) -> Result<(Constrained, Place<'_>), Fault>
+    ensures { Gives result (between_at temporal (ahead place.entry)) }
+{
+    let (first, rest) = name(sign(b"(", place)?)?;
+    let (second, rest) = name(sign(b",", rest)?)?;
+    let (delay, rest) = int_behind(b",", rest)?;
+    let rest = sign(b")", rest)?;
+    let first = copy(alloc, first)?;
+    let second = copy(alloc, second)?;
+    Ok((Constrained::Between(temporal, first, second, delay), rest))
+}
+
+/// A name in round brackets.
+#[tactic(auto, unfolding(crate::specs::Rules::enclosed_at))]
+fn enclosed(alloc: Global, place: Place<'_>) -> Result<(List<u8>, Place<'_>), Fault>
+    ensures { Gives result (enclosed_at (ahead place.entry)) }
+{
+    let (bytes, rest) = name(sign(b"(", place)?)?;
+    let rest = sign(b")", rest)?;
+    Ok((copy(alloc, bytes)?, rest))
+}
+
+#[tactic(auto, unfolding(crate::specs::Rules::logic_at))]
+fn logic(alloc: Global, place: Place<'_>) -> Result<(Logic, Place<'_>), Fault>
+    ensures { Gives result (logic_at (ahead place.entry)) }
+{
+    let (word, rest) = name(place)?;
+    if word == b"endOf".as_slice() {
+        let (interval, rest) = enclosed(alloc, rest)?;
+        return Ok((Logic::EndOf(interval), rest));
+    }
+    Err(Fault::Outside)
+}
+
+#[tactic(auto, unfolding(crate::specs::Rules::aim_at))]
+fn aim(alloc: Global, sense: Sense, place: Place<'_>) -> Result<(Statement, Place<'_>), Fault>
+    ensures { Gives result (aim_at sense (ahead place.entry)) }
+{
+    let (logic, rest) = logic(alloc, sign(b"(", place)?)?;
+    let rest = sign(b")", rest)?;
+    Ok((Statement::Aim(sense, logic), rest))
+}
+
+/// The constraint or objective that this call word begins.
+#[tactic(auto, unfolding(crate::specs::Rules::called_at))]
+fn called<'a>(alloc: Global, word: &[u8], place: Place<'a>) -> Result<(Statement, Place<'a>), Fault>
+    ensures { Gives result (called_at word.now (ahead place.entry)) }
+{
+    if word == b"endBeforeStart".as_slice() {
+        let (constraint, rest) = between(alloc, Temporal::EndBeforeStart, place)?;
+        return Ok((Statement::Constrain(constraint), rest));
+    }
+    if word == b"minimize".as_slice() {
+        return aim(alloc, Sense::Minimize, place);
+    }
+    Err(Fault::Outside)
+}
+
+/// A statement without its semicolon.
+#[tactic(auto, unfolding(crate::specs::Rules::body_at))]
+fn body(alloc: Global, place: Place<'_>) -> Result<(Statement, Place<'_>), Fault>
+    ensures { Gives result (body_at (ahead place.entry)) }
+{
+    let (word, rest) = name(place)?;
+    match behind(b"=", rest) {
+        Some(rest) => {
+            let (definition, rest) = definition(alloc, rest)?;
+            Ok((Statement::Define(copy(alloc, word)?, definition), rest))
+        }
+        None => called(alloc, word, rest),
+    }
+}
+
+/// A statement with its semicolon. Reading stops at the first token that leaves the grammar.
+#[tactic(auto, unfolding(crate::specs::Rules::statement_at))]
+pub fn statement(alloc: Global, place: Place<'_>) -> Result<(Statement, Place<'_>), Fault>
+    ensures { Gives result (statement_at (ahead place.entry)) }
+{
+    if let Some(rest) = behind(b";", place) {
+        return Ok((Statement::Empty, rest));
+    }
+    let (statement, rest) = body(alloc, place)?;
+    let rest = sign(b";", rest)?;
+    Ok((statement, rest))
+}

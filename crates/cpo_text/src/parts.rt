@@ -1,0 +1,120 @@
+ghost use Rattle.std.specs.Prelude.{◌≡◌, option_map, codes, IfOk};
+ghost use Rattle.cpo_text.specs.Words.{is_sign};
+ghost use Rattle.cpo_text.specs.Places.{said_word};
+ghost use Rattle.cpo_text.specs.Rules.{behind, name_at, size_at, signed_at, int_at, int_behind, range_at};
+ghost use Rattle.cpo_text.specs.Gives.{ahead, Gives, GivesName, GivesPlace};
+
+use crate::fault::Fault;
+use crate::place::Place;
+use crate::tree::{Int, Range};
+use crate::word::Said;
+use sched_base::{List, NoMemory};
+use std::alloc::Global;
+
+pub fn is_sign(sign: &[u8], word: Said<'_>) -> bool
+    ensures { result ≡ is_sign sign.now (said_word word.entry) }
+{
+    match word {
+        Said::Sign(bytes) => sign == bytes,
+        _ => false,
+    }
+}
+
+/// The place behind a sign, if it comes next.
+#[tactic(auto, unfolding(crate::specs::Gives::ahead))]
+pub fn behind<'a>(sign: &[u8], place: Place<'a>) -> Option<Place<'a>>
+    ensures { option_map ahead result ≡ behind sign.now (ahead place.entry) }
+{
+    let (token, rest) = place.next()?;
+    if is_sign(sign, token.word) {
+        Some(rest)
+    } else {
+        None
+    }
+}
+
+/// The place behind a sign that has to come next.
+pub fn sign<'a>(sign: &[u8], place: Place<'a>) -> Result<Place<'a>, Fault>
+    ensures { GivesPlace result (behind sign.now (ahead place.entry)) }
+{
+    match behind(sign, place) {
+        Some(rest) => Ok(rest),
+        None => Err(Fault::Outside),
+    }
+}
+
+#[tactic(auto, unfolding(crate::specs::Gives::ahead))]
+pub fn name(place: Place<'_>) -> Result<(&[u8], Place<'_>), Fault>
+    ensures { GivesName result (name_at (ahead place.entry)) }
+{
+    match place.next() {
+        Some((token, rest)) => match token.word {
+            Said::Name(bytes) => Ok((bytes, rest)),
+            _ => Err(Fault::Outside),
+        },
+        None => Err(Fault::Outside),
+    }
+}
+
+#[tactic(auto, unfolding(crate::specs::Gives::ahead))]
+fn size(place: Place<'_>) -> Result<(Option<u64>, Place<'_>), Fault>
+    ensures { Gives result (size_at (ahead place.entry)) }
+{
+    match place.next() {
+        Some((token, rest)) => match token.word {
+            Said::Number(value) => Ok((value, rest)),
+            _ => Err(Fault::Outside),
+        },
+        None => Err(Fault::Outside),
+    }
+}
+
+#[tactic(auto, unfolding(crate::specs::Rules::signed_at))]
+fn signed(minus: bool, place: Place<'_>) -> Result<(Int, Place<'_>), Fault>
+    ensures { Gives result (signed_at minus (ahead place.entry)) }
+{
+    let (size, rest) = size(place)?;
+    Ok((Int { minus, size }, rest))
+}
+
+#[tactic(auto, unfolding(crate::specs::Rules::int_at))]
+pub fn int(place: Place<'_>) -> Result<(Int, Place<'_>), Fault>
+    ensures { Gives result (int_at (ahead place.entry)) }
+{
+    match behind(b"-", place) {
+        Some(rest) => signed(true, rest),
+        None => signed(false, place),
+    }
+}
+
+/// A number behind a sign, or nothing.
+#[tactic(auto, unfolding(crate::specs::Rules::int_behind))]
+pub fn int_behind<'a>(sign: &[u8], place: Place<'a>) -> Result<(Option<Int>, Place<'a>), Fault>
+    ensures { Gives result (int_behind sign.now (ahead place.entry)) }
+{
+    match behind(sign, place) {
+        Some(rest) => {
+            let (int, rest) = int(rest)?;
+            Ok((Some(int), rest))
+        }
+        None => Ok((None, place)),
+    }
+}
+
+#[tactic(auto, unfolding(crate::specs::Rules::range_at))]
+pub fn range(place: Place<'_>) -> Result<(Range, Place<'_>), Fault>
+    ensures { Gives result (range_at (ahead place.entry)) }
+{
+    let (from, rest) = int(place)?;
+    let (to, rest) = int_behind(b"..", rest)?;
+    Ok((Range { from, to }, rest))
+}
+
+/// The bytes of a name, copied.
+pub fn copy(alloc: Global, bytes: &[u8]) -> Result<List<u8>, NoMemory>
+    ensures { IfOk result (λ name. name ≡ bytes.now) }
+{
+    let mut name = Vec::new(alloc);
+    name.extend_from_slice(bytes)?;
+    Ok(List::from_vec(name))
+}

@@ -1,0 +1,53 @@
+ghost use Rattle.std.specs.Prelude.{◌≡◌, option_map};
+ghost use Rattle.cpo_text.specs.Tokens.{bounded, digits_value, word_of};
+ghost use Rattle.cpo_text.specs.Places.{said_word};
+
+use crate::piece::Piece;
+
+/// The bound on literals, 2^62.
+const LITERAL_LIMIT: u64 = 4_611_686_018_427_387_904;
+
+/// What a token says. A number above the bound on literals has no value.
+#[derive(Clone, Copy, Debug)]
+pub enum Said<'a> {
+    Name(&'a [u8]),
+    Number(Option<u64>),
+    Sign(&'a [u8]),
+    Quoted,
+}
+
+/// A token that was read, with its offset.
+#[derive(Clone, Copy, Debug)]
+pub struct Read<'a> {
+    pub at: usize,
+    pub word: Said<'a>,
+}
+
+/// The value of some digits, where it is within the bound on literals.
+fn value(digits: &[u8]) -> Option<u64>
+    ensures { result ≡ bounded (digits_value digits.now) }
+{
+    let mut value = 0;
+    for b in digits {
+        let digit = b.saturating_sub(b'0');
+        let next = u128::from(value) * 10 + u128::from(digit);
+        if next > u128::from(LITERAL_LIMIT) {
+            return None;
+        }
+        value = next as u64;
+    }
+    Some(value)
+}
+
+/// What a piece of these bytes says, if anything.
+pub fn what_is_said(piece: Piece, bytes: &[u8]) -> Option<Said<'_>>
+    ensures { option_map said_word result ≡ word_of piece bytes.now }
+{
+    match piece {
+        Piece::Name => Some(Said::Name(bytes)),
+        Piece::Int => Some(Said::Number(value(bytes))),
+        Piece::Sign => Some(Said::Sign(bytes)),
+        Piece::Quoted => Some(Said::Quoted),
+        Piece::Blank | Piece::Line | Piece::Block => None,
+    }
+}
