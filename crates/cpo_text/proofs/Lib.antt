@@ -15,3 +15,4 @@ pub mod Surveyed
 pub mod Firsts
 pub mod Forms
 pub mod Answered
+pub mod Determined

@@ -3,7 +3,9 @@ use Rattle.std.specs.Prelude.{◌≡◌, ◌⊎◌, ℕ, Bool, List, []}
 use Rattle.cpo_text.specs.Words.{Word}
 use Rattle.cpo_text.specs.Tokens.{Token, ArePieces, HasTokens, HasBadByte, NonePiece}
 use Rattle.cpo_text.specs.Spelling.{IsStatement}
+use Rattle.cpo_text.specs.Reads.{AreReadings}
 use Rattle.cpo_text.specs.declared.piece.Piece.{Piece}
+use Rattle.cpo_text.specs.declared.text.Reading.{Reading}
 use Rattle.cpo_text.specs.declared.tree.Statement.{Statement}
 
 -- two lists of pieces that reach the end, or a place at which no piece begins, are one
@@ -27,3 +29,7 @@ NotBoth = (text : List ℕ) (ts us : List Token) (b : Bool) (at : ℕ) → HasTo
 -- words are at most one statement
 abbrev pub StatementsAreDetermined : Type 0
 StatementsAreDetermined = (ws : List Word) (s t : Statement) → IsStatement ws s → IsStatement ws t → s ≡ t
+
+-- each run has one reading
+abbrev pub ReadingsAreDetermined : Type 0
+ReadingsAreDetermined = (rs : List (List Token)) (xs ys : List Reading) → AreReadings rs xs → AreReadings rs ys → xs ≡ ys

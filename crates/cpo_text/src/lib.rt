@@ -4,6 +4,7 @@
 
 mod fault;
 mod grammar;
+mod laws;
 mod parts;
 mod piece;
 mod place;
@@ -14,6 +15,7 @@ mod tree;
 mod whole;
 mod word;
 
+pub use laws::reading_is_determined;
 pub use text::{Form, ReadFault, Reading, Refusal, TEXT_LIMIT, Tree};
 pub use tree::{Constrained, Definition, Int, Ivarg, Logic, Range, Sense, Statement, Temporal};
 pub use whole::read_text;

@@ -1,0 +1,108 @@
+-- A text has one list of pieces, and so one list of tokens or one bad byte; each run of tokens has one reading.
+use Rattle.std.proofs.Common.{◌≡◌, ◌⊎◌, inl, inr, ℕ, zero, suc, ◌+◌, ◌-◌, ◌<◌, ◌≤◌, Bool, true, false, List, [], ◌∷◌, ◌++◌, length, drop, Option, Some, None, refl, sym, ap, subst, ◌∙◌, arith, length-drop, append-nil}
+use Rattle.std.proofs.lemmas.List.{drop-drop}
+use Rattle.cpo_text.specs.declared.piece.Piece.{Piece}
+use Rattle.cpo_text.specs.declared.tree.Statement.{Statement}
+use Rattle.cpo_text.specs.declared.text.Form.{Form}
+use Rattle.cpo_text.specs.declared.text.Form.TheVariants.{Tree as Parsed, Number}
+use Rattle.cpo_text.specs.declared.text.Reading.{Reading}
+use Rattle.cpo_text.specs.Words.{Word}
+use Rattle.cpo_text.specs.Tokens.{Token, tokens_of, ArePieces, NonePiece, HasTokens, HasBadByte, has_comment}
+use Rattle.cpo_text.specs.Runs.{words_of, early, has_large}
+use Rattle.cpo_text.specs.Spelling.{IsStatement, spelling}
+use Rattle.cpo_text.specs.Rules.{Found, statement_at}
+use Rattle.cpo_text.specs.Lexing.{pieces, rest, tokens_from}
+use Rattle.cpo_text.specs.Reads.{IsGrammatical, DeservesNumber, HasForm, AreReadings}
+use Rattle.cpo_text.specs.Laws.{PiecesAreDetermined, TokensAreDetermined, BadByteIsDetermined, EveryTextHasTokensOrBadByte, NotBoth, StatementsAreDetermined, ReadingsAreDetermined}
+use Rattle.cpo_text.proofs.Binds.{some_same, some_pair, both}
+use Rattle.cpo_text.proofs.Walks.{pieces_are, pieces_only, none_at_end}
+use Rattle.cpo_text.proofs.Again.{statement_again}
+use Rattle.cpo_text.proofs.Answered.{has_tokens, has_bad_byte}
+
+pub pieces_determined : PiecesAreDetermined
+pieces_determined text ps qs r s a a' b b' =
+    let p = pieces_only text ps r a a' in
+    let q = pieces_only text qs s b b' in
+    (p.0 ∙ sym q.0, p.1 ∙ sym q.1)
+
+pub tokens_determined : TokensAreDetermined
+tokens_determined text ts us a b x y =
+    let same = (pieces_determined text x.pieces y.pieces [] [] x.whole none_at_end y.whole none_at_end).0 in
+    (x.are ∙ ap (tokens_of 0 text) same ∙ sym y.are, x.comments ∙ ap has_comment same ∙ sym y.comments)
+
+same_place : (text : List ℕ) (i j : ℕ) → i < length text → j < length text → drop i text ≡ drop j text → i ≡ j
+same_place text i j a b e = let n = ap length e in omega (arith, n, length-drop i text, length-drop j text)
+
+pub bad_byte_determined : BadByteIsDetermined
+bad_byte_determined text ts us i j x y =
+    let same = pieces_determined text x.pieces y.pieces (drop i text) (drop j text) x.before x.none y.before y.none in
+    (x.are ∙ ap (tokens_of 0 text) same.0 ∙ sym y.are, same_place text i j x.within y.within same.1)
+
+-- how far some pieces reach
+pub record Reached (bs r : List ℕ) : Type 0 where
+  pub count : ℕ
+  pub is : r ≡ drop count bs
+
+reached : (bs : List ℕ) (ps : List (Piece × ℕ)) (r : List ℕ) → ArePieces bs ps r → Reached bs r
+reached bs [] r h = record { count = 0; is = sym h }
+reached bs (p ∷ ps) r h = let more = reached (drop p.1 bs) ps r h.1 in record { count = p.1 + more.count; is = more.is ∙ drop-drop more.count p.1 bs }
+
+some_left : (text : List ℕ) (n b : ℕ) (bs : List ℕ) → b ∷ bs ≡ drop n text → n < length text
+some_left text n b bs e = let size = ap length e in omega (arith, size, length-drop n text)
+
+pub every_text : EveryTextHasTokensOrBadByte
+every_text text = decided (rest text) refl (reached text (pieces text) (rest text) (pieces_are text))
+  where
+    decided : (r : List ℕ) → rest text ≡ r → Reached text (rest text) → ((ts : List Token) × (b : Bool) × HasTokens text ts b) ⊎ ((ts : List Token) × (at : ℕ) × HasBadByte text ts at)
+    decided [] done h = inl (tokens_from 0 text, has_comment (pieces text), has_tokens text (has_comment (pieces text)) done refl)
+    decided (b ∷ bs) more h = inr (tokens_from 0 text, h.count, has_bad_byte text h.count h.is (some_left text h.count b bs (sym more ∙ h.is)))
+
+pub not_both : NotBoth
+not_both text ts us b at x y =
+    let same = pieces_determined text x.pieces y.pieces [] (drop at text) x.whole none_at_end y.before y.none in
+    let size = ap length same.1 in
+    let within = y.within in
+    omega (arith, size, length-drop at text)
+
+read_again : (ws : List Word) (s : Statement) → IsStatement ws s → statement_at ws ≡ Some (s, [])
+read_again ws s is = ap statement_at (is.spelt ∙ sym (append-nil (spelling s))) ∙ statement_again s [] is.formed
+
+pub statements_determined : StatementsAreDetermined
+statements_determined ws s t a b = (some_pair s t [] [] (sym (read_again ws s a) ∙ read_again ws t b)).0
+
+-- a number of its own, where the words are early none
+not_some : (o : Option ℕ) (n : ℕ) → o ≡ Some n → o ≡ None → ⊥
+not_some o n a b = cc
+
+numbers : (ws : List Word) (n m : ℕ) → DeservesNumber ws n → DeservesNumber ws m → n ≡ m
+numbers ws n m (inl a) (inl b) = some_same n m (sym a ∙ b)
+numbers ws n m (inl a) (inr (b, _)) = absurd (not_some (early ws) n a b)
+numbers ws n m (inr (a, _)) (inl b) = absurd (not_some (early ws) m b a)
+numbers ws n m (inr (_, inl (a, _))) (inr (_, inl (b, _))) = a ∙ sym b
+numbers ws n m (inr (_, inl (_, out))) (inr (_, inr (_, is, _))) = absurd (out is)
+numbers ws n m (inr (_, inr (_, is, _))) (inr (_, inl (_, out))) = absurd (out is)
+numbers ws n m (inr (_, inr (a, _, _))) (inr (_, inr (b, _, _))) = a ∙ sym b
+
+-- words with a tree deserve no number
+no_number : (ws : List Word) (s : Statement) (n : ℕ) → HasForm ws (Parsed s) → DeservesNumber ws n → ⊥
+no_number ws s n h (inl a) = not_some (early ws) n a h.0
+no_number ws s n h (inr (_, inl (_, out))) = out (s, h.1)
+no_number ws s n h (inr (_, inr (_, _, large))) = let wrong = sym large ∙ h.2 in cc
+
+one_form : (ws : List Word) (a b : Form) → HasForm ws a → HasForm ws b → a ≡ b
+one_form ws (Parsed s) (Parsed t) a b = ap Parsed (statements_determined ws s t a.1 b.1)
+one_form ws (Parsed s) (Number n) a b = absurd (no_number ws s n a b)
+one_form ws (Number n) (Parsed s) a b = absurd (no_number ws s n b a)
+one_form ws (Number n) (Number m) a b = ap Number (numbers ws n m a b)
+
+same_reading : (x y : Reading) → x.at ≡ y.at → x.form ≡ y.form → x ≡ y
+same_reading x y a b = both (λ n (f : Form). let z : Reading = record { at = n; form = f } in z) a b
+
+pub readings_determined : ReadingsAreDetermined
+readings_determined [] [] [] a b = refl
+readings_determined [] [] (y ∷ ys) a b = absurd b
+readings_determined [] (x ∷ xs) ys a b = absurd a
+readings_determined (r ∷ rs) [] ys a b = absurd a
+readings_determined (r ∷ rs) (x ∷ xs) [] a b = absurd b
+readings_determined (r ∷ rs) (x ∷ xs) (y ∷ ys) a b =
+    both (λ (z : Reading) (zs : List Reading). z ∷ zs) (same_reading x y (a.0 ∙ sym b.0) (one_form (words_of r) x.form y.form a.1 b.1)) (readings_determined rs xs ys a.2 b.2)

@@ -1,0 +1,13 @@
+use Rattle.cpo_text.proofs.Determined.{pieces_determined, tokens_determined, bad_byte_determined, every_text, not_both, statements_determined, readings_determined}
+use Rattle.cpo_text.proofs.laws.reading_is_determined.Goals as goal
+
+pub returns : goal.returns
+returns c = record {
+  pieces = pieces_determined;
+  tokens = tokens_determined;
+  bad_byte = bad_byte_determined;
+  every_text = every_text;
+  not_both = not_both;
+  statements = statements_determined;
+  readings = readings_determined;
+}

@@ -1,0 +1,12 @@
+ghost use Rattle.cpo_text.specs.Laws.{PiecesAreDetermined, TokensAreDetermined, BadByteIsDetermined, EveryTextHasTokensOrBadByte, NotBoth, StatementsAreDetermined, ReadingsAreDetermined};
+
+/// Stands for laws of the definitions: what a text is read as is no choice of the reader.
+pub fn reading_is_determined()
+    ensures pieces { PiecesAreDetermined }
+    ensures tokens { TokensAreDetermined }
+    ensures bad_byte { BadByteIsDetermined }
+    ensures every_text { EveryTextHasTokensOrBadByte }
+    ensures not_both { NotBoth }
+    ensures statements { StatementsAreDetermined }
+    ensures readings { ReadingsAreDetermined }
+{}
