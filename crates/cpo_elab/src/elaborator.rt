@@ -81,14 +81,13 @@ impl Elaborator {
         self.names.number_of(name).is_some()
     }
 
-    /// The id of a name's interval.
+    /// The id of a name's interval; 0 for a name without one.
     fn itv_of(&self, name: &[u8]) -> Itv
         ensures { result ≡ itv_of self.now.model name.now }
     {
-        let count = self.model.intervals().len();
         match self.names.number_of(name) {
-            Some(i) if i < count => Itv(i as u32),
-            _ => Itv(0),
+            None => Itv(0),
+            Some(i) => Itv(i as u32),
         }
     }
 

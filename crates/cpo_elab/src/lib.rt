@@ -6,6 +6,8 @@ mod elaborator;
 mod interval;
 mod judge;
 mod names;
+#[cfg(test)]
+mod tests;
 mod whole;
 
 pub use cpo_text::{ReadFault, Refusal, Tree};
