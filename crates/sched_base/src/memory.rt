@@ -37,9 +37,18 @@ impl Model for MemDesk {
     ghost Value = { Memory };
 
     ghost view = { λ d. record {
-        files = d.files; failing = d.failing; calls = d.calls; faults = d.faults;
-        model = d.model; log = d.log; schedule = d.schedule;
-        out = d.out.items; err = d.err.items; logged = d.logged.items; created = d.created } };
+      files = d.files;
+      failing = d.failing;
+      calls = d.calls;
+      faults = d.faults;
+      model = d.model;
+      log = d.log;
+      schedule = d.schedule;
+      out = d.out.items;
+      err = d.err.items;
+      logged = d.logged.items;
+      created = d.created;
+    } };
 
     ghost invariant = { λ d. IsThere d.files d.model × IsThere d.files d.log × IsThere d.files d.schedule };
 }

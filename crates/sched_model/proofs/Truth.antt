@@ -1,5 +1,5 @@
 -- Three tests one after another.
-use Rattle.std.proofs.Common.{◌≡◌, Bool, true, false, ◌&&◌, refl, sym, ap, ◌∙◌}
+use Rattle.std.proofs.Common.{◌≡◌, Bool, true, false, ◌&&◌, ap, ◌∙◌}
 
 pub second_fails : (p q r : Bool) → true ≡ p → false ≡ q → false ≡ (p && q && r)
 second_fails p q r first second = ap (λ b. b && r) (second ∙ ap (λ b. b && q) first)

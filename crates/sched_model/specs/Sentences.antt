@@ -1,5 +1,5 @@
 -- The sentence of each constraint (Laborie et al. 2018).
-use Rattle.std.specs.Prelude.{ℕ, ℤ, ◌+ℤ◌, Bool, ◌&&◌, if◌then◌else◌, IsTrue, int_le, slice_get}
+use Rattle.std.specs.Prelude.{ℤ, ◌+ℤ◌, Bool, ◌&&◌, if◌then◌else◌, IsTrue, int_le, slice_get}
 use Rattle.std.specs.Ordering.{int_eq}
 use Rattle.sched_base.specs.declared.ids.Itv.{Itv}
 use Rattle.sched_base.specs.declared.ids.Con.{Con}

@@ -1,9 +1,8 @@
 -- Words on truth values, numbers and lists that the definitions share.
-use Rattle.std.specs.Prelude.{Bool, true, false, not, ◌&&◌, ℤ, int_le, List, [], ◌∷◌, Option, Some, None}
+use Rattle.std.specs.Prelude.{Bool, true, false, ◌&&◌, ℤ, int_le, List, [], ◌∷◌, Option, Some, None}
 use Rattle.std.specs.List.{list_all}
 
 infixr 25 ◌implies◌
-
 abbrev pub ◌implies◌ : Bool → Bool → Bool
 true implies q = q
 false implies q = true

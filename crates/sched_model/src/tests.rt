@@ -55,16 +55,25 @@ fn a_before_b(rt: HostRuntime) -> Result<(), Fail> {
         expr: Expr::EndOf(b, 0),
     });
     assert_eq!(rt; before, Con(0));
-    let apart = placed(alloc, &[Slot::Present { s: 0, e: 2 }, Slot::Present { s: 3, e: 5 }])?;
+    let apart = placed(
+        alloc,
+        &[Slot::Present { s: 0, e: 2 }, Slot::Present { s: 3, e: 5 }],
+    )?;
     assert!(rt; in_domain(&model, &apart));
     assert!(rt; holds(&model, before, &apart));
     assert!(rt; is_solution(&model, &apart));
     assert_eq!(rt; value(&model, &apart), Some(5));
-    let touching = placed(alloc, &[Slot::Present { s: 0, e: 2 }, Slot::Present { s: 2, e: 4 }])?;
+    let touching = placed(
+        alloc,
+        &[Slot::Present { s: 0, e: 2 }, Slot::Present { s: 2, e: 4 }],
+    )?;
     assert!(rt; in_domain(&model, &touching));
     assert!(rt; !holds(&model, before, &touching));
     assert!(rt; !is_solution(&model, &touching));
-    let long = placed(alloc, &[Slot::Present { s: 0, e: 3 }, Slot::Present { s: 3, e: 5 }])?;
+    let long = placed(
+        alloc,
+        &[Slot::Present { s: 0, e: 3 }, Slot::Present { s: 3, e: 5 }],
+    )?;
     assert!(rt; !in_domain(&model, &long));
     Ok(())
 }

@@ -11,10 +11,10 @@ lines_more ds ss i d slot before now whole in_ds in_ss at_d at_slot same wrote =
     ap (λ bs. bs ++ schedule_lines (drop (i + 1) ds) (drop (i + 1) ss)) wrote
     ∙ append_assoc before (line (d.name ∷ slot_words slot)) (schedule_lines (drop (i + 1) ds) (drop (i + 1) ss))
     ∙ ap (λ bs. before ++ bs) (sym (
-        ap (λ xs. schedule_lines xs (drop i ss)) (drop_more ds i d in_ds)
-        ∙ ap (schedule_lines (get_or ds i d ∷ drop (i + 1) ds)) (drop_more ss i slot in_ss)
-        ∙ ap (λ x. schedule_lines (x ∷ drop (i + 1) ds) (get_or ss i slot ∷ drop (i + 1) ss)) (sym at_d)
-        ∙ ap (λ x. schedule_lines (d ∷ drop (i + 1) ds) (x ∷ drop (i + 1) ss)) (sym at_slot)))
+    ap (λ xs. schedule_lines xs (drop i ss)) (drop_more ds i d in_ds)
+    ∙ ap (schedule_lines (get_or ds i d ∷ drop (i + 1) ds)) (drop_more ss i slot in_ss)
+    ∙ ap (λ x. schedule_lines (x ∷ drop (i + 1) ds) (get_or ss i slot ∷ drop (i + 1) ss)) (sym at_d)
+    ∙ ap (λ x. schedule_lines (d ∷ drop (i + 1) ds) (x ∷ drop (i + 1) ss)) (sym at_slot)))
     ∙ same
 
 no_slots : (ds : List IntervalDef) → schedule_lines ds [] ≡ []

@@ -65,7 +65,7 @@ refused words name r old s new is prints kept same deserved reports =
     let err : s.err ≡ old.err = ap (λ (x : State). x.err) prints.only in
     let part : AppendedFrom (refusal_line r) old.err new.err = subst (λ e. AppendedFrom (refusal_line r) e new.err) err reports.part in
     let whole : Rose old.faults new.faults ⊎ (new.err ≡ appended (refusal_line r) old.err) =
-      subst (λ e. Rose old.faults new.faults ⊎ (new.err ≡ appended (refusal_line r) e)) err (subst (λ n. Rose n new.faults ⊎ (new.err ≡ appended (refusal_line r) s.err)) kept reports.whole) in
+    subst (λ e. Rose old.faults new.faults ⊎ (new.err ≡ appended (refusal_line r) e)) err (subst (λ n. Rose n new.faults ⊎ (new.err ≡ appended (refusal_line r) s.err)) kept reports.whole) in
     record {
       only = reported (refusal_line r) old s new prints reports;
       later = omega (arith, prints.later, reports.later);
@@ -78,7 +78,7 @@ refused words name r old s new is prints kept same deserved reports =
       solved = λ h. cc;
       quiet = λ h no. ap (λ (x : State). x.out) reports.only ∙ same;
       refused = λ h. of_command old words name (λ text. (q : Refusal) × DeservesServed text (Refused q) × AppendedFrom (refusal_line q) old.err new.err × (Rose old.faults new.faults ⊎ (new.err ≡ appended (refusal_line q) old.err))) is
-        (if_text old name (λ text. DeservesServed text (Refused r)) (λ text. (q : Refusal) × DeservesServed text (Refused q) × AppendedFrom (refusal_line q) old.err new.err × (Rose old.faults new.faults ⊎ (new.err ≡ appended (refusal_line q) old.err))) deserved
+          (if_text old name (λ text. DeservesServed text (Refused r)) (λ text. (q : Refusal) × DeservesServed text (Refused q) × AppendedFrom (refusal_line q) old.err new.err × (Rose old.faults new.faults ⊎ (new.err ≡ appended (refusal_line q) old.err))) deserved
           (λ text d. (r, d, part, whole)));
     }
 

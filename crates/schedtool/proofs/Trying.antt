@@ -36,8 +36,17 @@ pub printed_part : (old s new : State) (name : Bytes) (m : Data) (solved : Solve
 printed_part old s new name m solved bytes e reads deserved answer text writes =
     let n = writes.failed.0 in
     if_text old name (λ text. DeservesServed text (Accepted m)) (λ text. PrintsPart text old.out new.out) deserved
-    (λ t d. inr (m, solved, d, answer, (n, subst (λ bs. n ≤ length bs) text writes.failed.1,
-      ap (λ (x : State). x.out) writes.failed.2 ∙ ap (λ bs. appended (take n bs) s.out) text ∙ ap (appended (take n (answer_text m solved))) (ap (λ (x : State). x.out) reads.only))))
+    (λ t d. inr (
+      m,
+      solved,
+      d,
+      answer,
+      (
+        n,
+        subst (λ bs. n ≤ length bs) text writes.failed.1,
+        ap (λ (x : State). x.out) writes.failed.2 ∙ ap (λ bs. appended (take n bs) s.out) text ∙ ap (appended (take n (answer_text m solved))) (ap (λ (x : State). x.out) reads.only),
+      ),
+    ))
 
 -- a failed write on a desk that was as calm as before it read
 pub fault_of_write : (old s new : State) (name bytes : Bytes) (e : Failed) → OnlyReads old s → s.faults ≡ old.faults → Writes Out bytes (Err e) s new → IsFault name old new

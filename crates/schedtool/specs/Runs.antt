@@ -84,22 +84,17 @@ pub record Runs (words : List Bytes) (result : Ended) (old new : State) : Type 0
   -- nothing but the model's slot, the count, and the two streams has changed
   pub only : new ≡ record old { model = new.model; out = new.out; err = new.err; faults = new.faults }
   pub later : old.faults ≤ new.faults
-
   -- `Usage` exactly where the words are no command; nothing is opened then
   pub usage : (result ≡ Usage) ↔ (command_of words ≡ None)
   pub unopened : result ≡ Usage → Reports usage_line old new
-
   -- `Fault` only where the count rose, and never over a calm desk that has the model
   pub fault : result ≡ Fault → Rose old.faults new.faults
   pub calm : old.calm ≡ true → IfSome (command_of words) (HasFile old) → result ≡ Fault → ⊥
   pub faulted : result ≡ Fault → IfModel old words (λ text. PrintsPart text old.out new.out)
-
   -- an answer only where the count stayed, and then it is on standard output, whole, and nothing on standard error
   pub kept : is_success result ≡ true → (new.faults ≡ old.faults) × (new.err ≡ old.err)
   pub solved : is_success result ≡ true → IfModel old words (λ text. Prints text result old.out new.out)
-
   -- every other ending leaves standard output as it was
   pub quiet : is_success result ≡ false → (result ≡ Fault → ⊥) → new.out ≡ old.out
-
   -- a refusal is the one that the text deserves
   pub refused : result ≡ ModelRefused → IfModel old words (λ text. (r : Refusal) × DeservesServed text (Refused r) × AppendedFrom (refusal_line r) old.err new.err × (Rose old.faults new.faults ⊎ (new.err ≡ appended (refusal_line r) old.err)))

@@ -17,7 +17,6 @@ pub use ended::Ended;
 pub use real::RealDesk;
 pub use run::run;
 pub use search::solve;
-
 use std::process::ExitCode;
 use std::rt::Env;
 use std::{env, io};

@@ -7,7 +7,8 @@ use sched_model::{Answer, Solved};
 use std::alloc::Global;
 use std::test::Fail;
 
-const TWO_IN_A_ROW: &str = "a = intervalVar(size=1,start=0..2,end=0..3); b = intervalVar(size=1,start=0..2,end=0..3); endBeforeStart(a,b); minimize(endOf(b));\n";
+const TWO_IN_A_ROW: &str =
+    "a = intervalVar(size=1,start=0..2,end=0..3); b = intervalVar(size=1,start=0..2,end=0..3); endBeforeStart(a,b); minimize(endOf(b));\n";
 
 fn listed(alloc: Global, bytes: &[u8]) -> Result<List<u8>, NoMemory> {
     let mut list = List::new(alloc);
@@ -56,9 +57,24 @@ fn answers(rt: HostRuntime) -> Result<(), Fail> {
     let alloc = rt.alloc();
     let rows = [
         ("", "feasible\nnodes 1\nend\n", "", 0),
-        ("a = intervalVar(size=1,start=0,end=0);\n", "infeasible\nnodes 1\nend\n", "", 10),
-        ("a = intervalVar(optional);\n", "", "model refused 2 statement 0 at 0\n", 3),
-        ("a = intervalVar(size=2,start=3,end=5);\n", "feasible\nnodes 1\na 3 5\nend\n", "", 0),
+        (
+            "a = intervalVar(size=1,start=0,end=0);\n",
+            "infeasible\nnodes 1\nend\n",
+            "",
+            10,
+        ),
+        (
+            "a = intervalVar(optional);\n",
+            "",
+            "model refused 2 statement 0 at 0\n",
+            3,
+        ),
+        (
+            "a = intervalVar(size=2,start=3,end=5);\n",
+            "feasible\nnodes 1\na 3 5\nend\n",
+            "",
+            0,
+        ),
     ];
     for (text, out, err, status) in rows {
         let mut desk = desk_with(alloc, text, &[])?;
@@ -80,7 +96,10 @@ fn words_and_faults(rt: HostRuntime) -> Result<(), Fail> {
     let mut desk = desk_with(alloc, "", &[])?;
     assert_eq!(rt; run_words(alloc, &["check", "m"], &mut desk)?.status(), 2);
     let mut desk = desk_with(alloc, "", &[])?;
-    assert_eq!(rt; run_words(alloc, &["solve", "missing"], &mut desk)?.status(), 4);
+    assert_eq!(rt;
+        run_words(alloc, &["solve", "missing"], &mut desk)?.status(),
+        4
+    );
     assert_eq!(rt; desk.err(), b"fault\n".as_slice());
     for call in 0..3u32 {
         let mut desk = desk_with(alloc, "", &[call])?;

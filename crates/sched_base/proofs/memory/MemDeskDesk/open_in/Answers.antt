@@ -1,4 +1,4 @@
-use Rattle.std.proofs.Common.{◌≡◌, refl, subst, sym, ap, ◌∙◌, Ok, ◌||◌}
+use Rattle.std.proofs.Common.{refl, subst, sym, ap, ◌∙◌, Ok, ◌||◌}
 use Rattle.std.specs.Prelude.{is_none}
 use Rattle.sched_base.specs.Calls.{Opens}
 use Rattle.sched_base.specs.State.{bytes_of}
