@@ -33,7 +33,8 @@ first_bounds size cells = record {
   emin = number_at cells 3;
   emax = number_at cells 4;
   pmin = size.least;
-  pmax = size.greatest }
+  pmax = size.greatest;
+}
 
 abbrev pub bounds_from : List SizeRange → List ℤ → List Bounds
 bounds_from [] cells = []
