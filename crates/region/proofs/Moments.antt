@@ -8,7 +8,8 @@ use Rattle.sched_model.specs.Valid.{is_moment}
 use Rattle.region.specs.declared.types.SizeRange.{SizeRange}
 use Rattle.region.specs.declared.types.Guess.{Guess}
 use Rattle.region.specs.declared.types.Guess.TheVariants.{Present, Absent, StartLe, StartGe, EndLe, EndGe}
-use Rattle.region.specs.Cells.{Bounds, unknown, bounds_of, says_absent}
+use Rattle.region.specs.declared.types.Bounds.{Bounds}
+use Rattle.region.specs.Cells.{unknown, bounds_of, says_absent}
 use Rattle.region.specs.Guesses.{subject, is_open_at, admits}
 use Rattle.region.specs.Flat.{AreCells, HasMoments, is_range_of_moments, number_at, bounds_from, region_from, guess_number, fact_number, IsLook}
 use Rattle.region.specs.laws.Lists.{both_true, true_both}

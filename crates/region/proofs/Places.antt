@@ -9,7 +9,8 @@ use Rattle.region.specs.declared.types.Presence.TheVariants as presence
 use Rattle.region.specs.declared.types.SizeRange.{SizeRange}
 use Rattle.region.specs.declared.types.Guess.{Guess}
 use Rattle.region.specs.declared.types.Guess.TheVariants.{Present, Absent, StartLe, StartGe, EndLe, EndGe}
-use Rattle.region.specs.Cells.{Bounds, Region, unknown, bounds_of}
+use Rattle.region.specs.declared.types.Bounds.{Bounds}
+use Rattle.region.specs.Cells.{Region, unknown, bounds_of}
 use Rattle.region.specs.Guesses.{with_guess, with_fact, with_bounds, looked_at, as_present, as_absent, changed_at, subject, is_ready_at, splits, admits, guess_cell, fact_cell}
 use Rattle.region.specs.Flat.{presence_from, number_at, first_bounds, bounds_from, region_from, place_of, guess_number, fact_number}
 use Rattle.region.specs.laws.Lists.{changed_at-same, length-changed_at}

@@ -1,6 +1,6 @@
 use Rattle.std.proofs.Common.{◌≡◌, ◌*◌, pos, ◌∙◌, ap, sym, subst, arith, w64, to_z, of_z}
 use Rattle.std.proofs.lemmas.Int.{to_z-of_z}
-use Rattle.region.specs.Cells.{Bounds}
+use Rattle.region.specs.declared.types.Bounds.{Bounds}
 use Rattle.region.specs.Flat.{HasMoments, presence_from, number_at}
 use Rattle.region.proofs.Places.{bounds_read}
 use Rattle.region.proofs.Moments.{bounds_moments}
