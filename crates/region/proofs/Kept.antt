@@ -1,13 +1,13 @@
 -- What a write does to a region that is kept as numbers.
-use Rattle.std.specs.Prelude.{◌≡◌, ℕ, ◌*◌, ◌<◌, ℤ, true, List, map, length, slice_set, Result, Ok, Err, IfOk, OnOk, OnErr, IsTrue}
-use Rattle.std.proofs.Common.{refl, sym, ap, subst, ◌∙◌, arith}
+use Rattle.std.specs.Prelude.{◌≡◌, ℕ, ◌<◌, ℤ, true, List, map, length, slice_set, Result, Ok, Err, IfOk, OnOk, OnErr}
+use Rattle.std.proofs.Common.{sym, ap, subst, ◌∙◌, arith}
 use Rattle.sched_model.specs.Valid.{is_moment}
 use Rattle.trail.specs.Trail.{Trail}
 use Rattle.region.specs.declared.types.SizeRange.{SizeRange}
 use Rattle.region.specs.declared.types.Guess.{Guess}
 use Rattle.region.specs.declared.types.CellName.{CellName}
 use Rattle.region.specs.Cells.{Region}
-use Rattle.region.specs.Guesses.{with_guess, with_fact, subject, admits, splits, guess_cell, fact_cell}
+use Rattle.region.specs.Guesses.{with_guess, with_fact, admits, splits, guess_cell, fact_cell}
 use Rattle.region.specs.Held.{Held}
 use Rattle.region.specs.Flat.{AreCells, IsKept, region_from, place_of, guess_number, fact_number}
 use Rattle.region.specs.laws.Narrowing.{splitting}
@@ -64,10 +64,10 @@ pub guess_view : (sizes : List SizeRange) (t t' : Trail) (g : Guess) (name : Cel
     → IsWritten t t' (place_of name) v → held_from sizes t' ≡ record (held_from sizes t) { region = with_guess g (region_from sizes t.list); spare = t'.spare }
 guess_view sizes t t' g name v kept h cell number is =
     view_written sizes t t' (place_of name) v (with_guess g (region_from sizes t.list)) is
-      (ap (λ n. region_from sizes (slice_set t.list (place_of n) v)) cell ∙ ap (λ z. region_from sizes (slice_set t.list (place_of (guess_cell g)) z)) number ∙ guess_written sizes t.list g kept.list.count h)
+    (ap (λ n. region_from sizes (slice_set t.list (place_of n) v)) cell ∙ ap (λ z. region_from sizes (slice_set t.list (place_of (guess_cell g)) z)) number ∙ guess_written sizes t.list g kept.list.count h)
 
 pub fact_view : (sizes : List SizeRange) (t t' : Trail) (g : Guess) (name : CellName) (v : ℤ) → IsKept sizes t → admits (region_from sizes t.list) g ≡ true → name ≡ fact_cell g → v ≡ fact_number g
     → IsWritten t t' (place_of name) v → held_from sizes t' ≡ record (held_from sizes t) { region = with_fact g (region_from sizes t.list); spare = t'.spare }
 fact_view sizes t t' g name v kept h cell number is =
     view_written sizes t t' (place_of name) v (with_fact g (region_from sizes t.list)) is
-      (ap (λ n. region_from sizes (slice_set t.list (place_of n) v)) cell ∙ ap (λ z. region_from sizes (slice_set t.list (place_of (fact_cell g)) z)) number ∙ fact_written sizes t.list g kept.list.count h)
+    (ap (λ n. region_from sizes (slice_set t.list (place_of n) v)) cell ∙ ap (λ z. region_from sizes (slice_set t.list (place_of (fact_cell g)) z)) number ∙ fact_written sizes t.list g kept.list.count h)

@@ -1,16 +1,17 @@
 -- Every number of a region is a moment or a length that small, and stays one.
-use Rattle.std.specs.Prelude.{◌≡◌, ℕ, zero, suc, ◌+◌, ◌*◌, ◌<◌, ℤ, pos, ◌+ℤ◌, ◌-ℤ◌, Bool, true, false, not, ◌&&◌, IsTrue, List, [], ◌∷◌, Option, Some, None, length, drop, int_le, int_lt}
+use Rattle.std.specs.Prelude.{◌≡◌, ℕ, zero, suc, ◌+◌, ◌*◌, ◌<◌, ℤ, pos, ◌+ℤ◌, ◌-ℤ◌, Bool, true, false, not, ◌&&◌, IsTrue, List, [], ◌∷◌, Option, Some, length, drop, int_le, int_lt}
 use Rattle.std.specs.List.{list_all}
-use Rattle.std.proofs.Common.{refl, sym, ap, subst, ◌∙◌, arith, get_or, set, length-set}
+use Rattle.std.proofs.Common.{refl, ap, subst, ◌∙◌, arith, get_or, set, length-set}
 use Rattle.std.proofs.lemmas.Int.{ints}
 use Rattle.sched_model.specs.Words.{passes_if_any}
 use Rattle.sched_model.specs.Valid.{is_moment}
 use Rattle.region.specs.declared.types.SizeRange.{SizeRange}
 use Rattle.region.specs.declared.types.Guess.{Guess}
 use Rattle.region.specs.declared.types.Guess.TheVariants.{Present, Absent, StartLe, StartGe, EndLe, EndGe}
-use Rattle.region.specs.Cells.{Bounds, Region, unknown, bounds_of, says_absent}
+use Rattle.region.specs.declared.types.Bounds.{Bounds}
+use Rattle.region.specs.Cells.{unknown, bounds_of, says_absent}
 use Rattle.region.specs.Guesses.{subject, is_open_at, admits}
-use Rattle.region.specs.Flat.{AreCells, HasMoments, is_range_of_moments, number_at, first_bounds, bounds_from, region_from, guess_number, fact_number, IsLook}
+use Rattle.region.specs.Flat.{AreCells, HasMoments, is_range_of_moments, number_at, bounds_from, region_from, guess_number, fact_number, IsLook}
 use Rattle.region.specs.laws.Lists.{both_true, true_both}
 use Rattle.region.specs.laws.OneInterval.{guessed}
 use Rattle.region.specs.laws.Narrowing.{admitted}
@@ -34,8 +35,10 @@ bounds_moments sizes cells n are within = rw (bounds_at sizes cells n none withi
   where
     none : SizeRange
     none = record { least = pos 0; greatest = pos 0 }
+
     size : (is_moment (get_or sizes n none).least ≡ true) × (is_moment (get_or sizes n none).greatest ≡ true)
     size = both_true (is_moment (get_or sizes n none).least) (is_moment (get_or sizes n none).greatest) (list_all-at is_range_of_moments sizes n none are.ranges within)
+
     at : (k : ℕ) → k < 5 → is_moment (number_at (drop (5 * n) cells) k) ≡ true
     at k few = ap is_moment (number_from cells (5 * n) k) ∙ list_all-at is_moment cells (5 * n + k) (pos 0) are.moments (omega (arith, few, within, are.count))
 

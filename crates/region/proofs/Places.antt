@@ -1,6 +1,6 @@
 -- Reading and writing one number, as what it is of an interval.
-use Rattle.std.specs.Prelude.{◌≡◌, ℕ, zero, suc, ◌+◌, ◌*◌, ◌<◌, ◌≤◌, ℤ, pos, ◌+ℤ◌, ◌-ℤ◌, Bool, true, false, not, eqb, List, [], ◌∷◌, Option, Some, None, length, slice_set, drop, nat_eq, if◌then◌else◌}
-use Rattle.std.proofs.Common.{refl, sym, ap, subst, ◌∙◌, ◌⊎◌, inl, inr, arith, get_or, set}
+use Rattle.std.specs.Prelude.{◌≡◌, ℕ, zero, suc, ◌+◌, ◌*◌, ◌<◌, ◌≤◌, ℤ, pos, ◌+ℤ◌, ◌-ℤ◌, true, false, not, eqb, List, [], ◌∷◌, Option, Some, None, length, drop}
+use Rattle.std.proofs.Common.{refl, sym, ap, ◌∙◌, arith, get_or, set}
 use Rattle.std.proofs.lemmas.List.{length-drop, drop-set-lt, drop-set-add, drop-drop, get_or-drop, get_or-set_other}
 use Rattle.std.proofs.lemmas.Bool.{eqb-true, eqb-false, not-true, not-false}
 use Rattle.sched_base.specs.declared.ids.Itv.{Itv}
@@ -9,7 +9,8 @@ use Rattle.region.specs.declared.types.Presence.TheVariants as presence
 use Rattle.region.specs.declared.types.SizeRange.{SizeRange}
 use Rattle.region.specs.declared.types.Guess.{Guess}
 use Rattle.region.specs.declared.types.Guess.TheVariants.{Present, Absent, StartLe, StartGe, EndLe, EndGe}
-use Rattle.region.specs.Cells.{Bounds, Region, unknown, bounds_of, says_present}
+use Rattle.region.specs.declared.types.Bounds.{Bounds}
+use Rattle.region.specs.Cells.{Region, unknown, bounds_of}
 use Rattle.region.specs.Guesses.{with_guess, with_fact, with_bounds, looked_at, as_present, as_absent, changed_at, subject, is_ready_at, splits, admits, guess_cell, fact_cell}
 use Rattle.region.specs.Flat.{presence_from, number_at, first_bounds, bounds_from, region_from, place_of, guess_number, fact_number}
 use Rattle.region.specs.laws.Lists.{changed_at-same, length-changed_at}
@@ -64,7 +65,6 @@ written_at k v f few write (size ∷ sizes) cells (suc n) within room =
     let less : length (drop 5 cells) ≡ 5 * length sizes = omega (arith, room, length-drop 5 cells) in
     rw (at, drop-set-add 5 cells (5 * n + k) v, first_kept size cells (5 + (5 * n + k)) v (omega arith), written_at k v f few write sizes (drop 5 cells) n (omega (arith, within)) less) refl
 
-
 -- the bounds of an interval from its numbers
 pub bounds_read : (sizes : List SizeRange) (cells : List ℤ) (n : ℕ) (p : Presence) (a b e f lo hi : ℤ) → n < length sizes
     → p ≡ presence_from (number_at cells (5 * n)) → a ≡ number_at cells (5 * n + 1) → b ≡ number_at cells (5 * n + 2) → e ≡ number_at cells (5 * n + 3) → f ≡ number_at cells (5 * n + 4)
@@ -107,7 +107,7 @@ made_present : (x : Itv) (f : Bounds → Bounds) (r : Region) → is_ready_at (S
     → with_bounds x f r ≡ with_bounds x (λ c. record (f c) { presence = presence.Present }) r
 made_present x f r ready keeps =
     ap (λ bs. let q : Region = record { bounds = bs } in q) (changed_at-same x.0 f (λ c. record (f c) { presence = presence.Present }) r.bounds unknown
-      (sym (sym (keeps presence.Present) ∙ ap (λ p. f (record (bounds_of r x) { presence = p })) (ready_present (bounds_of r x) ready))))
+    (sym (sym (keeps presence.Present) ∙ ap (λ p. f (record (bounds_of r x) { presence = p })) (ready_present (bounds_of r x) ready))))
 
 guess_at : (sizes : List SizeRange) (cells : List ℤ) (g : Guess) → length cells ≡ 5 * length sizes → (subject g).0 < length sizes → is_ready_at g (bounds_of (region_from sizes cells) (subject g)) ≡ true
     → region_from sizes (set cells (place_of (guess_cell g)) (guess_number g)) ≡ with_guess g (region_from sizes cells)
@@ -143,7 +143,7 @@ fact_place (EndGe x t) n h = omega (arith, h)
 pub looked_there : (g : Guess) (r : Region) (x : Itv) → x.0 < length r.bounds → (subject g).0 ≡ x.0 → guessed g (bounds_of r x) ≡ bounds_of (with_guess g r) x
 looked_there g r x within same =
     at_same (subject g) x (λ z. guessed g (bounds_of r z) ≡ bounds_of (with_guess g r) z) (sym same)
-      (sym (ap (λ q. bounds_of q (subject g)) (guess_changes g r) ∙ bounds_there (subject g) (guessed g) r (omega (arith, within, same))))
+    (sym (ap (λ q. bounds_of q (subject g)) (guess_changes g r) ∙ bounds_there (subject g) (guessed g) r (omega (arith, within, same))))
 
 pub looked_elsewhere : (g : Guess) (r : Region) (x : Itv) → ((subject g).0 ≡ x.0 → ⊥) → bounds_of r x ≡ bounds_of (with_guess g r) x
 looked_elsewhere g r x other = sym (ap (λ q. bounds_of q x) (guess_changes g r) ∙ bounds_elsewhere (subject g) x (guessed g) r (λ e. other (sym e)))

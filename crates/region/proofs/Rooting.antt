@@ -1,18 +1,17 @@
 -- The numbers of a model as declared.
-use Rattle.std.specs.Prelude.{◌≡◌, ℕ, ◌+◌, ◌*◌, ℤ, pos, Bool, true, false, ◌&&◌, IsTrue, List, [], ◌∷◌, ◌++◌, map, length, drop, take, All, if◌then◌else◌}
+use Rattle.std.specs.Prelude.{◌≡◌, ℕ, ◌*◌, ℤ, pos, Bool, true, false, List, [], ◌∷◌, map, length, if◌then◌else◌}
 use Rattle.std.specs.List.{list_all, flat_map}
-use Rattle.std.proofs.Common.{refl, ap, ◌∙◌, arith, length-append}
+use Rattle.std.proofs.Common.{refl, ap, ◌∙◌, arith}
 use Rattle.sched_model.specs.declared.types.IntervalDef.{IntervalDef}
 use Rattle.sched_model.specs.Valid.{is_moment, is_interval_def, is_span_of_moments}
-use Rattle.region.specs.declared.types.Presence.{Presence}
 use Rattle.region.specs.declared.types.Presence.TheVariants.{Present, Maybe}
 use Rattle.region.specs.declared.types.SizeRange.{SizeRange}
 use Rattle.trail.specs.Trail.{Trail}
 use Rattle.region.specs.Held.{Held}
 use Rattle.region.proofs.Kept.{held_from}
 use Rattle.region.specs.Cells.{root_bounds}
-use Rattle.region.specs.Flat.{presence_from, first_bounds, bounds_from, size_range, first_numbers, is_range_of_moments, AreCells, IsKept}
-use Rattle.region.specs.laws.Lists.{both_true, true_both}
+use Rattle.region.specs.Flat.{presence_from, bounds_from, size_range, first_numbers, is_range_of_moments, AreCells, IsKept}
+use Rattle.region.specs.laws.Lists.{both_true}
 
 first_presence : (o : Bool) → presence_from (if o then pos 2 else pos 1) ≡ (if o then Maybe else Present)
 first_presence true = refl

@@ -1,5 +1,5 @@
 -- A region: what is still open of each interval, and which assignments this allows.
-use Rattle.std.specs.Prelude.{◌*◌, ℕ, ◌<◌, ℤ, pos, Bool, true, false, not, ◌&&◌, IsTrue, List, map, length, slice_index_or, if◌then◌else◌}
+use Rattle.std.specs.Prelude.{◌*◌, ℕ, ◌<◌, pos, Bool, true, false, not, ◌&&◌, IsTrue, List, map, length, slice_index_or, if◌then◌else◌}
 use Rattle.std.specs.Ordering.{int_eq}
 use Rattle.std.specs.List.{list_all}
 use Rattle.sched_base.specs.declared.ids.Itv.{Itv}
@@ -10,7 +10,7 @@ use Rattle.sched_model.specs.declared.types.Assignment.{Assignment}
 use Rattle.sched_model.specs.Words.{◌implies◌, is_between, placewise}
 use Rattle.sched_model.specs.Data.{Data}
 use Rattle.sched_model.specs.Value.{slot_of}
-pub use Rattle.region.specs.declared.types.Bounds.{Bounds}
+use Rattle.region.specs.declared.types.Bounds.{Bounds}
 use Rattle.region.specs.declared.types.Presence.{Presence}
 use Rattle.region.specs.declared.types.Presence.TheVariants.{Absent, Present, Maybe}
 

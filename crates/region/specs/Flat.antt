@@ -12,7 +12,8 @@ use Rattle.region.specs.declared.types.Guess.{Guess}
 use Rattle.region.specs.declared.types.Guess.TheVariants.{Present, Absent, StartLe, StartGe, EndLe, EndGe}
 use Rattle.region.specs.declared.types.CellName.{CellName}
 use Rattle.region.specs.declared.types.CellName.TheVariants as cell
-use Rattle.region.specs.Cells.{Bounds, Region}
+use Rattle.region.specs.declared.types.Bounds.{Bounds}
+use Rattle.region.specs.Cells.{Region}
 use Rattle.region.specs.Guesses.{admits}
 
 -- 0 is absent, 1 present, any other number neither is known
@@ -33,7 +34,8 @@ first_bounds size cells = record {
   emin = number_at cells 3;
   emax = number_at cells 4;
   pmin = size.least;
-  pmax = size.greatest }
+  pmax = size.greatest;
+}
 
 abbrev pub bounds_from : List SizeRange → List ℤ → List Bounds
 bounds_from [] cells = []

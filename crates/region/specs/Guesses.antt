@@ -8,7 +8,8 @@ use Rattle.region.specs.declared.types.Guess.{Guess}
 use Rattle.region.specs.declared.types.Guess.TheVariants.{Present, Absent, StartLe, StartGe, EndLe, EndGe}
 use Rattle.region.specs.declared.types.CellName.{CellName}
 use Rattle.region.specs.declared.types.CellName.TheVariants as cell
-use Rattle.region.specs.Cells.{Bounds, Region, bounds_of, says_present, says_absent, says_maybe}
+use Rattle.region.specs.declared.types.Bounds.{Bounds}
+use Rattle.region.specs.Cells.{Region, bounds_of, says_present, says_absent, says_maybe}
 
 -- what a guess says of an assignment; its fact is that this isn't so
 abbrev pub guess_holds : Guess → Assignment → Bool

@@ -8,7 +8,8 @@ use Rattle.sched_model.specs.declared.types.Assignment.{Assignment}
 use Rattle.sched_model.specs.Words.{placewise}
 use Rattle.sched_model.specs.Data.{Data}
 use Rattle.sched_model.specs.Solution.{IsSolution, is_better}
-use Rattle.region.specs.Cells.{Bounds, Region, bounds_of, says_present, Allows}
+use Rattle.region.specs.declared.types.Bounds.{Bounds}
+use Rattle.region.specs.Cells.{Region, bounds_of, says_present, Allows}
 
 -- a region with the guess applied, and the best value so far
 pub record Seen : Type 0 where

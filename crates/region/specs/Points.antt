@@ -3,7 +3,8 @@ use Rattle.std.specs.Prelude.{ℕ, ◌+◌, ◌*◌, ℤ, ◌-ℤ◌, Bool, List
 use Rattle.sched_model.specs.declared.types.Slot.{Slot}
 use Rattle.sched_model.specs.Words.{placewise}
 use Rattle.sched_model.specs.Data.{Data}
-use Rattle.region.specs.Cells.{Bounds, Region, fits_bounds, says_present, says_absent, root}
+use Rattle.region.specs.declared.types.Bounds.{Bounds}
+use Rattle.region.specs.Cells.{Region, fits_bounds, says_present, says_absent, root}
 
 -- the bounds of an absent interval bind nothing, and sizes bind nothing here
 abbrev pub is_point : Region → List Slot → Bool

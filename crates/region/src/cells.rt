@@ -35,10 +35,11 @@ impl std::marker::Model for Region {
     ghost Value = { Held };
 
     ghost view = { λ r. record {
-        region = region_from r.sizes r.cells.list;
-        saved = map (region_from r.sizes) r.cells.saved;
-        promised = r.cells.promised;
-        spare = r.cells.spare } };
+      region = region_from r.sizes r.cells.list;
+      saved = map (region_from r.sizes) r.cells.saved;
+      promised = r.cells.promised;
+      spare = r.cells.spare;
+    } };
 
     ghost invariant = { λ r. IsKept r.sizes r.cells };
 }
@@ -171,9 +172,10 @@ impl Region {
     /// Puts the region on the stack of saved ones.
     pub fn save(&mut self) -> Result<(), NoMemory>
         ensures ok { OnOk result (self.new ≡ record self.old {
-            saved = self.old.saved ++ self.old.region ∷ [];
-            promised = self.old.promised ++ self.old.spare ∷ [];
-            spare = self.new.spare }) }
+          saved = self.old.saved ++ self.old.region ∷ [];
+          promised = self.old.promised ++ self.old.spare ∷ [];
+          spare = self.new.spare;
+        }) }
         ensures err { OnErr result (self.new ≡ self.old) }
         ensures spends { self.old.spare ≤ self.new.spare + 1 }
         ensures given { 0 < self.old.spare → IsOk result }

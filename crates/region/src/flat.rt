@@ -16,7 +16,9 @@ const CELLS_EACH: usize = 5;
 
 // The numbers of presences.
 const ABSENT: i64 = 0;
+
 const PRESENT: i64 = 1;
+
 const MAYBE: i64 = 2;
 
 fn presence_from(number: i64) -> Presence
@@ -98,7 +100,9 @@ pub fn write(cells: &mut Cells, to: (CellName, i64)) -> Result<CellName, NoMemor
     requires { place_of to.0 < length cells.old.list }
     ensures cell { IfOk result (λ c. c ≡ to.0) }
     ensures ok { OnOk result (cells.new ≡ record cells.old {
-        list = slice_set cells.old.list (place_of to.0) to.1; spare = cells.new.spare }) }
+      list = slice_set cells.old.list (place_of to.0) to.1;
+      spare = cells.new.spare;
+    }) }
     ensures err { OnErr result (cells.new ≡ cells.old) }
     ensures spends { cells.old.spare ≤ cells.new.spare + 1 }
     ensures given { 0 < cells.old.spare → IsOk result }

@@ -62,10 +62,26 @@ pub fn guessed(g: Guess, c: Bounds) -> Bounds
             presence: Presence::Absent,
             ..c
         },
-        Guess::StartLe(_, smax) => Bounds { presence, smax, ..c },
-        Guess::StartGe(_, smin) => Bounds { presence, smin, ..c },
-        Guess::EndLe(_, emax) => Bounds { presence, emax, ..c },
-        Guess::EndGe(_, emin) => Bounds { presence, emin, ..c },
+        Guess::StartLe(_, smax) => Bounds {
+            presence,
+            smax,
+            ..c
+        },
+        Guess::StartGe(_, smin) => Bounds {
+            presence,
+            smin,
+            ..c
+        },
+        Guess::EndLe(_, emax) => Bounds {
+            presence,
+            emax,
+            ..c
+        },
+        Guess::EndGe(_, emin) => Bounds {
+            presence,
+            emin,
+            ..c
+        },
     }
 }
 

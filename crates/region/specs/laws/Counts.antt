@@ -11,7 +11,8 @@ use Rattle.sched_model.specs.Data.{Data}
 use Rattle.region.specs.declared.types.Presence.{Presence}
 use Rattle.region.specs.declared.types.Presence.TheVariants as presence
 use Rattle.region.specs.declared.types.Guess.{Guess}
-use Rattle.region.specs.Cells.{Bounds, Region, unknown, bounds_of, fits_bounds, says_absent}
+use Rattle.region.specs.declared.types.Bounds.{Bounds}
+use Rattle.region.specs.Cells.{Region, unknown, bounds_of, fits_bounds, says_absent}
 use Rattle.region.specs.Guesses.{with_guess, with_fact, changed_at, subject, admits, splits}
 use Rattle.region.specs.Looks.{IsRegionOf, is_narrowed}
 use Rattle.region.specs.Points.{is_point, points_of, product_of, choices, width}

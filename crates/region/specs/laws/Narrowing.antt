@@ -16,7 +16,8 @@ use Rattle.region.specs.declared.types.Guess.{Guess}
 use Rattle.region.specs.declared.types.Guess.TheVariants.{Present, Absent, StartLe, StartGe, EndLe, EndGe}
 use Rattle.region.specs.declared.types.CellName.{CellName}
 use Rattle.region.specs.declared.types.CellName.TheVariants as cell
-use Rattle.region.specs.Cells.{Bounds, Region, unknown, bounds_of, fits_bounds, says_present, says_absent, says_maybe, Allows}
+use Rattle.region.specs.declared.types.Bounds.{Bounds}
+use Rattle.region.specs.Cells.{Region, unknown, bounds_of, fits_bounds, says_present, says_absent, says_maybe, Allows}
 use Rattle.region.specs.Guesses.{with_guess, with_fact, with_bounds, looked_at, subject, guess_holds, is_open_at, is_ready_at, admits, splits, guess_cell, fact_cell, SameCell}
 use Rattle.region.specs.Looks.{IsRegionOf, is_narrowed}
 use Rattle.region.specs.Narrows.{Narrows}

@@ -12,7 +12,8 @@ use Rattle.region.specs.declared.types.Presence.{Presence}
 use Rattle.region.specs.declared.types.Presence.TheVariants as presence
 use Rattle.region.specs.declared.types.Guess.{Guess}
 use Rattle.region.specs.declared.types.Guess.TheVariants.{Present, Absent, StartLe, StartGe, EndLe, EndGe}
-use Rattle.region.specs.Cells.{Bounds, Region, fits_bounds, says_present, says_absent, says_maybe}
+use Rattle.region.specs.declared.types.Bounds.{Bounds}
+use Rattle.region.specs.Cells.{Region, fits_bounds, says_present, says_absent, says_maybe}
 use Rattle.region.specs.Guesses.{with_guess, with_fact, with_bounds, subject, guess_holds, is_open_at, is_ready_at, as_present, as_absent}
 use Rattle.region.specs.Looks.{is_narrowed}
 use Rattle.region.specs.laws.Lists.{both_true}

@@ -10,7 +10,8 @@ use Rattle.sched_model.specs.declared.types.Assignment.{Assignment}
 use Rattle.sched_model.specs.Words.{is_between, placewise}
 use Rattle.region.specs.declared.types.Presence.{Presence}
 use Rattle.region.specs.declared.types.Presence.TheVariants as presence
-use Rattle.region.specs.Cells.{Bounds, Region, unknown, fits_bounds, Allows, allows, is_fixed, is_settled, settled_slot, settled_slots}
+use Rattle.region.specs.declared.types.Bounds.{Bounds}
+use Rattle.region.specs.Cells.{Region, unknown, fits_bounds, Allows, allows, is_fixed, is_settled, settled_slot, settled_slots}
 use Rattle.region.specs.laws.Lists.{both_true, placewise-at, placewise-from}
 
 -- the test decides what is allowed, for assignments with one slot for each interval

@@ -1,4 +1,3 @@
-use Rattle.std.specs.Prelude.{not}
 use Rattle.std.proofs.Common.{sym, subst}
 use Rattle.region.specs.Guesses.{guess_cell, guess_holds}
 use Rattle.region.specs.Held.{Held}

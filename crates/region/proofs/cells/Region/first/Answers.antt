@@ -1,4 +1,4 @@
-use Rattle.std.proofs.Common.{sym, ◌∙◌}
+use Rattle.std.proofs.Common.{◌∙◌}
 use Rattle.region.proofs.Rooting.{first_kept, first_view}
 use Rattle.region.proofs.cells.Region.first.Goals as goal
 

@@ -1,8 +1,8 @@
 use Rattle.std.specs.Prelude.{IsTrue}
-use Rattle.std.proofs.Common.{sym, ap, subst}
+use Rattle.std.proofs.Common.{sym, subst}
 use Rattle.sched_model.specs.declared.types.Assignment.{Assignment}
 use Rattle.sched_model.specs.Domain.{is_in_domain}
-use Rattle.region.specs.Cells.{Region, Allows, root}
+use Rattle.region.specs.Cells.{Allows, root}
 use Rattle.region.specs.Looks.{IsRegionOf}
 use Rattle.region.specs.Held.{Held}
 use Rattle.region.specs.Narrows.{HasPoint}

@@ -1,4 +1,4 @@
-use Rattle.std.proofs.Common.{◌≡◌, length, sym, ap, ◌∙◌, arith}
+use Rattle.std.proofs.Common.{◌≡◌, length, ap, ◌∙◌, arith}
 use Rattle.std.proofs.lemmas.Bool.Decides.{nat_tests}
 use Rattle.region.proofs.Places.{look_length, length-bounds_from, looked_same, looked_other}
 use Rattle.region.proofs.Moments.{shown_moments}
@@ -19,8 +19,8 @@ pub returns-clause-value : goal.returns-clause-value
 returns-clause-value c =
     let size : length c.args.self.now.region.bounds ≡ length c.self.inside.sizes.now = rw (← c.self.view_is) (look_length c.self.inside.sizes.now c.self.inside.cells.now c.self.inside.guess) in
     rw (← c.self.view_is) (c.guessed.ensures ∙ ap (guessed c.in-Some.g) c.read_bounds-c.ensures.value
-      ∙ looked_same c.self.inside.guess c.in-Some.g (region_from c.self.inside.sizes.now c.self.inside.cells.now) (record { 0 = c.args.n }) c.subject.result c.in-Some.is
-        (omega (arith, size, c.requires, length-bounds_from c.self.inside.sizes.now c.self.inside.cells.now)) c.subject.ensures (grind (arith, nat_tests)))
+    ∙ looked_same c.self.inside.guess c.in-Some.g (region_from c.self.inside.sizes.now c.self.inside.cells.now) (record { 0 = c.args.n }) c.subject.result c.in-Some.is
+    (omega (arith, size, c.requires, length-bounds_from c.self.inside.sizes.now c.self.inside.cells.now)) c.subject.ensures (grind (arith, nat_tests)))
 
 pub returns-clause-moments : goal.returns-clause-moments
 returns-clause-moments c = rw c.guessed.ensures (shown_moments c.self.inside.sizes.now c.self.inside.cells.now c.self.inside.guess c.in-Some.g _ c.self.invariant c.in-Some.is c.read_bounds-c.ensures.moments)

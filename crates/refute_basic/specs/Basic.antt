@@ -1,0 +1,15 @@
+-- What a witness of this crate refutes.
+use Rattle.std.specs.Prelude.{Bool, ◌&&◌}
+use Rattle.sched_model.specs.Data.{Data}
+use Rattle.region.specs.Looks.{Seen}
+use Rattle.refute_basic.specs.declared.witness.BasicWitness.{BasicWitness}
+use Rattle.refute_basic.specs.declared.witness.BasicWitness.TheVariants.{Leaf}
+use Rattle.refute_basic.specs.Witness.{is_valid}
+use Rattle.refute_basic.specs.Leaf.{leaf_row}
+
+abbrev pub row_of : Data → Seen → BasicWitness → Bool
+row_of m l (Leaf k u) = leaf_row m l k u
+
+-- a valid witness refutes where the sentence of its row holds
+abbrev pub refutes : Data → Seen → BasicWitness → Bool
+refutes m l w = is_valid w && row_of m l w

@@ -1,0 +1,4 @@
+pub mod Witness
+pub mod Leaf
+pub mod Basic
+pub mod laws

@@ -1,0 +1,27 @@
+use crate::leaf::leaf;
+use crate::witness::BasicWitness;
+use region::{Look, Refuter};
+use sched_model::Model;
+
+/// The refuter of this crate's kinds.
+pub struct Basic;
+
+impl Refuter for Basic {
+    ghost use Rattle.refute_basic.specs.Basic.{refutes};
+    ghost use Rattle.refute_basic.specs.laws.Spelling.{refuting_valid};
+    ghost use Rattle.refute_basic.specs.laws.Settled.{sound_law};
+
+    type Witness = BasicWitness;
+
+    ghost refuting = { refutes };
+
+    fn refutes(model: &Model, look: &Look<'_>, w: &BasicWitness) -> bool {
+        match *w {
+            BasicWitness::Leaf { k, u } => leaf(model, look, k, u),
+        }
+    }
+
+    ghost valid = { refuting_valid };
+
+    ghost sound = { sound_law };
+}
