@@ -45,6 +45,7 @@ fn is_within(jobs: u32, machines: u32) -> bool
 /// and runs them in order; job `j` begins on machine `j`, counted round. The last completion is
 /// minimized. `Limit` comes where there are no jobs or above 500, no machines or above 200, or
 /// above 2000 operations.
+#[tactic(auto, unfolding(crate::specs::Generated::generated_text))]
 pub fn generate(alloc: Global, seed: u64, jobs: u32, machines: u32) -> Result<Vec<u8>, GenFault>
     ensures text { IfOk result (λ v. v.items ≡ generated_text seed jobs machines) }
     ensures limit { (result ≡ Err GenFault.Limit) ↔ (are_within jobs machines ≡ false) }
