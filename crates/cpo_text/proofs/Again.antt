@@ -1,29 +1,23 @@
 -- What is spelled as a statement is read as that statement.
-use Rattle.std.proofs.Common.{◌≡◌, ℕ, zero, suc, ◌+◌, ◌<◌, ◌≤◌, ◌==◌, Bool, true, false, ◌&&◌, ◌||◌, not, cond, List, [], ◌∷◌, ◌++◌, length, map, Option, Some, None, refl, sym, ap, subst, ◌∙◌, arith, append_assoc, length-append}
-use Rattle.std.specs.Prelude.{codes, bytes_eq}
-use Rattle.std.specs.List.{list_all, list_any}
-use Rattle.std.proofs.lemmas.Bool.Decides.{nat_tests}
-use Rattle.cpo_text.specs.Words.{Word, is_sign, size_word, between, commas, round, call}
-use Rattle.cpo_text.specs.Words.Word.{name, number, large, sign}
-use Rattle.cpo_text.specs.Spelling.{int_words, minus_words, int_items, to_words, range_words, name_words, ivarg_words, ivarg_sort, are_distinct, definition_words, temporal_word, constraint_words, logic_words, sense_word, statement_body, spelling, is_formed}
-use Rattle.cpo_text.specs.Rules.{Found, bound, behind, if_behind, name_at, size_at, signed_at, int_at, int_behind, range_at, given_at, ivarg_of, ivarg_at, has_sort, ivargs_more, ivargs_at, interval_at, definition_at, between_at, enclosed_at, logic_at, aim_at, called_at, body_at, statement_at}
+use Rattle.std.proofs.Common.{◌≡◌, ℕ, zero, suc, ◌<◌, ◌==◌, Bool, true, false, ◌&&◌, ◌||◌, not, List, [], ◌∷◌, ◌++◌, length, Option, Some, None, refl, sym, ap, subst, ◌∙◌, arith, append_assoc, length-append}
+use Rattle.std.specs.Prelude.{codes}
+use Rattle.std.specs.List.{list_all}
+use Rattle.cpo_text.specs.Words.{Word, size_word, commas, round}
+use Rattle.cpo_text.specs.Words.Word.{sign}
+use Rattle.cpo_text.specs.Spelling.{int_words, minus_words, int_items, to_words, range_words, name_words, ivarg_words, ivarg_sort, are_distinct, definition_words, logic_words, spelling, is_formed}
+use Rattle.cpo_text.specs.Rules.{behind, size_at, signed_at, int_at, int_behind, range_at, given_at, ivarg_of, ivarg_at, has_sort, ivargs_more, ivargs_at, interval_at, definition_at, between_at, enclosed_at, logic_at, aim_at, called_at, body_at, statement_at}
 use Rattle.cpo_text.specs.declared.tree.Int.{Int}
 use Rattle.cpo_text.specs.declared.tree.Range.{Range}
 use Rattle.cpo_text.specs.declared.tree.Ivarg.{Ivarg}
 use Rattle.cpo_text.specs.declared.tree.Ivarg.TheVariants.{Start, End, Size}
-use Rattle.cpo_text.specs.declared.tree.Definition.{Definition}
 use Rattle.cpo_text.specs.declared.tree.Definition.TheVariants.{IntervalVar}
-use Rattle.cpo_text.specs.declared.tree.Temporal.{Temporal}
 use Rattle.cpo_text.specs.declared.tree.Temporal.TheVariants.{EndBeforeStart}
-use Rattle.cpo_text.specs.declared.tree.Constrained.{Constrained}
 use Rattle.cpo_text.specs.declared.tree.Constrained.TheVariants.{Between}
-use Rattle.cpo_text.specs.declared.tree.Sense.{Sense}
 use Rattle.cpo_text.specs.declared.tree.Sense.TheVariants.{Minimize}
-use Rattle.cpo_text.specs.declared.tree.Logic.{Logic}
 use Rattle.cpo_text.specs.declared.tree.Logic.TheVariants.{EndOf}
 use Rattle.cpo_text.specs.declared.tree.Statement.{Statement}
 use Rattle.cpo_text.specs.declared.tree.Statement.TheVariants.{Empty, Define, Constrain, Aim}
-use Rattle.cpo_text.proofs.Binds.{both, behind_again}
+use Rattle.cpo_text.proofs.Binds.{behind_again}
 use Rattle.cpo_text.proofs.Takes.{behind_words, ivarg_long}
 use Rattle.cpo_text.proofs.Spelt.{sorts, args_words}
 

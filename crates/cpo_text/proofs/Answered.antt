@@ -1,11 +1,10 @@
 -- What the scan finds is what a text has.
-use Rattle.std.proofs.Common.{◌≡◌, ℕ, ◌+◌, ◌<◌, ◌≤◌, Bool, List, [], length, drop, refl, sym, ap, subst, ◌∙◌}
+use Rattle.std.proofs.Common.{◌≡◌, ℕ, ◌+◌, ◌<◌, ◌≤◌, Bool, List, [], length, drop, refl, subst}
 use Rattle.cpo_text.specs.declared.text.Refusal.{Refusal}
-use Rattle.cpo_text.specs.declared.text.Reading.{Reading}
 use Rattle.cpo_text.specs.Tokens.{ArePieces, NonePiece, HasTokens, HasBadByte, has_comment}
-use Rattle.cpo_text.specs.Runs.{runs, ended}
-use Rattle.cpo_text.specs.Lexing.{piece_at, pieces, rest, tokens_from}
-use Rattle.cpo_text.specs.Reads.{IsRefused, IsRead, AreReadings}
+use Rattle.cpo_text.specs.Runs.{ended}
+use Rattle.cpo_text.specs.Lexing.{pieces, rest, tokens_from}
+use Rattle.cpo_text.specs.Reads.{IsRefused}
 use Rattle.cpo_text.specs.Reads.IsRefused.{bad_byte}
 use Rattle.cpo_text.proofs.Covers.{none_of}
 use Rattle.cpo_text.proofs.Walks.{pieces_are, rest_none}

@@ -1,13 +1,13 @@
 -- A piece at the front is no longer than the one that is computed, and is that one where it is as long.
-use Rattle.std.proofs.Common.{◌≡◌, ℕ, zero, suc, ◌+◌, ◌<◌, ◌≤◌, ◌==◌, Bool, true, false, ◌&&◌, ◌||◌, cond, List, [], ◌∷◌, ◌++◌, length, take, drop, option_map, Option, Some, None, refl, sym, ap, subst, ◌∙◌, arith, append_assoc, length-append}
+use Rattle.std.proofs.Common.{◌≡◌, ℕ, zero, suc, ◌+◌, ◌<◌, ◌≤◌, ◌==◌, Bool, true, false, ◌&&◌, List, [], ◌∷◌, ◌++◌, length, take, drop, Option, Some, None, refl, sym, ap, subst, ◌∙◌, arith, append_assoc, length-append}
 use Rattle.std.specs.List.{list_all, prefix_len}
 use Rattle.std.proofs.lemmas.Bool.Decides.{nat_tests}
 use Rattle.std.proofs.lemmas.List.{take-append-drop}
 use Rattle.cpo_text.specs.declared.piece.Piece.{Piece}
 use Rattle.cpo_text.specs.declared.piece.Piece.TheVariants.{Name, Int, Sign, Quoted, Blank, Line, Block}
 use Rattle.cpo_text.specs.Tokens.{is_letter, is_digit, is_name_byte, is_blank, is_sign_byte, is_sign_pair, is_on_line, is_quotable, begins, has_close, IsPiece, IsAtFront, IsLongest, NonePiece}
-use Rattle.cpo_text.specs.Lexing.{quote_len, close_len, slash_at, sign_at, piece_from, piece_at}
-use Rattle.cpo_text.proofs.Classes.{either, some_same, IsPlain, digit_no_letter, blank_no_letter, blank_no_digit, sign_plain, pair_plain, pair_no_slash, prefix_passes, prefix_most}
+use Rattle.cpo_text.specs.Lexing.{slash_at, sign_at, piece_from, piece_at}
+use Rattle.cpo_text.proofs.Classes.{either, some_same, digit_no_letter, blank_no_letter, blank_no_digit, sign_plain, pair_plain, pair_no_slash, prefix_most}
 use Rattle.cpo_text.proofs.Fronts.{IsFound, piece_found, quote_again, close_again}
 
 pub record Covers (bs : List ℕ) (p : Piece) (m : ℕ) : Type 0 where

@@ -1,5 +1,5 @@
 -- A text has one list of pieces, and so one list of tokens or one bad byte; each run of tokens has one reading.
-use Rattle.std.proofs.Common.{◌≡◌, ◌⊎◌, inl, inr, ℕ, zero, suc, ◌+◌, ◌-◌, ◌<◌, ◌≤◌, Bool, true, false, List, [], ◌∷◌, ◌++◌, length, drop, Option, Some, None, refl, sym, ap, subst, ◌∙◌, arith, length-drop, append-nil}
+use Rattle.std.proofs.Common.{◌≡◌, ◌⊎◌, inl, inr, ℕ, ◌+◌, ◌<◌, Bool, List, [], ◌∷◌, length, drop, Option, Some, None, refl, sym, ap, ◌∙◌, arith, length-drop, append-nil}
 use Rattle.std.proofs.lemmas.List.{drop-drop}
 use Rattle.cpo_text.specs.declared.piece.Piece.{Piece}
 use Rattle.cpo_text.specs.declared.tree.Statement.{Statement}
@@ -7,12 +7,12 @@ use Rattle.cpo_text.specs.declared.text.Form.{Form}
 use Rattle.cpo_text.specs.declared.text.Form.TheVariants.{Tree as Parsed, Number}
 use Rattle.cpo_text.specs.declared.text.Reading.{Reading}
 use Rattle.cpo_text.specs.Words.{Word}
-use Rattle.cpo_text.specs.Tokens.{Token, tokens_of, ArePieces, NonePiece, HasTokens, HasBadByte, has_comment}
-use Rattle.cpo_text.specs.Runs.{words_of, early, has_large}
+use Rattle.cpo_text.specs.Tokens.{Token, tokens_of, ArePieces, HasTokens, HasBadByte, has_comment}
+use Rattle.cpo_text.specs.Runs.{words_of, early}
 use Rattle.cpo_text.specs.Spelling.{IsStatement, spelling}
-use Rattle.cpo_text.specs.Rules.{Found, statement_at}
+use Rattle.cpo_text.specs.Rules.{statement_at}
 use Rattle.cpo_text.specs.Lexing.{pieces, rest, tokens_from}
-use Rattle.cpo_text.specs.Reads.{IsGrammatical, DeservesNumber, HasForm, AreReadings}
+use Rattle.cpo_text.specs.Reads.{DeservesNumber, HasForm}
 use Rattle.cpo_text.specs.Laws.{PiecesAreDetermined, TokensAreDetermined, BadByteIsDetermined, EveryTextHasTokensOrBadByte, NotBoth, StatementsAreDetermined, ReadingsAreDetermined}
 use Rattle.cpo_text.proofs.Binds.{some_same, some_pair, both}
 use Rattle.cpo_text.proofs.Walks.{pieces_are, pieces_only, none_at_end}

@@ -1,15 +1,15 @@
 -- The first run of some tokens, and a statement read at its beginning.
-use Rattle.std.proofs.Common.{◌≡◌, ◌⊎◌, inl, inr, ℕ, suc, ◌+◌, ◌<◌, ◌≤◌, Bool, true, false, ◌||◌, cond, List, [], ◌∷◌, ◌++◌, length, map, Option, Some, None, refl, sym, ap, subst, ◌∙◌, arith, append_assoc}
+use Rattle.std.proofs.Common.{◌≡◌, ℕ, ◌<◌, ◌≤◌, Bool, true, false, ◌||◌, cond, List, [], ◌∷◌, ◌++◌, length, Option, Some, None, refl, sym, ap, ◌∙◌, arith, append_assoc}
 use Rattle.std.specs.Prelude.{codes}
 use Rattle.std.specs.List.{list_any}
 use Rattle.std.proofs.lemmas.List.Folds.{list_any-append}
-use Rattle.cpo_text.specs.Words.{Word, is_sign, size_word, between, commas, round, call}
-use Rattle.cpo_text.specs.Words.Word.{name, sign}
+use Rattle.cpo_text.specs.Words.{Word, is_sign, size_word}
+use Rattle.cpo_text.specs.Words.Word.{sign}
 use Rattle.cpo_text.specs.Tokens.{Token}
 use Rattle.cpo_text.specs.Runs.{is_end, before_runs, runs, words_of, offset}
 use Rattle.cpo_text.specs.Surveys.{first_run, after_run}
-use Rattle.cpo_text.specs.Spelling.{int_words, minus_words, int_items, name_words, to_words, range_words, ivarg_words, definition_words, statement_body, spelling, is_formed, IsStatement}
-use Rattle.cpo_text.specs.Rules.{Found, statement_at}
+use Rattle.cpo_text.specs.Spelling.{int_words, minus_words, to_words, range_words, ivarg_words, statement_body, spelling, IsStatement}
+use Rattle.cpo_text.specs.Rules.{statement_at}
 use Rattle.cpo_text.specs.Reads.{IsGrammatical}
 use Rattle.cpo_text.specs.declared.tree.Int.{Int}
 use Rattle.cpo_text.specs.declared.tree.Range.{Range}

@@ -1,8 +1,8 @@
 -- What a statement's words deserve, and readings run by run.
-use Rattle.std.proofs.Common.{◌≡◌, ◌⊎◌, inl, inr, ℕ, ◌+◌, ◌<◌, ◌≤◌, Bool, true, false, List, [], ◌∷◌, ◌++◌, length, Option, Some, None, refl, sym, ap, subst, ◌∙◌, append_assoc, append-nil}
+use Rattle.std.proofs.Common.{◌≡◌, inl, inr, ℕ, ◌<◌, Bool, true, false, List, [], ◌∷◌, ◌++◌, length, Option, Some, None, refl, sym, ap, subst, ◌∙◌, append_assoc, append-nil}
 use Rattle.cpo_text.specs.Words.{Word}
 use Rattle.cpo_text.specs.Tokens.{Token}
-use Rattle.cpo_text.specs.Runs.{runs, words_of, offset, early, has_large}
+use Rattle.cpo_text.specs.Runs.{runs, words_of, early, has_large}
 use Rattle.cpo_text.specs.Surveys.{first_run, after_run, unsurveyed, surveyed, early_of}
 use Rattle.cpo_text.specs.Rules.{statement_at}
 use Rattle.cpo_text.specs.Reads.{DeservesNumber, HasForm, AreReadings}

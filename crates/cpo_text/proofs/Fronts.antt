@@ -1,14 +1,14 @@
 -- The piece that is computed is at the front, and whatever else is there is no longer.
-use Rattle.std.proofs.Common.{◌≡◌, ℕ, zero, suc, ◌+◌, ◌<◌, ◌≤◌, ◌==◌, Bool, true, false, ◌&&◌, ◌||◌, not, cond, List, [], ◌∷◌, ◌++◌, length, take, drop, option_map, Option, Some, None, refl, sym, ap, subst, ◌∙◌, arith}
+use Rattle.std.proofs.Common.{◌≡◌, ℕ, zero, suc, ◌+◌, ◌<◌, ◌≤◌, ◌==◌, Bool, true, false, ◌&&◌, ◌||◌, not, List, [], ◌∷◌, ◌++◌, length, take, option_map, Option, Some, None, refl, sym, ap, arith}
 use Rattle.std.specs.Prelude.{⊤}
 use Rattle.std.specs.List.{list_all, prefix_len}
 use Rattle.std.proofs.lemmas.List.Sums.{prefix_len-le-length}
 use Rattle.std.proofs.lemmas.Bool.Decides.{nat_tests}
 use Rattle.cpo_text.specs.declared.piece.Piece.{Piece}
-use Rattle.cpo_text.specs.declared.piece.Piece.TheVariants.{Name, Int, Sign, Quoted, Blank, Line, Block}
-use Rattle.cpo_text.specs.Tokens.{is_letter, is_digit, is_name_byte, is_blank, is_sign_byte, is_sign_pair, is_on_line, is_quotable, begins, has_close, IsPiece, IsAtFront, IsLongest, NonePiece}
+use Rattle.cpo_text.specs.declared.piece.Piece.TheVariants.{Name, Int, Quoted, Blank, Line, Block}
+use Rattle.cpo_text.specs.Tokens.{is_letter, is_digit, is_name_byte, is_blank, is_sign_byte, is_sign_pair, is_on_line, is_quotable, begins, has_close, IsAtFront}
 use Rattle.cpo_text.specs.Lexing.{quote_len, close_len, slash_at, sign_at, piece_from, piece_at}
-use Rattle.cpo_text.proofs.Classes.{either, some_same, IsPlain, digit_no_letter, blank_no_letter, blank_no_digit, sign_plain, pair_plain, pair_no_slash, prefix_passes, prefix_most}
+use Rattle.cpo_text.proofs.Classes.{either, prefix_passes}
 
 -- what is computed is a piece at the front, of one byte at least
 abbrev pub IsFound : List ℕ → Option (Piece × ℕ) → Type 0

@@ -1,11 +1,11 @@
 -- The list of arguments: how its reading goes on, and that its fuel is of no matter.
-use Rattle.std.proofs.Common.{◌≡◌, ℕ, zero, suc, ◌+◌, ◌<◌, ◌≤◌, ◌==◌, Bool, true, false, cond, List, [], ◌∷◌, ◌++◌, length, map, Option, Some, None, refl, sym, ap, ◌∙◌, arith}
+use Rattle.std.proofs.Common.{◌≡◌, ℕ, zero, suc, ◌<◌, ◌≤◌, true, false, cond, List, [], ◌∷◌, ◌++◌, length, Option, Some, None, refl, sym, ap, ◌∙◌, arith}
 use Rattle.std.specs.Prelude.{codes, Err}
 use Rattle.cpo_text.specs.Gives.{Gives}
 use Rattle.cpo_text.specs.declared.fault.Fault.{Fault}
 use Rattle.cpo_text.specs.declared.fault.Fault.TheVariants.{Outside, NoMemory}
 use Rattle.cpo_text.specs.Words.{Word}
-use Rattle.cpo_text.specs.Rules.{Found, bound, behind, if_behind, name_at, ivarg_at, has_sort, ivargs_more, ivargs_at}
+use Rattle.cpo_text.specs.Rules.{Found, bound, behind, if_behind, ivarg_at, has_sort, ivargs_more, ivargs_at}
 use Rattle.cpo_text.specs.declared.tree.Ivarg.{Ivarg}
 use Rattle.cpo_text.proofs.Takes.{ivarg_shorter, behind_shorter}
 

@@ -1,10 +1,9 @@
 -- One piece further, as the scan for bad bytes counts it.
-use Rattle.std.proofs.Common.{◌≡◌, ℕ, ◌+◌, ◌<◌, ◌≤◌, Bool, true, false, ◌||◌, cond, List, [], ◌∷◌, length, take, drop, Option, Some, None, refl, sym, ap, ◌∙◌, arith}
+use Rattle.std.proofs.Common.{◌≡◌, ℕ, ◌+◌, ◌≤◌, Bool, true, false, ◌||◌, cond, List, [], length, take, drop, Option, Some, None, refl, sym, ap, ◌∙◌, arith}
 use Rattle.std.proofs.lemmas.List.{drop-drop, drop_all}
 use Rattle.std.proofs.lemmas.List.Sums.{sum_by-cons}
 use Rattle.cpo_text.specs.declared.piece.Piece.{Piece}
-use Rattle.cpo_text.specs.Words.{Word, is_sign, size_word}
-use Rattle.cpo_text.specs.Words.Word.{sign}
+use Rattle.cpo_text.specs.Words.{Word}
 use Rattle.cpo_text.specs.Tokens.{Token, word_of, put, is_comment, has_comment}
 use Rattle.cpo_text.specs.Runs.{ended, is_end}
 use Rattle.cpo_text.specs.Lexing.{piece_at, pieces, rest, tokens_from, says_end}

@@ -1,15 +1,13 @@
 -- What is read as a statement is the spelling of that statement.
-use Rattle.std.proofs.Common.{◌≡◌, ℕ, zero, suc, ◌+◌, ◌<◌, ◌≤◌, ◌==◌, Bool, true, false, ◌&&◌, ◌||◌, not, cond, List, [], ◌∷◌, ◌++◌, length, map, Option, Some, None, refl, sym, ap, subst, ◌∙◌, arith, append_assoc}
+use Rattle.std.proofs.Common.{◌≡◌, ℕ, zero, suc, ◌==◌, Bool, true, false, ◌&&◌, ◌||◌, not, cond, List, [], ◌∷◌, ◌++◌, length, map, Option, Some, None, refl, sym, ap, subst, ◌∙◌, append_assoc}
 use Rattle.std.specs.Prelude.{codes, bytes_eq}
-use Rattle.std.specs.List.{list_all, list_any}
-use Rattle.std.proofs.lemmas.Bool.Decides.{nat_tests}
-use Rattle.cpo_text.specs.Words.{Word, is_sign, between, commas, round, call}
+use Rattle.std.specs.List.{list_all}
+use Rattle.cpo_text.specs.Words.{Word, commas, round}
 use Rattle.cpo_text.specs.Words.Word.{name, sign}
 use Rattle.cpo_text.specs.Spelling.{int_words, int_items, name_words, ivarg_words, ivarg_sort, are_distinct, definition_words, temporal_word, constraint_words, logic_words, sense_word, statement_body, spelling, is_formed}
 use Rattle.cpo_text.specs.Rules.{Found, bound, behind, if_behind, name_at, int_behind, ivarg_at, has_sort, ivargs_more, ivargs_at, interval_at, definition_at, between_at, enclosed_at, logic_at, aim_at, called_at, body_at, statement_at}
 use Rattle.cpo_text.specs.declared.tree.Int.{Int}
 use Rattle.cpo_text.specs.declared.tree.Ivarg.{Ivarg}
-use Rattle.cpo_text.specs.declared.tree.Ivarg.TheVariants.{Start, End, Size}
 use Rattle.cpo_text.specs.declared.tree.Definition.{Definition}
 use Rattle.cpo_text.specs.declared.tree.Definition.TheVariants.{IntervalVar}
 use Rattle.cpo_text.specs.declared.tree.Temporal.{Temporal}
@@ -22,7 +20,7 @@ use Rattle.cpo_text.specs.declared.tree.Logic.{Logic}
 use Rattle.cpo_text.specs.declared.tree.Logic.TheVariants.{EndOf}
 use Rattle.cpo_text.specs.declared.tree.Statement.{Statement}
 use Rattle.cpo_text.specs.declared.tree.Statement.TheVariants.{Empty, Define, Constrain, Aim}
-use Rattle.cpo_text.proofs.Binds.{Bound, both, bound_parts, Needed, need_parts, some_same, some_pair, bytes_same, behind_takes, name_takes}
+use Rattle.cpo_text.proofs.Binds.{both, bound_parts, need_parts, some_pair, bytes_same, behind_takes, name_takes}
 use Rattle.cpo_text.proofs.Takes.{behind_words, int_behind_takes, ivarg_takes}
 
 -- kinds of arguments

@@ -1,12 +1,11 @@
 -- One piece further in a text.
-use Rattle.std.proofs.Common.{◌≡◌, ℕ, ◌+◌, ◌<◌, ◌≤◌, List, [], ◌∷◌, length, take, drop, Option, Some, None, option_map, refl, sym, ap, subst, ◌∙◌, arith}
+use Rattle.std.proofs.Common.{◌≡◌, ℕ, ◌+◌, ◌≤◌, List, [], ◌∷◌, length, take, drop, Some, None, refl, sym, ap, ◌∙◌}
 use Rattle.std.proofs.lemmas.List.{drop-drop, at_drop_all}
 use Rattle.cpo_text.specs.declared.piece.Piece.{Piece}
-use Rattle.cpo_text.specs.Words.{Word}
-use Rattle.cpo_text.specs.Tokens.{Token, word_of, put}
+use Rattle.cpo_text.specs.Tokens.{word_of, put}
 use Rattle.cpo_text.specs.Lexing.{piece_at, tokens_from}
 use Rattle.cpo_text.specs.Places.{said_word}
-use Rattle.cpo_text.specs.declared.word.Said.{Said}
+use Rattle.cpo_text.specs.declared.word.Word.{Word as Said}
 use Rattle.cpo_text.proofs.Walks.{tokens_step, tokens_stop, at_end}
 
 pub no_tokens : (at : ℕ) (text rest : List ℕ) → rest ≡ drop at text → None ≡ piece_at rest → tokens_from at (drop at text) ≡ []

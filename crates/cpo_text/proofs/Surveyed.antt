@@ -1,12 +1,11 @@
 -- What is counted from word to word is what the early tests ask of the first run.
-use Rattle.std.proofs.Common.{◌≡◌, ℕ, ◌+◌, Bool, true, false, ◌||◌, cond, List, [], ◌∷◌, map, Option, Some, None, refl, sym, ap, ◌∙◌, arith}
-use Rattle.std.specs.Prelude.{ℤ, pos, ◌+ℤ◌, int_lt, nat_lt, count_by}
-use Rattle.std.specs.List.{list_any}
+use Rattle.std.proofs.Common.{◌≡◌, ◌+◌, Bool, true, false, ◌||◌, cond, List, [], ◌∷◌, refl, sym, ap, ◌∙◌, arith}
+use Rattle.std.specs.Prelude.{pos, ◌+ℤ◌, int_lt, count_by}
 use Rattle.std.proofs.lemmas.List.Sums.{sum_by-cons}
 use Rattle.cpo_text.specs.Words.{Word}
 use Rattle.cpo_text.specs.Tokens.{Token}
-use Rattle.cpo_text.specs.Runs.{is_end, words_of, is_left_out, has_left_out, turn, is_deep, is_nesting, has_many_nestings, is_large, has_large, early}
-use Rattle.cpo_text.specs.Surveys.{first_run, after_run, unsurveyed, noted, surveyed, is_too_nested, early_of}
+use Rattle.cpo_text.specs.Runs.{is_end, words_of, is_left_out, has_left_out, turn, is_deep, is_nesting, is_large, has_large, early}
+use Rattle.cpo_text.specs.Surveys.{first_run, after_run, unsurveyed, noted, surveyed, early_of}
 use Rattle.cpo_text.specs.declared.survey.Survey.{Survey}
 
 abbrev noted_all : Survey → List Word → Survey

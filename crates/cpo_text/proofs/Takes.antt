@@ -1,16 +1,15 @@
 -- What a rule takes is spelled so.
-use Rattle.std.proofs.Common.{◌≡◌, ℕ, zero, suc, ◌+◌, ◌<◌, ◌≤◌, ◌==◌, Bool, true, false, ◌&&◌, ◌||◌, not, cond, List, [], ◌∷◌, ◌++◌, length, map, Option, Some, None, refl, sym, ap, ◌∙◌, arith, append_assoc, length-append}
+use Rattle.std.proofs.Common.{◌≡◌, ℕ, ◌<◌, Bool, true, false, cond, List, [], ◌∷◌, ◌++◌, length, Option, Some, None, refl, sym, ap, ◌∙◌, arith, append_assoc, length-append}
 use Rattle.std.specs.Prelude.{codes, bytes_eq}
-use Rattle.std.specs.List.{list_all, list_any}
-use Rattle.cpo_text.specs.Words.{Word, is_sign, size_word, between, commas}
+use Rattle.cpo_text.specs.Words.{Word, size_word}
 use Rattle.cpo_text.specs.Words.Word.{name, number, large, sign, quoted}
-use Rattle.cpo_text.specs.Spelling.{int_words, minus_words, to_words, range_words, given, ivarg_words, ivarg_sort, are_distinct}
-use Rattle.cpo_text.specs.Rules.{Found, bound, behind, if_behind, name_at, size_at, signed_at, int_at, int_behind, range_at, given_at, ivarg_of, ivarg_at, has_sort, ivargs_more, ivargs_at}
+use Rattle.cpo_text.specs.Spelling.{int_words, to_words, range_words, given, ivarg_words}
+use Rattle.cpo_text.specs.Rules.{bound, behind, if_behind, name_at, size_at, signed_at, int_at, int_behind, range_at, given_at, ivarg_of, ivarg_at}
 use Rattle.cpo_text.specs.declared.tree.Int.{Int}
 use Rattle.cpo_text.specs.declared.tree.Range.{Range}
 use Rattle.cpo_text.specs.declared.tree.Ivarg.{Ivarg}
 use Rattle.cpo_text.specs.declared.tree.Ivarg.TheVariants.{Start, End, Size}
-use Rattle.cpo_text.proofs.Binds.{Bound, both, bound_parts, Needed, need_parts, some_same, some_pair, bytes_same, behind_takes, name_takes}
+use Rattle.cpo_text.proofs.Binds.{both, bound_parts, need_parts, some_pair, bytes_same, behind_takes, name_takes}
 
 size_takes : (ws : List Word) (o : Option ℕ) (r : List Word) → size_at ws ≡ Some (o, r) → ws ≡ size_word o ∷ r
 size_takes [] o r h = cc

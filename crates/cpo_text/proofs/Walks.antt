@@ -1,8 +1,8 @@
 -- The pieces that are computed from place to place are the pieces of a text, and the only ones.
-use Rattle.std.proofs.Common.{◌≡◌, ℕ, zero, suc, ◌+◌, ◌-◌, ◌<◌, ◌≤◌, Bool, true, false, List, [], ◌∷◌, length, take, drop, Option, Some, None, refl, sym, ap, subst, ◌∙◌, arith, length-drop}
+use Rattle.std.proofs.Common.{◌≡◌, ℕ, zero, suc, ◌+◌, ◌-◌, ◌<◌, ◌≤◌, List, [], ◌∷◌, length, take, drop, Option, Some, None, refl, sym, ap, subst, ◌∙◌, arith, length-drop}
 use Rattle.cpo_text.specs.declared.piece.Piece.{Piece}
-use Rattle.cpo_text.specs.Tokens.{IsAtFront, IsLongest, NonePiece, ArePieces, Token, tokens_of, put, word_of}
-use Rattle.cpo_text.specs.Lexing.{piece_at, pieces_from, pieces, rest_from, rest, after, rest_after, tokens_from}
+use Rattle.cpo_text.specs.Tokens.{NonePiece, ArePieces, put, word_of}
+use Rattle.cpo_text.specs.Lexing.{piece_at, pieces_from, pieces, rest_from, rest, tokens_from}
 use Rattle.cpo_text.proofs.Covers.{front_of, longest_of, none_of, within_of, only_longest}
 
 pieces_skip : (bs : List ℕ) (n : ℕ) → n ≤ length bs → pieces_from bs n ≡ pieces_from (drop n bs) 0

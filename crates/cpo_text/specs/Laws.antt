@@ -1,5 +1,5 @@
 -- Laws of reading: nothing in it is a choice.
-use Rattle.std.specs.Prelude.{◌≡◌, ◌⊎◌, ℕ, Bool, List, []}
+use Rattle.std.specs.Prelude.{◌≡◌, ◌⊎◌, ℕ, Bool, List}
 use Rattle.cpo_text.specs.Words.{Word}
 use Rattle.cpo_text.specs.Tokens.{Token, ArePieces, HasTokens, HasBadByte, NonePiece}
 use Rattle.cpo_text.specs.Spelling.{IsStatement}

@@ -1,5 +1,5 @@
 -- Pieces and tokens computed: between the relation on texts and the reader.
-use Rattle.std.specs.Prelude.{ℕ, zero, suc, ◌+◌, ◌-◌, ◌==◌, Bool, if◌then◌else◌, List, [], ◌∷◌, drop, Option, Some, None, option_map, bytes_eq, codes, false}
+use Rattle.std.specs.Prelude.{ℕ, zero, suc, ◌+◌, ◌-◌, ◌==◌, Bool, if◌then◌else◌, List, [], ◌∷◌, Option, Some, None, option_map, codes, false}
 use Rattle.std.specs.List.{prefix_len}
 use Rattle.cpo_text.specs.declared.piece.Piece.{Piece}
 use Rattle.cpo_text.specs.declared.piece.Piece.TheVariants.{Name, Int, Sign, Quoted, Blank, Line, Block}

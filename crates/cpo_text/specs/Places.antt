@@ -1,14 +1,13 @@
 -- What is left of a text at a place that the reader has reached.
-use Rattle.std.specs.Prelude.{ℕ, ◌≤◌, Bool, List, [], ◌∷◌, drop, Option, Some, None, IfSome}
+use Rattle.std.specs.Prelude.{List, [], ◌∷◌, drop, Option, Some, None}
 use Rattle.cpo_text.specs.Words.{Word, size_word}
 use Rattle.cpo_text.specs.Words.Word.{name, sign, quoted}
 use Rattle.cpo_text.specs.Tokens.{Token}
-use Rattle.cpo_text.specs.Runs.{words_of}
 use Rattle.cpo_text.specs.Lexing.{tokens_from}
 use Rattle.cpo_text.specs.declared.place.Place.{Place}
-use Rattle.cpo_text.specs.declared.word.Said.{Said}
-use Rattle.cpo_text.specs.declared.word.Said.TheVariants as said
-use Rattle.cpo_text.specs.declared.word.Read.{Read}
+use Rattle.cpo_text.specs.declared.word.Word.{Word as Said}
+use Rattle.cpo_text.specs.declared.word.Word.TheVariants as said
+use Rattle.cpo_text.specs.declared.word.Token.{Token as Read}
 
 abbrev pub said_word : Said → Word
 said_word (said.Name b) = name b.now

@@ -1,5 +1,5 @@
 -- What reading a text answers: a refusal of the whole text, or each statement as its words alone tell it.
-use Rattle.std.specs.Prelude.{◌≡◌, ◌⊎◌, ℕ, ◌+◌, ◌≤◌, ◌<◌, true, false, List, [], ◌∷◌, length, Option, Some, None, Result, Ok, Err, ⊤}
+use Rattle.std.specs.Prelude.{◌≡◌, ◌⊎◌, ℕ, ◌+◌, ◌≤◌, ◌<◌, true, false, List, [], ◌∷◌, length, Some, None, Result, Ok, Err, ⊤}
 use Rattle.cpo_text.specs.Words.{Word}
 use Rattle.cpo_text.specs.Tokens.{Token, HasTokens, HasBadByte}
 use Rattle.cpo_text.specs.Runs.{runs, words_of, ended, offset, early, has_large}

@@ -2,7 +2,7 @@
 use Rattle.std.specs.Prelude.{ℕ, zero, suc, ◌==◌, Bool, true, false, if◌then◌else◌, List, [], ◌∷◌, ◌++◌, length, codes, bytes_eq, Option, Some, None}
 use Rattle.std.specs.List.{list_any}
 use Rattle.cpo_text.specs.Words.{Word, is_sign}
-use Rattle.cpo_text.specs.Words.Word.{name, number, large, sign, quoted}
+use Rattle.cpo_text.specs.Words.Word.{name, number, large}
 use Rattle.cpo_text.specs.Spelling.{ivarg_sort}
 use Rattle.cpo_text.specs.declared.tree.Int.{Int}
 use Rattle.cpo_text.specs.declared.tree.Range.{Range}

@@ -3,7 +3,7 @@ use Rattle.std.specs.Prelude.{ℕ, Bool, true, false, ◌||◌, List, [], ◌∷
 use Rattle.std.specs.List.{list_any}
 use Rattle.cpo_text.specs.Tokens.{Token}
 use Rattle.cpo_text.specs.Words.{Word, is_sign, is_name_in}
-use Rattle.cpo_text.specs.Words.Word.{name, number, large, sign, quoted}
+use Rattle.cpo_text.specs.Words.Word.{large}
 
 abbrev pub is_end : Token → Bool
 is_end t = is_sign (codes ";") t.word

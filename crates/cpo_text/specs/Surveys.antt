@@ -1,5 +1,5 @@
 -- The first run of some tokens, and what the early tests ask of it, counted from word to word.
-use Rattle.std.specs.Prelude.{ℕ, ◌+◌, Bool, false, ◌||◌, List, [], ◌∷◌, if◌then◌else◌, cond, nat_lt, ℤ, pos, ◌+ℤ◌, int_lt, Option, Some, None}
+use Rattle.std.specs.Prelude.{ℕ, ◌+◌, Bool, false, ◌||◌, List, [], ◌∷◌, if◌then◌else◌, cond, nat_lt, pos, ◌+ℤ◌, int_lt, Option, Some, None}
 use Rattle.cpo_text.specs.Words.{Word}
 use Rattle.cpo_text.specs.Tokens.{Token}
 use Rattle.cpo_text.specs.Runs.{is_end, is_left_out, turn, is_nesting, is_large}

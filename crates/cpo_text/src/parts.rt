@@ -7,15 +7,15 @@ ghost use Rattle.cpo_text.specs.Gives.{ahead, Gives, GivesName, GivesPlace};
 use crate::fault::Fault;
 use crate::place::Place;
 use crate::tree::{Int, Range};
-use crate::word::Said;
+use crate::word::Word;
 use sched_base::{List, NoMemory};
 use std::alloc::Global;
 
-pub fn is_sign(sign: &[u8], word: Said<'_>) -> bool
+pub fn is_sign(sign: &[u8], word: Word<'_>) -> bool
     ensures { result ≡ is_sign sign.now (said_word word.entry) }
 {
     match word {
-        Said::Sign(bytes) => sign == bytes,
+        Word::Sign(bytes) => sign == bytes,
         _ => false,
     }
 }
@@ -49,7 +49,7 @@ pub fn name(place: Place<'_>) -> Result<(&[u8], Place<'_>), Fault>
 {
     match place.next() {
         Some((token, rest)) => match token.word {
-            Said::Name(bytes) => Ok((bytes, rest)),
+            Word::Name(bytes) => Ok((bytes, rest)),
             _ => Err(Fault::Outside),
         },
         None => Err(Fault::Outside),
@@ -62,7 +62,7 @@ fn size(place: Place<'_>) -> Result<(Option<u64>, Place<'_>), Fault>
 {
     match place.next() {
         Some((token, rest)) => match token.word {
-            Said::Number(value) => Ok((value, rest)),
+            Word::Number(value) => Ok((value, rest)),
             _ => Err(Fault::Outside),
         },
         None => Err(Fault::Outside),

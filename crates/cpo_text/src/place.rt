@@ -1,7 +1,7 @@
 ghost use Rattle.std.specs.Prelude.{◌≡◌, ◌<◌, ◌≤◌, length, IfSome};
 
 use crate::piece::piece_at;
-use crate::word::{Read, what_is_said};
+use crate::word::{Token, word_of};
 
 /// A place in a text that is no longer than its limit.
 #[derive(Clone, Copy, Debug)]
@@ -27,7 +27,7 @@ impl<'a> Place<'a> {
 
     /// The next token, and the place behind it.
     #[tactic(auto, using(crate::proofs::Walks::part_of))]
-    pub fn next(self) -> Option<(Read<'a>, Place<'a>)>
+    pub fn next(self) -> Option<(Token<'a>, Place<'a>)>
         ensures tokens { left self.entry ≡ in_front result }
         ensures later { IfSome result (λ x. (self.entry.at < x.1.at) × (x.1.at ≤ 16777216)) }
     {
@@ -40,8 +40,8 @@ impl<'a> Place<'a> {
                 text: self.text,
                 at: at + len,
             };
-            if let Some(word) = what_is_said(piece, bytes) {
-                return Some((Read { at, word }, behind));
+            if let Some(word) = word_of(piece, bytes) {
+                return Some((Token { at, word }, behind));
             }
             at += len;
         }

@@ -7,7 +7,7 @@ ghost use Rattle.cpo_text.specs.Surveys.{unsurveyed, noted, surveyed, after_run,
 
 use crate::parts::is_sign;
 use crate::place::Place;
-use crate::word::Said;
+use crate::word::Word;
 
 /// The most brackets that may be open at a place of a statement.
 const MOST_OPEN: i64 = 200;
@@ -58,23 +58,23 @@ fn is_one_of(name: &[u8], words: &[&[u8]]) -> bool
     words.iter().any(|word| name == *word)
 }
 
-fn is_left_out(word: Said<'_>) -> bool
+fn is_left_out(word: Word<'_>) -> bool
     ensures { result ≡ is_left_out (said_word word.entry) }
 {
     match word {
-        Said::Name(bytes) => is_one_of(bytes, &LEFT_OUT),
+        Word::Name(bytes) => is_one_of(bytes, &LEFT_OUT),
         _ => false,
     }
 }
 
-fn is_large(word: Said<'_>) -> bool
+fn is_large(word: Word<'_>) -> bool
     ensures { result ≡ is_large (said_word word.entry) }
 {
-    matches!(word, Said::Number(None))
+    matches!(word, Word::Number(None))
 }
 
 /// What a word adds to the brackets that are open.
-fn turn(word: Said<'_>) -> i64
+fn turn(word: Word<'_>) -> i64
     ensures is { result ≡ turn (said_word word.entry) }
     ensures low { neg_ℤ (pos 1) ≤ℤ result }
     ensures high { result ≤ℤ pos 1 }
@@ -95,7 +95,7 @@ fn is_deep(depth: i64) -> bool
 }
 
 /// The brackets that are open behind a word.
-fn turned(depth: i64, word: Said<'_>) -> i64
+fn turned(depth: i64, word: Word<'_>) -> i64
     requires low { neg_ℤ (pos 16777216) ≤ℤ depth }
     requires high { depth ≤ℤ pos 16777216 }
     ensures is { result ≡ depth +ℤ turn (said_word word.entry) }
@@ -106,7 +106,7 @@ fn turned(depth: i64, word: Said<'_>) -> i64
 }
 
 /// How many `!` and `=>` a word is: one or none.
-fn nesting(word: Said<'_>) -> u32
+fn nesting(word: Word<'_>) -> u32
     ensures is { result ≡ (if is_nesting (said_word word.entry) then 1 else 0) }
     ensures most { result ≤ 1 }
 {
@@ -119,7 +119,7 @@ fn nesting(word: Said<'_>) -> u32
 
 impl Survey {
     /// The survey with one word more.
-    fn noted(self, word: Said<'_>) -> Survey
+    fn noted(self, word: Word<'_>) -> Survey
         requires low { neg_ℤ (pos 16777216) ≤ℤ self.depth }
         requires high { self.depth ≤ℤ pos 16777216 }
         requires few { self.nestings ≤ 16777216 }

@@ -9,7 +9,7 @@ const LITERAL_LIMIT: u64 = 4_611_686_018_427_387_904;
 
 /// What a token says. A number above the bound on literals has no value.
 #[derive(Clone, Copy, Debug)]
-pub enum Said<'a> {
+pub enum Word<'a> {
     Name(&'a [u8]),
     Number(Option<u64>),
     Sign(&'a [u8]),
@@ -18,9 +18,9 @@ pub enum Said<'a> {
 
 /// A token that was read, with its offset.
 #[derive(Clone, Copy, Debug)]
-pub struct Read<'a> {
+pub struct Token<'a> {
     pub at: usize,
-    pub word: Said<'a>,
+    pub word: Word<'a>,
 }
 
 /// The value of some digits, where it is within the bound on literals.
@@ -40,14 +40,14 @@ fn value(digits: &[u8]) -> Option<u64>
 }
 
 /// What a piece of these bytes says, if anything.
-pub fn what_is_said(piece: Piece, bytes: &[u8]) -> Option<Said<'_>>
+pub fn word_of(piece: Piece, bytes: &[u8]) -> Option<Word<'_>>
     ensures { option_map said_word result ≡ word_of piece bytes.now }
 {
     match piece {
-        Piece::Name => Some(Said::Name(bytes)),
-        Piece::Int => Some(Said::Number(value(bytes))),
-        Piece::Sign => Some(Said::Sign(bytes)),
-        Piece::Quoted => Some(Said::Quoted),
+        Piece::Name => Some(Word::Name(bytes)),
+        Piece::Int => Some(Word::Number(value(bytes))),
+        Piece::Sign => Some(Word::Sign(bytes)),
+        Piece::Quoted => Some(Word::Quoted),
         Piece::Blank | Piece::Line | Piece::Block => None,
     }
 }

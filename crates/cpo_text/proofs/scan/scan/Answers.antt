@@ -1,9 +1,6 @@
-use Rattle.std.proofs.Common.{◌≡◌, ◌+◌, cond, refl, sym, ap, arith, ◌∙◌, length-drop}
-use Rattle.std.proofs.lemmas.Bool.Decides.{nat_tests}
+use Rattle.std.proofs.Common.{◌≡◌, refl, sym, arith, ◌∙◌}
 use Rattle.cpo_text.specs.Runs.{ended}
-use Rattle.cpo_text.specs.Lexing.{tokens_from, says_end}
-use Rattle.cpo_text.specs.Tokens.{word_of}
-use Rattle.cpo_text.specs.declared.text.Refusal.{Refusal}
+use Rattle.cpo_text.specs.Lexing.{tokens_from}
 use Rattle.cpo_text.proofs.Walks.{part_of}
 use Rattle.cpo_text.proofs.Scans.{turn_of, reach_turn, count_turn, comments_on, rest_at_end, comments_at_end, bad_here, none_ended}
 use Rattle.cpo_text.proofs.scan.scan.Goals as goal

@@ -1,4 +1,3 @@
-use Rattle.std.proofs.Common.{sym}
 use Rattle.cpo_text.specs.Gives.{ahead}
 use Rattle.cpo_text.specs.Places.{left}
 use Rattle.cpo_text.proofs.Forms.{early_number, outside_number, large_number, parsed}

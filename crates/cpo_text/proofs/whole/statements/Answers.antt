@@ -1,4 +1,4 @@
-use Rattle.std.proofs.Common.{refl, sym}
+use Rattle.std.proofs.Common.{refl}
 use Rattle.cpo_text.proofs.Forms.{readings_turn, readings_on, readings_end, behind_fewer}
 use Rattle.cpo_text.proofs.whole.statements.Goals as goal
 

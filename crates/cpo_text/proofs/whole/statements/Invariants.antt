@@ -1,4 +1,4 @@
-use Rattle.std.proofs.Common.{◌≡◌, ◌++◌, length, List}
+use Rattle.std.proofs.Common.{◌++◌, length, List}
 use Rattle.cpo_text.specs.declared.text.Reading.{Reading}
 use Rattle.cpo_text.specs.Runs.{runs}
 use Rattle.cpo_text.specs.Lexing.{tokens_from}

@@ -1,4 +1,4 @@
-use Rattle.std.proofs.Common.{refl, sym, ap, arith, ◌∙◌}
+use Rattle.std.proofs.Common.{refl, sym, arith, ◌∙◌}
 use Rattle.cpo_text.specs.Places.{left}
 use Rattle.cpo_text.proofs.Walks.{part_of}
 use Rattle.cpo_text.proofs.Steps.{no_tokens, end_tokens, said_step, silent_step}
