@@ -2,7 +2,7 @@ use crate::{ReadFault, Refusal, Tree, elaborate};
 use cpo_text::{
     Constrained, Definition, Form, Int, Ivarg, Logic, Range, Reading, Sense, Statement, Temporal,
 };
-use sched_base::{List, NoMemory};
+use sched_base::{List, NoMemory, at};
 use sched_model::{Constraint, End, Expr, Itv};
 use std::alloc::Global;
 use std::test::Fail;
@@ -212,20 +212,22 @@ fn makes_a_model(rt: HostRuntime) -> Result<(), Fail> {
         commented: false,
     };
     let model = elaborate(alloc, &tree)?;
-    let first = &model.intervals()[0];
-    assert_eq!(rt; first.name.as_slice(), b"a".as_slice());
+    let first = at(model.intervals(), 0);
+    assert_eq!(rt; first.map(|d| d.name.as_slice()), Some(b"a".as_slice()));
+    assert_eq!(rt; first.map(|d| (d.start_lo, d.start_hi)), Some((0, 0)));
     assert_eq!(rt;
-        (first.start_lo, first.start_hi, first.end_hi),
-        (0, 0, 1_000_000_000)
+        first.map(|d| (d.end_lo, d.end_hi)),
+        Some((0, 1_000_000_000))
     );
     assert_eq!(rt;
-        (first.size_lo, first.size_hi, first.optional),
-        (1, 1, false)
+        first.map(|d| (d.size_lo, d.size_hi, d.optional)),
+        Some((1, 1, false))
     );
-    let second = &model.intervals()[1];
+    let second = at(model.intervals(), 1);
+    assert_eq!(rt; second.map(|d| (d.end_lo, d.end_hi)), Some((3, 9)));
     assert_eq!(rt;
-        (second.end_lo, second.end_hi, second.size_hi),
-        (3, 9, 1_000_000_000)
+        second.map(|d| (d.size_lo, d.size_hi)),
+        Some((0, 1_000_000_000))
     );
     let want = Constraint::Temporal {
         from: End::Finish,
