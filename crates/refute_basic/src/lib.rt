@@ -3,6 +3,7 @@
 
 mod basic;
 mod leaf;
+mod settled;
 mod spelling;
 mod witness;
 

@@ -3,9 +3,56 @@ ghost use Rattle.refute_basic.specs.Witness.{numbers_of, is_number, is_valid};
 ghost use Rattle.refute_basic.specs.declared.witness.BasicWitness.{BasicWitness};
 
 use crate::witness::BasicWitness;
+use region::Numbers;
+use sched_base::NoMemory;
+use std::alloc::Global;
+
+/// The place of LEAF among the kinds of this crate, which are SIZE, ARC, CYCLE, EXPR, OBJ and LEAF.
+const LEAF: i64 = 5;
+
+impl Numbers for BasicWitness {
+    ghost use Rattle.refute_basic.specs.Witness.{numbers_of, is_valid};
+    ghost use Rattle.refute_basic.specs.laws.Spelling.{few_numbers, small_numbers, told_apart};
+
+    ghost numbers = { numbers_of };
+
+    ghost is_valid = { is_valid };
+
+    fn valid(&self) -> bool {
+        match *self {
+            BasicWitness::Leaf { k, u } => is_number(k) && is_number(u),
+        }
+    }
+
+    fn count(&self) -> usize {
+        match *self {
+            BasicWitness::Leaf { k: _, u: _ } => 3,
+        }
+    }
+
+    fn number(&self, i: usize) -> i64 {
+        match *self {
+            BasicWitness::Leaf { k, u } => match i {
+                0 => LEAF,
+                1 => i64::from(k),
+                _ => i64::from(u),
+            },
+        }
+    }
+
+    fn from_numbers(_: Global, list: &[i64]) -> Result<Option<BasicWitness>, NoMemory> {
+        Ok(read(list))
+    }
+
+    ghost few = { few_numbers };
+
+    ghost small = { small_numbers };
+
+    ghost told_apart = { told_apart };
+}
 
 /// Whether a log may hold the number: it may hold each.
-pub fn is_number(n: u32) -> bool
+fn is_number(n: u32) -> bool
     ensures { result ≡ is_number n }
 {
     u64::from(n) < 1 << 32
@@ -30,12 +77,12 @@ fn leaf(k: i64, u: i64) -> Option<BasicWitness>
 }
 
 /// The valid witness with these numbers.
-pub fn read(list: &[i64]) -> Option<BasicWitness>
+fn read(list: &[i64]) -> Option<BasicWitness>
     ensures some { IfSome result (λ w. (numbers_of w ≡ list.now) × IsTrue (is_valid w)) }
     ensures none { IfNone result ((w : BasicWitness) → IsTrue (is_valid w) → numbers_of w ≡ list.now → ⊥) }
 {
     match list {
-        [5, k, u] => leaf(*k, *u),
+        [LEAF, k, u] => leaf(*k, *u),
         _ => None,
     }
 }

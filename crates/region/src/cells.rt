@@ -238,3 +238,67 @@ impl Region {
         self.cells.len() as u64
     }
 }
+
+#[cfg(test)]
+mod tests {
+    use super::*;
+    use crate::types::{Bounds, Presence};
+    use sched_base::Itv;
+    use sched_model::IntervalDef;
+    use std::test::Fail;
+
+    const A: Itv = Itv(0);
+
+    /// An optional interval that starts in 0..3, ends in 1..5 and lasts 1 or 2.
+    fn one_interval(alloc: Global) -> Result<Model, NoMemory> {
+        let mut model = Model::new(alloc);
+        let def = IntervalDef {
+            name: List::from_vec(Vec::from_slice(alloc, b"a")?),
+            optional: true,
+            start_lo: 0,
+            start_hi: 3,
+            end_lo: 1,
+            end_hi: 5,
+            size_lo: 1,
+            size_hi: 2,
+        };
+        model.add_interval(def)?;
+        Ok(model)
+    }
+
+    /// The root, narrowed by one guess and one fact where these may be applied.
+    fn narrowed(region: &mut Region, g: Guess, f: Fact) -> Result<bool, NoMemory> {
+        if !region.splits(g) {
+            return Ok(false);
+        }
+        region.assume(g)?;
+        if !region.admits(f.0) {
+            return Ok(false);
+        }
+        region.learn(f)?;
+        Ok(true)
+    }
+
+    fn seen(look: &Look<'_>) -> Option<Bounds> {
+        if look.len() == 0 {
+            return None;
+        }
+        Some(look.bounds(A))
+    }
+
+    #[test]
+    fn narrows_and_goes_back(rt: HostRuntime) -> Result<(), Fail> {
+        let model = one_interval(rt.alloc())?;
+        let mut region = Region::root(rt.alloc(), &model)?;
+        let first = seen(&region.look(None, None));
+        region.save()?;
+        assert!(rt; narrowed(&mut region, Guess::Present(A), Fact(Guess::EndGe(A, 3)))?);
+        let now = seen(&region.look(None, None)).ok_or("none")?;
+        assert_eq!(rt; now.presence, Presence::Present);
+        assert_eq!(rt; now.emax, 2);
+        assert_eq!(rt; region.saves(), 1);
+        region.undo();
+        assert_eq!(rt; seen(&region.look(None, None)), first);
+        Ok(())
+    }
+}

@@ -1,6 +1,6 @@
 use Rattle.std.proofs.Common.{arith}
 use Rattle.std.proofs.lemmas.Int.{ints, to_z-of_z}
-use Rattle.refute_basic.proofs.leaf.is_at_least.Goals as goal
+use Rattle.refute_basic.proofs.settled.is_at_most.Goals as goal
 
 pub returns : goal.returns
 returns c = grind (arith, ints, to_z-of_z)
