@@ -3,4 +3,5 @@ pub mod Elaborated
 pub mod Judged
 pub mod Answers
 pub mod Deserves
+pub mod Laws
 pub mod Steps

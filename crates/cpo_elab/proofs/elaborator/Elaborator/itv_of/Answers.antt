@@ -1,4 +1,4 @@
-use Rattle.std.proofs.Common.{◌<◌, ◌^◌, arith}
+use Rattle.std.proofs.Common.{arith}
 use Rattle.cpo_elab.proofs.Ids.{small_id}
 use Rattle.cpo_elab.proofs.elaborator.Elaborator.itv_of.Goals as goal
 

@@ -1,0 +1,55 @@
+-- Every text deserves an answer, where each can be read or refused.
+use Rattle.std.proofs.Common.{◌≡◌, ◌⊎◌, inl, inr, ℕ, ◌+◌, ◌<◌, ◌≤◌, Bool, true, false, nat_lt, List, [], ◌∷◌, length, Option, Some, None, refl, arith}
+use Rattle.std.proofs.lemmas.Bool.Decides.{nat_tests}
+use Rattle.sched_model.specs.Data.{empty_model}
+use Rattle.cpo_text.specs.Words.{Word}
+use Rattle.cpo_text.specs.Tokens.{Token}
+use Rattle.cpo_text.specs.Runs.{runs, words_of, offset, ended, early, has_large}
+use Rattle.cpo_text.specs.Reads.{IsGrammatical, HasForm, AreReadings, text_limit}
+use Rattle.cpo_text.specs.Reads.IsRefused.{too_long, bad_byte}
+use Rattle.cpo_text.specs.declared.text.Form.{Form}
+use Rattle.cpo_text.specs.declared.text.Form.TheVariants.{Tree as Parsed, Number}
+use Rattle.cpo_text.specs.declared.text.Reading.{Reading}
+use Rattle.cpo_text.specs.declared.text.Tree.{Tree}
+use Rattle.cpo_elab.specs.Answers.{judged}
+use Rattle.cpo_elab.specs.Answers.Answer.{Refused}
+use Rattle.cpo_elab.specs.Deserves.Deserves.{unread, judgement}
+use Rattle.cpo_elab.specs.Laws.{ReadingIsTotal, SomeAnswer}
+
+abbrev Decided : List Word → Type 0
+Decided ws = IsGrammatical ws ⊎ (IsGrammatical ws → ⊥)
+
+form_of_statement : (ws : List Word) → early ws ≡ None → IsGrammatical ws → (b : Bool) → has_large ws ≡ b → (f : Form) × HasForm ws f
+form_of_statement ws none statement true above = (Number 3, inr (none, inr (refl, statement, above)))
+form_of_statement ws none statement false small = (Parsed statement.0, (none, statement.1, small))
+
+form_later : (ws : List Word) → early ws ≡ None → Decided ws → (f : Form) × HasForm ws f
+form_later ws none (inl statement) = form_of_statement ws none statement (has_large ws) refl
+form_later ws none (inr outside) = (Number 2, inr (none, inl (refl, outside)))
+
+form_by : (ws : List Word) → Decided ws → (o : Option ℕ) → early ws ≡ o → (f : Form) × HasForm ws f
+form_by ws decided (Some n) told = (Number n, inl told)
+form_by ws decided None none = form_later ws none decided
+
+readings : ((ws : List Word) → Decided ws) → (rs : List (List Token)) → (xs : List Reading) × AreReadings rs xs
+readings decide [] = ([], tt)
+readings decide (r ∷ rs) =
+    let form = form_by (words_of r) (decide (words_of r)) (early (words_of r)) refl in
+    let rest = readings decide rs in
+    (record { at = offset r; form = form.0 } ∷ rest.0, (refl, form.1, rest.1))
+
+long_or_short : (n m : ℕ) (b : Bool) → nat_lt n m ≡ b → (n < m) ⊎ (m ≤ n)
+long_or_short n m true h = inl (grind (arith, nat_tests))
+long_or_short n m false h = inr (grind (arith, nat_tests))
+
+pub some_answer : ReadingIsTotal → SomeAnswer
+some_answer laws text = elim (long_or_short text_limit (length text) (nat_lt text_limit (length text)) refl) [
+  | inl above ↦ (Refused (record { number = 11; statement = 0; at = text_limit }), unread _ (too_long above refl) refl)
+  | inr short ↦ elim (laws.bytes text) [
+    | inl read ↦
+        let found = readings laws.grammar (runs read.0) in
+        let tree : Tree = record { statements = found.0; commented = read.1 } in
+        (judged empty_model 1 found.0, judgement tree (record { short = short; tokens = read.0; are = read.2; readings = found.1 }) refl)
+    | inr bad ↦ (Refused (record { number = 1; statement = 1 + ended bad.0; at = bad.1 }), unread _ (bad_byte bad.0 bad.1 short bad.2 refl) refl)
+  ]
+]

@@ -1,0 +1,59 @@
+-- Laws of what a text deserves.
+use Rattle.std.specs.Prelude.{◌≡◌, ◌⊎◌, ℕ, ◌≤◌, Bool, true, not, ◌&&◌, List, length, IsTrue}
+use Rattle.std.specs.List.{list_all}
+use Rattle.cpo_text.specs.Words.{Word}
+use Rattle.cpo_text.specs.Tokens.{Token, HasTokens}
+use Rattle.cpo_text.specs.Runs.{words_of}
+use Rattle.cpo_text.specs.Reads.{IsRead, IsGrammatical, text_limit}
+use Rattle.cpo_text.specs.Laws.{TokensAreDetermined, BadByteIsDetermined, NotBoth, StatementsAreDetermined, EveryTextHasTokensOrBadByte}
+use Rattle.cpo_text.specs.declared.text.Form.{Form}
+use Rattle.cpo_text.specs.declared.text.Form.TheVariants.{Tree as Parsed, Number}
+use Rattle.cpo_text.specs.declared.text.Tree.{Tree}
+use Rattle.cpo_elab.specs.Judged.{is_misspelt, has_large_literal}
+use Rattle.cpo_elab.specs.Answers.{Answer}
+use Rattle.cpo_elab.specs.Answers.Answer.{Refused, Accepted}
+use Rattle.cpo_elab.specs.Deserves.{Deserves, DeservesServed}
+
+-- nothing in the reading of a text is a choice
+pub record ReadingIsDetermined : Type 0 where
+  pub tokens : TokensAreDetermined
+  pub bad_byte : BadByteIsDetermined
+  pub not_both : NotBoth
+  pub statements : StatementsAreDetermined
+
+-- and every text can be read or refused
+pub record ReadingIsTotal : Type 0 where
+  pub bytes : EveryTextHasTokensOrBadByte
+  pub grammar : (ws : List Word) → IsGrammatical ws ⊎ (IsGrammatical ws → ⊥)
+
+-- two answers that a text deserves are one
+abbrev pub AtMostOneAnswer : Type 0
+AtMostOneAnswer = (text : List ℕ) (a b : Answer) → Deserves text a → Deserves text b → a ≡ b
+
+abbrev pub AtMostOneServed : Type 0
+AtMostOneServed = (text : List ℕ) (a b : Answer) → DeservesServed text a → DeservesServed text b → a ≡ b
+
+-- each text deserves one
+abbrev pub SomeAnswer : Type 0
+SomeAnswer = (text : List ℕ) → (a : Answer) × Deserves text a
+
+abbrev pub SameButOffset : Answer → Answer → Type 0
+SameButOffset (Refused r) (Refused q) = (r.number ≡ q.number) × (r.statement ≡ q.statement)
+SameButOffset (Refused r) (Accepted n) = ⊥
+SameButOffset (Accepted m) (Refused q) = ⊥
+SameButOffset (Accepted m) (Accepted n) = m ≡ n
+
+-- texts of the same words deserve the same but for the offset: what stands between the tokens says nothing
+abbrev pub OnlyWordsCount : Type 0
+OnlyWordsCount = (text other : List ℕ) (ts us : List Token) (c d : Bool) (a b : Answer)
+    → length text ≤ text_limit → length other ≤ text_limit → HasTokens text ts c → HasTokens other us d → words_of ts ≡ words_of us
+    → Deserves text a → Deserves other b → SameButOffset a b
+
+-- a form whose defined name is a name of the language, and whose literals are within the bound
+abbrev pub is_spelt_form : Form → Bool
+is_spelt_form (Parsed s) = not (is_misspelt s) && not (has_large_literal s)
+is_spelt_form (Number n) = true
+
+-- the tests that stand in front of the others, for 2 and 3, say nothing of a text: its own reading has told these numbers
+abbrev pub TextsAreSpelt : Type 0
+TextsAreSpelt = (text : List ℕ) (tree : Tree) → IsRead text tree → IsTrue (list_all (λ x. is_spelt_form x.form) tree.statements)
