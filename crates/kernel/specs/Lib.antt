@@ -3,4 +3,6 @@ pub mod Refuting
 pub mod Steps
 pub mod Promises
 pub mod Fit
+pub mod Agenda
+pub mod Faults
 pub mod laws

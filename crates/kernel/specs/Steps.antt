@@ -1,5 +1,5 @@
 -- The steps of a log over a list of whole regions.
-use Rattle.std.specs.Prelude.{◌≡◌, ℕ, ◌+◌, ℤ, Bool, true, false, ◌&&◌, if◌then◌else◌, List, [], ◌∷◌, ◌++◌, Option, Some, None, option_map, option_and_then, option_to_list, is_some, Result, Ok, Err}
+use Rattle.std.specs.Prelude.{◌≡◌, ℕ, ◌+◌, ℤ, Bool, true, ◌&&◌, if◌then◌else◌, List, [], ◌∷◌, ◌++◌, Option, Some, None, option_and_then, option_to_list, is_some, Result, Ok, Err}
 use Rattle.sched_model.specs.declared.types.Assignment.{Assignment}
 use Rattle.sched_model.specs.Words.{is_empty}
 use Rattle.sched_model.specs.Data.{Data}
@@ -7,7 +7,6 @@ use Rattle.sched_model.specs.Solution.{is_solution, is_better, objective_of}
 use Rattle.region.specs.declared.types.Guess.{Guess}
 use Rattle.region.specs.Cells.{Region, root, is_settled, allows}
 use Rattle.region.specs.Guesses.{with_guess, with_fact, looked_at, admits, splits}
-use Rattle.region.specs.Looks.{Seen}
 use Rattle.region.specs.Tight.{is_tight}
 use Rattle.kernel.specs.declared.types.Witness.{Witness}
 use Rattle.kernel.specs.declared.types.Line.{Line}

@@ -2,9 +2,15 @@
 //! lead to.
 #![tactic(auto)]
 
+mod agenda;
+mod laws;
+mod log;
 mod no_extra;
-mod probe;
+mod refuting;
+mod solution;
 mod types;
 
+pub use laws::loses_nothing;
+pub use log::Kernel;
 pub use no_extra::{NoExtra, NoWitness};
 pub use types::{Found, Line, StepFault, Verdict, Witness};
