@@ -1,0 +1,16 @@
+//! The steps of a search log, none of which loses a better solution, and the verdict that they
+//! lead to.
+#![tactic(auto)]
+
+mod agenda;
+mod laws;
+mod log;
+mod no_extra;
+mod refuting;
+mod solution;
+mod types;
+
+pub use laws::loses_nothing;
+pub use log::Kernel;
+pub use no_extra::{NoExtra, NoWitness};
+pub use types::{Found, Line, StepFault, Verdict, Witness};
