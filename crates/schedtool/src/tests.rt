@@ -119,3 +119,81 @@ fn node_limit(rt: HostRuntime) -> Result<(), Fail> {
     assert!(rt; matches!(answer, Answer::Unfinished(None)));
     Ok(())
 }
+
+/// Texts that are refused, by cause.
+const REFUSED: [&str; 27] = [
+    // a literal above 4611686018427387904
+    "a = intervalVar(size=4611686018427387905);",
+    // a bound outside -1000000000..1000000000
+    "a = intervalVar(start=-1000000001..0);",
+    "a = intervalVar(end=0..1000000001);",
+    "a = intervalVar(size=1000000001);",
+    // a name that is defined already
+    "a = intervalVar(); a = intervalVar();",
+    // a name that no earlier statement defines
+    "endBeforeStart(a,b);",
+    "minimize(endOf(a));",
+    "a = intervalVar(); endBeforeStart(a,b); b = intervalVar();",
+    // a range turned round
+    "a = intervalVar(start=3..2);",
+    // a negative size
+    "a = intervalVar(size=-1..2);",
+    "a = intervalVar(size=-1);",
+    // an argument twice
+    "a = intervalVar(size=1,size=1);",
+    // a second objective
+    "a = intervalVar(); minimize(endOf(a)); minimize(endOf(a));",
+    // a missing semicolon
+    "a = intervalVar()",
+    "a = intervalVar(); minimize(endOf(a))",
+    // a bad byte
+    "a = intervalVar(); $",
+    "a = intervalVar(); \"",
+    "a = intervalVar(); /* ",
+    // a range, or a bracket, in odd places
+    "a = intervalVar(start=1...5);",
+    "a = intervalVar(start=1. .5);",
+    "a = intervalVar(start=..5);",
+    "a = intervalVar(start=1..);",
+    "a = intervalVar(start=+1);",
+    "a = intervalVar((size=1));",
+    // a left-out word as a name, a statement that isn't read yet, a comment
+    "search = intervalVar();",
+    "a = intervalVar(optional);",
+    "a = intervalVar(); // not yet",
+];
+
+/// Texts that are read, all of one model: an interval of size 1 that may start from 1 to 5.
+const READ: [&str; 6] = [
+    "a = intervalVar(size=1,start=1..5);",
+    "a=intervalVar(start=1..5,size=1..1);",
+    "a = intervalVar ( start = 1 .. 5 , size = 1 ) ;",
+    "a\r\n=\tintervalVar(size=1,\r\nstart=1 ..5);\r\n",
+    ";;a = intervalVar(size=01,start=1.. 5);;",
+    "a = intervalVar(start=00000000000000000000000000000000001..5,size=1);",
+];
+
+#[test]
+fn refused_texts(rt: HostRuntime) -> Result<(), Fail> {
+    let alloc = rt.alloc();
+    for text in REFUSED {
+        let mut desk = desk_with(alloc, text, &[])?;
+        let ended = run_words(alloc, &["solve", "m"], &mut desk)?;
+        assert_eq!(rt; ended, Ended::ModelRefused, "{text}");
+        assert_eq!(rt; desk.err(), b"model refused 2 statement 0 at 0\n".as_slice());
+        assert!(rt; desk.out().is_empty());
+    }
+    Ok(())
+}
+
+#[test]
+fn read_texts(rt: HostRuntime) -> Result<(), Fail> {
+    let alloc = rt.alloc();
+    for text in READ {
+        let mut desk = desk_with(alloc, text, &[])?;
+        let ended = run_words(alloc, &["solve", "m"], &mut desk)?;
+        assert_eq!(rt; ended, Ended::Done, "{text}");
+        assert!(rt; desk.out().ends_with(b"\na 1 2\nend\n"));
+    }
+    Ok(())
+}
