@@ -301,4 +301,30 @@ mod tests {
         assert_eq!(rt; seen(&region.look(None, None)), first);
         Ok(())
     }
+
+    #[test]
+    fn admits_what_empties_no_cell(rt: HostRuntime) -> Result<(), Fail> {
+        let model = one_interval(rt.alloc())?;
+        let region = Region::root(rt.alloc(), &model)?;
+        let admitted = [
+            Guess::Present(A),
+            Guess::StartLe(A, 0),
+            Guess::StartGe(A, 3),
+            Guess::EndLe(A, 4),
+        ];
+        for g in admitted {
+            assert!(rt; region.admits(g));
+        }
+        let refused = [
+            Guess::Absent(Itv(1)),
+            Guess::StartLe(A, 3),
+            Guess::EndGe(A, 6),
+        ];
+        for g in refused {
+            assert!(rt; !region.admits(g));
+        }
+        assert_eq!(rt; region.cells(), 5);
+        assert!(rt; !region.settled());
+        Ok(())
+    }
 }

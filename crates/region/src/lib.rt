@@ -12,4 +12,4 @@ mod types;
 pub use cells::Region;
 pub use look::Look;
 pub use refuter::{Numbers, Refuter};
-pub use types::{Bounds, CellName, Fact, Guess, Presence, SizeRange};
+pub use types::{Bounds, CellName, Fact, Guess, Presence};

@@ -36,7 +36,7 @@ impl<'a> Model for Look<'a> {
 
 impl<'a> Look<'a> {
     /// The look at these cells under this guess.
-    pub fn new(
+    pub(crate) fn new(
         sizes: &'a [SizeRange],
         cells: &'a [i64],
         guess: Option<Guess>,
