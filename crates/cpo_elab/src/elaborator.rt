@@ -11,6 +11,7 @@ ghost use Rattle.cpo_elab.specs.Steps.{first_state, CanDefine, Takes};
 use crate::interval::{int_or_zero, interval_of};
 use crate::judge::{args_in, has_large_literal, has_negative, has_reversed, is_misspelt, is_wide};
 use crate::names::Names;
+use crate::number;
 use cpo_text::{
     Constrained, Form, Ivarg, Logic, ReadFault, Reading, Refusal, Sense, Statement, Temporal,
 };
@@ -146,28 +147,28 @@ impl Elaborator {
         ensures { result ≡ number_in self.now.model (self.now.statements + 1) s.now }
     {
         if is_misspelt(s) {
-            return Some(2);
+            return Some(number::OUTSIDE_GRAMMAR);
         }
         if has_large_literal(s) {
-            return Some(3);
+            return Some(number::LARGE_LITERAL);
         }
         if self.defines_again(s) {
-            return Some(4);
+            return Some(number::DEFINED_AGAIN);
         }
         if self.uses_unknown(s) {
-            return Some(5);
+            return Some(number::UNKNOWN_NAME);
         }
         if has_reversed(s) {
-            return Some(7);
+            return Some(number::REVERSED_RANGE);
         }
         if has_negative(s) {
-            return Some(8);
+            return Some(number::NEGATIVE_SIZE);
         }
         if self.passes_limit(s) {
-            return Some(11);
+            return Some(number::LIMIT_PASSED);
         }
         if self.aims_again(s) {
-            return Some(12);
+            return Some(number::SECOND_OBJECTIVE);
         }
         None
     }

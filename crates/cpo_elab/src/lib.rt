@@ -5,11 +5,14 @@
 mod elaborator;
 mod interval;
 mod judge;
+mod laws;
 mod names;
+mod number;
 #[cfg(test)]
 mod tests;
 mod whole;
 
 pub use cpo_text::{ReadFault, Refusal, Tree};
+pub use laws::answer_is_determined;
 pub use sched_model::Model;
 pub use whole::{elaborate, read_model};

@@ -3,9 +3,9 @@ ghost use Rattle.sched_model.specs.Data.{empty_model};
 ghost use Rattle.cpo_text.specs.declared.text.ReadFault.TheVariants as fault;
 ghost use Rattle.cpo_elab.specs.Answers.{Gives, judged};
 ghost use Rattle.cpo_elab.specs.Deserves.{GivesDeserved, served};
-ghost use Rattle.cpo_elab.specs.Laws.{ReadingIsDetermined, ReadingIsTotal, AtMostOneAnswer, AtMostOneServed, OnlyWordsCount, SomeAnswer, TextsAreSpelt};
 
 use crate::elaborator::Elaborator;
+use crate::number::OUTSIDE_GRAMMAR;
 use cpo_text::{ReadFault, Refusal, Tree, read_text};
 use sched_model::Model;
 use std::alloc::Global;
@@ -28,7 +28,7 @@ fn unserved() -> ReadFault
     ensures { result ≡ fault.Refused (record { number = 2; statement = 0; at = 0 }) }
 {
     ReadFault::Refused(Refusal {
-        number: 2,
+        number: OUTSIDE_GRAMMAR,
         statement: 0,
         at: 0,
     })
@@ -49,7 +49,9 @@ fn elaborate_served(alloc: Global, tree: &Tree) -> Result<Model, ReadFault>
     }
 }
 
-fn read_served(alloc: Global, text: &[u8]) -> Result<Model, ReadFault>
+/// The model of a text. Comments are not served yet, and the one refusal so far is of the whole
+/// text.
+pub fn read_model(alloc: Global, text: &[u8]) -> Result<Model, ReadFault>
     ensures { GivesDeserved text.now result }
 {
     match read_text(alloc, text) {
@@ -57,19 +59,4 @@ fn read_served(alloc: Global, text: &[u8]) -> Result<Model, ReadFault>
         Err(ReadFault::Refused(_)) => Err(unserved()),
         Err(ReadFault::NoMemory) => Err(ReadFault::NoMemory),
     }
-}
-
-/// The model of a text. Comments are not served yet, and the one refusal so far is of the whole
-/// text.
-pub fn read_model(alloc: Global, text: &[u8]) -> Result<Model, ReadFault>
-    ensures deserved { GivesDeserved text.now result }
-
-    // What a text deserves is one answer, which its words alone decide.
-    ensures one { ReadingIsDetermined → AtMostOneAnswer }
-    ensures one_served { ReadingIsDetermined → AtMostOneServed }
-    ensures words { ReadingIsDetermined → OnlyWordsCount }
-    ensures some { ReadingIsTotal → SomeAnswer }
-    ensures spelt { TextsAreSpelt }
-{
-    read_served(alloc, text)
 }

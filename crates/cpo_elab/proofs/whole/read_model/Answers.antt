@@ -1,20 +1,9 @@
-use Rattle.cpo_elab.proofs.Determined.{at_most_one, at_most_one_served}
-use Rattle.cpo_elab.proofs.OnlyWords.{only_words_count}
-use Rattle.cpo_elab.proofs.Spelt.{texts_are_spelt}
-use Rattle.cpo_elab.proofs.Total.{some_answer}
+use Rattle.cpo_elab.proofs.Given.{given_tree, given_refusal}
 use Rattle.cpo_elab.proofs.whole.read_model.Goals as goal
 
-pub returns-clause-one : goal.returns-clause-one
-returns-clause-one c = at_most_one
+pub returns-in-Ok : goal.returns-in-Ok
+returns-in-Ok c = given_tree c.args.text.now _ _ c.in-Ok.ensures c.elaborate_served.ensures
 
-pub returns-clause-one_served : goal.returns-clause-one_served
-returns-clause-one_served c = at_most_one_served
-
-pub returns-clause-words : goal.returns-clause-words
-returns-clause-words c = only_words_count
-
-pub returns-clause-some : goal.returns-clause-some
-returns-clause-some c = some_answer
-
-pub returns-clause-spelt : goal.returns-clause-spelt
-returns-clause-spelt c = texts_are_spelt
+pub returns-in-Err-Refused : goal.returns-in-Err-Refused
+returns-in-Err-Refused c =
+    given_refusal c.args.text.now c.in-Err-Refused.field-0-0 c.unserved.result (rw c.in-Err-Refused.field-0-is at c.in-Err-Refused.ensures) c.unserved.ensures
