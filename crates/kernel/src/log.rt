@@ -302,3 +302,180 @@ impl<X: Refuter> Kernel<X> {
         Ok(())
     }
 }
+
+#[cfg(test)]
+mod tests {
+    use super::*;
+    use crate::no_extra::{NoExtra, NoWitness};
+    use refute_basic::BasicWitness;
+    use sched_base::{Itv, List};
+    use sched_model::{Expr, IntervalDef, Objective, Sense, Slot};
+    use std::test::Fail;
+
+    const A: Itv = Itv(0);
+
+    /// One interval of size 1 that starts at 0 or 1 and ends at 1 or 2, as early as it can
+    /// where this is asked for.
+    fn one_interval(alloc: Global, early: bool) -> Result<Model, NoMemory> {
+        let mut model = Model::new(alloc);
+        let def = IntervalDef {
+            name: List::from_vec(Vec::from_slice(alloc, b"a")?),
+            optional: false,
+            start_lo: 0,
+            start_hi: 1,
+            end_lo: 1,
+            end_hi: 2,
+            size_lo: 1,
+            size_hi: 1,
+        };
+        model.add_interval(def)?;
+        if early {
+            model.set_objective(Objective {
+                sense: Sense::Minimize,
+                expr: Expr::EndOf(A, 0),
+            });
+        }
+        Ok(model)
+    }
+
+    fn placed(alloc: Global, s: i64, e: i64) -> Result<Line<NoWitness>, NoMemory> {
+        let mut slots = Vec::new(alloc);
+        slots.push(Slot::Present { s, e })?;
+        Ok(Line::Sol(Assignment {
+            slots: List::from_vec(slots),
+            orders: List::from_vec(Vec::new(alloc)),
+            segs: List::from_vec(Vec::new(alloc)),
+        }))
+    }
+
+    fn leaf(k: u32) -> Witness<NoWitness> {
+        Witness::Basic(BasicWitness::Leaf { k, u: 0 })
+    }
+
+    fn step(
+        kernel: &mut Kernel<NoExtra>,
+        model: &Model,
+        line: Line<NoWitness>,
+    ) -> Result<(), StepFault>
+        requires { Ready model.now kernel.old }
+        ensures { Ready model.now kernel.new }
+    {
+        if kernel.nodes() > 100 {
+            return Err(StepFault::NoMemory);
+        }
+        kernel.step(model, line)
+    }
+
+    #[test]
+    fn finds_a_solution(rt: HostRuntime) -> Result<(), Fail> {
+        let model = one_interval(rt.alloc(), false)?;
+        let mut kernel = Kernel::<NoExtra>::new(rt.alloc(), &model)?;
+        assert_eq!(rt; kernel.verdict(), Verdict::Unclosed { best: None });
+        assert_eq!(rt;
+            step(&mut kernel, &model, Line::Split(Guess::StartLe(A, 0))),
+            Ok(())
+        );
+        assert_eq!(rt;
+            step(&mut kernel, &model, Line::Split(Guess::Present(A))),
+            Err(StepFault::NotSplitting)
+        );
+        assert_eq!(rt; kernel.nodes(), 1);
+        assert_eq!(rt;
+            step(&mut kernel, &model, Line::Split(Guess::EndLe(A, 1))),
+            Ok(())
+        );
+        assert_eq!(rt;
+            step(&mut kernel, &model, placed(rt.alloc(), 0, 2)?),
+            Err(StepFault::NotSolution)
+        );
+        assert_eq!(rt;
+            step(&mut kernel, &model, placed(rt.alloc(), 0, 1)?),
+            Ok(())
+        );
+        assert_eq!(rt; kernel.nodes(), 3);
+        assert_eq!(rt; kernel.verdict(), Verdict::Feasible);
+        assert_eq!(rt;
+            step(&mut kernel, &model, Line::Fail(leaf(0))),
+            Err(StepFault::NothingLeft)
+        );
+        Ok(())
+    }
+
+    #[test]
+    fn derives_from_what_is_refuted(rt: HostRuntime) -> Result<(), Fail> {
+        let model = one_interval(rt.alloc(), false)?;
+        let mut kernel = Kernel::<NoExtra>::new(rt.alloc(), &model)?;
+        assert_eq!(rt;
+            step(&mut kernel, &model, Line::Split(Guess::EndLe(A, 1))),
+            Ok(())
+        );
+        assert_eq!(rt;
+            step(
+                &mut kernel,
+                &model,
+                Line::Derive(Guess::StartGe(A, 1), leaf(1))
+            ),
+            Err(StepFault::NotRefuted)
+        );
+        assert_eq!(rt;
+            step(&mut kernel, &model, Line::Fail(Witness::Extra(NoWitness))),
+            Err(StepFault::NotRefuted)
+        );
+        assert_eq!(rt; kernel.nodes(), 1);
+        assert_eq!(rt;
+            step(
+                &mut kernel,
+                &model,
+                Line::Derive(Guess::StartGe(A, 1), leaf(0))
+            ),
+            Ok(())
+        );
+        assert_eq!(rt; kernel.nodes(), 2);
+        assert_eq!(rt;
+            step(&mut kernel, &model, placed(rt.alloc(), 0, 1)?),
+            Ok(())
+        );
+        assert_eq!(rt; kernel.nodes(), 2);
+        Ok(())
+    }
+
+    #[test]
+    fn closes_all_but_the_best(rt: HostRuntime) -> Result<(), Fail> {
+        let model = one_interval(rt.alloc(), true)?;
+        let mut kernel = Kernel::<NoExtra>::new(rt.alloc(), &model)?;
+        assert_eq!(rt;
+            step(&mut kernel, &model, Line::Split(Guess::StartLe(A, 0))),
+            Ok(())
+        );
+        assert_eq!(rt;
+            step(
+                &mut kernel,
+                &model,
+                Line::Derive(Guess::EndGe(A, 2), leaf(0))
+            ),
+            Ok(())
+        );
+        assert_eq!(rt;
+            step(&mut kernel, &model, placed(rt.alloc(), 0, 1)?),
+            Ok(())
+        );
+        assert_eq!(rt; kernel.best(), Some(1));
+        assert_eq!(rt; kernel.verdict(), Verdict::Unclosed { best: Some(1) });
+        assert_eq!(rt;
+            step(
+                &mut kernel,
+                &model,
+                Line::Derive(Guess::EndLe(A, 1), leaf(0))
+            ),
+            Ok(())
+        );
+        assert_eq!(rt;
+            step(&mut kernel, &model, placed(rt.alloc(), 1, 2)?),
+            Err(StepFault::NotSolution)
+        );
+        assert_eq!(rt; step(&mut kernel, &model, Line::Fail(leaf(2))), Ok(()));
+        assert_eq!(rt; kernel.nodes(), 3);
+        assert_eq!(rt; kernel.verdict(), Verdict::Optimal(1));
+        Ok(())
+    }
+}
