@@ -94,12 +94,21 @@ mod tests {
 
     #[test]
     fn spells_and_reads(rt: HostRuntime) -> Result<(), Fail> {
-        let w = BasicWitness::Leaf { k: 1, u: 4294967295 };
+        let w = BasicWitness::Leaf {
+            k: 1,
+            u: 4294967295,
+        };
         assert!(rt; w.valid());
         assert_eq!(rt; w.count(), 3);
         assert_eq!(rt; w.number(2), 4294967295);
-        assert_eq!(rt; BasicWitness::from_numbers(rt.alloc(), &[5, 1, 4294967295])?, Some(w));
-        assert_eq!(rt; BasicWitness::from_numbers(rt.alloc(), &[5, 1, 4294967296])?, None);
+        assert_eq!(rt;
+            BasicWitness::from_numbers(rt.alloc(), &[5, 1, 4294967295])?,
+            Some(w)
+        );
+        assert_eq!(rt;
+            BasicWitness::from_numbers(rt.alloc(), &[5, 1, 4294967296])?,
+            None
+        );
         assert_eq!(rt; BasicWitness::from_numbers(rt.alloc(), &[5, 1])?, None);
         Ok(())
     }

@@ -180,7 +180,10 @@ fn refused_texts(rt: HostRuntime) -> Result<(), Fail> {
         let mut desk = desk_with(alloc, text, &[])?;
         let ended = run_words(alloc, &["solve", "m"], &mut desk)?;
         assert_eq!(rt; ended, Ended::ModelRefused, "{text}");
-        assert_eq!(rt; desk.err(), b"model refused 2 statement 0 at 0\n".as_slice());
+        assert_eq!(rt;
+            desk.err(),
+            b"model refused 2 statement 0 at 0\n".as_slice()
+        );
         assert!(rt; desk.out().is_empty());
     }
     Ok(())
