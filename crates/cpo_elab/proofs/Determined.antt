@@ -6,7 +6,7 @@ use Rattle.cpo_text.specs.Tokens.{Token}
 use Rattle.cpo_text.specs.Runs.{runs, words_of, ended}
 use Rattle.cpo_text.specs.Reads.{IsRead, IsRefused, DeservesNumber, HasForm, AreReadings, text_limit}
 use Rattle.cpo_text.specs.Reads.IsRefused.{too_long, bad_byte}
-use Rattle.cpo_text.specs.Laws.{StatementsAreDetermined}
+use Rattle.cpo_text.specs.Laws.{TokensAreDetermined, BadByteIsDetermined, NotBoth, StatementsAreDetermined}
 use Rattle.cpo_text.specs.declared.tree.Statement.{Statement}
 use Rattle.cpo_text.specs.declared.text.Form.{Form}
 use Rattle.cpo_text.specs.declared.text.Form.TheVariants.{Tree as Parsed, Number}
@@ -18,7 +18,14 @@ use Rattle.cpo_elab.specs.Answers.Answer.{Refused}
 use Rattle.cpo_elab.specs.Deserves.{served}
 use Rattle.cpo_elab.specs.Deserves.Deserves.{unread, judgement}
 use Rattle.cpo_elab.specs.Deserves.DeservesServed.{unread as unread_served, judgement as judgement_served}
-use Rattle.cpo_elab.specs.Laws.{ReadingIsDetermined, AtMostOneAnswer, AtMostOneServed}
+use Rattle.cpo_elab.specs.Laws.{AtMostOneAnswer, AtMostOneServed}
+
+-- nothing in the reading of a text is a choice
+pub record ReadingIsDetermined : Type 0 where
+  pub tokens : TokensAreDetermined
+  pub bad_byte : BadByteIsDetermined
+  pub not_both : NotBoth
+  pub statements : StatementsAreDetermined
 
 pub clash : (n m : ℕ) → n < m → m ≤ n → ⊥
 clash n m above below = omega arith

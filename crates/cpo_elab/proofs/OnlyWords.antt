@@ -11,8 +11,8 @@ use Rattle.cpo_text.specs.declared.text.Reading.{Reading}
 use Rattle.cpo_text.specs.declared.text.Refusal.{Refusal}
 use Rattle.cpo_elab.specs.Answers.{Answer, number_at, after_form, refused_or, judged}
 use Rattle.cpo_elab.specs.Deserves.Deserves.{unread, judgement}
-use Rattle.cpo_elab.specs.Laws.{ReadingIsDetermined, SameButOffset, OnlyWordsCount}
-use Rattle.cpo_elab.proofs.Determined.{clash, same_form}
+use Rattle.cpo_elab.specs.Laws.{SameButOffset, OnlyWordsCount}
+use Rattle.cpo_elab.proofs.Determined.{ReadingIsDetermined, clash, same_form}
 
 -- the runs by their words
 

@@ -3,11 +3,11 @@ use Rattle.std.proofs.Common.{◌≡◌, ℕ, ◌+◌, Bool, true, false, not, �
 use Rattle.std.specs.List.{list_all, list_any}
 use Rattle.std.proofs.lemmas.List.Folds.{list_all-append}
 use Rattle.std.proofs.lemmas.Bool.Decides.{nat_tests}
-use Rattle.cpo_text.specs.Words.{Word, commas}
+use Rattle.cpo_text.specs.Words.{Word, size_word, commas}
 use Rattle.cpo_text.specs.Words.Word.{name, number, large, sign, quoted}
-use Rattle.cpo_text.specs.Tokens.{Token, IsPiece, IsAtFront, ArePieces, put, tokens_of, number_word, digits_value, literal_limit}
+use Rattle.cpo_text.specs.Tokens.{Token, IsPiece, IsAtFront, ArePieces, put, word_of, bounded, tokens_of, digits_value, literal_limit}
 use Rattle.cpo_text.specs.Runs.{runs, before_runs, words_of, is_end, is_large, has_large}
-use Rattle.cpo_text.specs.Spelling.{spelling, ivarg_words, int_words, range_words, to_words, minus_words, size_word}
+use Rattle.cpo_text.specs.Spelling.{spelling, ivarg_words, int_words, range_words, to_words, minus_words}
 use Rattle.cpo_text.specs.Reads.{HasForm, AreReadings}
 use Rattle.cpo_text.specs.declared.piece.Piece.{Piece}
 use Rattle.cpo_text.specs.declared.piece.Piece.TheVariants as piece
@@ -40,9 +40,9 @@ is_told w = is_large w || is_fine w
 
 -- tokens
 
-number_told : (n : ℕ) → is_told (number_word n) ≡ true
+number_told : (n : ℕ) → is_told (size_word (bounded n)) ≡ true
 number_told n = by (nat_le n literal_limit) refl where
-  by : (b : Bool) → nat_le n literal_limit ≡ b → is_told (if b then number n else large) ≡ true
+  by : (b : Bool) → nat_le n literal_limit ≡ b → is_told (size_word (if b then Some n else None)) ≡ true
   by true h = grind (arith, nat_tests)
   by false h = refl
 
@@ -50,9 +50,9 @@ name_told : (bs : List ℕ) → IsPiece piece.Name bs → is_told (name bs) ≡ 
 name_told [] h = absurd h
 name_told (c ∷ cs) h = joined _ _ h.0 h.1
 
-put_told : (p : Piece) (at : ℕ) (bs : List ℕ) (ts : List Token) → IsPiece p bs → list_all is_told (words_of ts) ≡ true → list_all is_told (words_of (put p at bs ts)) ≡ true
+put_told : (p : Piece) (at : ℕ) (bs : List ℕ) (ts : List Token) → IsPiece p bs → list_all is_told (words_of ts) ≡ true → list_all is_told (words_of (put at (word_of p bs) ts)) ≡ true
 put_told piece.Name at bs ts here rest = joined (is_told (name bs)) _ (name_told bs here) rest
-put_told piece.Int at bs ts here rest = joined (is_told (number_word (digits_value bs))) _ (number_told (digits_value bs)) rest
+put_told piece.Int at bs ts here rest = joined (is_told (size_word (bounded (digits_value bs)))) _ (number_told (digits_value bs)) rest
 put_told piece.Sign at bs ts here rest = rest
 put_told piece.Quoted at bs ts here rest = rest
 put_told piece.Blank at bs ts here rest = rest

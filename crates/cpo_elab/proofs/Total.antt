@@ -5,6 +5,7 @@ use Rattle.sched_model.specs.Data.{empty_model}
 use Rattle.cpo_text.specs.Words.{Word}
 use Rattle.cpo_text.specs.Tokens.{Token}
 use Rattle.cpo_text.specs.Runs.{runs, words_of, offset, ended, early, has_large}
+use Rattle.cpo_text.specs.Laws.{EveryTextHasTokensOrBadByte}
 use Rattle.cpo_text.specs.Reads.{IsGrammatical, HasForm, AreReadings, text_limit}
 use Rattle.cpo_text.specs.Reads.IsRefused.{too_long, bad_byte}
 use Rattle.cpo_text.specs.declared.text.Form.{Form}
@@ -14,7 +15,7 @@ use Rattle.cpo_text.specs.declared.text.Tree.{Tree}
 use Rattle.cpo_elab.specs.Answers.{judged}
 use Rattle.cpo_elab.specs.Answers.Answer.{Refused}
 use Rattle.cpo_elab.specs.Deserves.Deserves.{unread, judgement}
-use Rattle.cpo_elab.specs.Laws.{ReadingIsTotal, SomeAnswer}
+use Rattle.cpo_elab.specs.Laws.{GrammarIsDecided, SomeAnswer}
 
 abbrev Decided : List Word → Type 0
 Decided ws = IsGrammatical ws ⊎ (IsGrammatical ws → ⊥)
@@ -42,12 +43,12 @@ long_or_short : (n m : ℕ) (b : Bool) → nat_lt n m ≡ b → (n < m) ⊎ (m �
 long_or_short n m true h = inl (grind (arith, nat_tests))
 long_or_short n m false h = inr (grind (arith, nat_tests))
 
-pub some_answer : ReadingIsTotal → SomeAnswer
-some_answer laws text = elim (long_or_short text_limit (length text) (nat_lt text_limit (length text)) refl) [
+pub some_answer : EveryTextHasTokensOrBadByte → GrammarIsDecided → SomeAnswer
+some_answer bytes grammar text = elim (long_or_short text_limit (length text) (nat_lt text_limit (length text)) refl) [
   | inl above ↦ (Refused (record { number = 11; statement = 0; at = text_limit }), unread _ (too_long above refl) refl)
-  | inr short ↦ elim (laws.bytes text) [
+  | inr short ↦ elim (bytes text) [
     | inl read ↦
-        let found = readings laws.grammar (runs read.0) in
+        let found = readings grammar (runs read.0) in
         let tree : Tree = record { statements = found.0; commented = read.1 } in
         (judged empty_model 1 found.0, judgement tree (record { short = short; tokens = read.0; are = read.2; readings = found.1 }) refl)
     | inr bad ↦ (Refused (record { number = 1; statement = 1 + ended bad.0; at = bad.1 }), unread _ (bad_byte bad.0 bad.1 short bad.2 refl) refl)

@@ -1,11 +1,11 @@
 -- Laws of what a text deserves.
 use Rattle.std.specs.Prelude.{◌≡◌, ◌⊎◌, ℕ, ◌≤◌, Bool, true, not, ◌&&◌, List, length, IsTrue}
 use Rattle.std.specs.List.{list_all}
+use Rattle.sched_model.specs.Data.{Data}
 use Rattle.cpo_text.specs.Words.{Word}
 use Rattle.cpo_text.specs.Tokens.{Token, HasTokens}
 use Rattle.cpo_text.specs.Runs.{words_of}
 use Rattle.cpo_text.specs.Reads.{IsRead, IsGrammatical, text_limit}
-use Rattle.cpo_text.specs.Laws.{TokensAreDetermined, BadByteIsDetermined, NotBoth, StatementsAreDetermined, EveryTextHasTokensOrBadByte}
 use Rattle.cpo_text.specs.declared.text.Form.{Form}
 use Rattle.cpo_text.specs.declared.text.Form.TheVariants.{Tree as Parsed, Number}
 use Rattle.cpo_text.specs.declared.text.Tree.{Tree}
@@ -14,17 +14,9 @@ use Rattle.cpo_elab.specs.Answers.{Answer}
 use Rattle.cpo_elab.specs.Answers.Answer.{Refused, Accepted}
 use Rattle.cpo_elab.specs.Deserves.{Deserves, DeservesServed}
 
--- nothing in the reading of a text is a choice
-pub record ReadingIsDetermined : Type 0 where
-  pub tokens : TokensAreDetermined
-  pub bad_byte : BadByteIsDetermined
-  pub not_both : NotBoth
-  pub statements : StatementsAreDetermined
-
--- and every text can be read or refused
-pub record ReadingIsTotal : Type 0 where
-  pub bytes : EveryTextHasTokensOrBadByte
-  pub grammar : (ws : List Word) → IsGrammatical ws ⊎ (IsGrammatical ws → ⊥)
+-- a list of words is a statement or none
+abbrev pub GrammarIsDecided : Type 0
+GrammarIsDecided = (ws : List Word) → IsGrammatical ws ⊎ (IsGrammatical ws → ⊥)
 
 -- two answers that a text deserves are one
 abbrev pub AtMostOneAnswer : Type 0
@@ -32,6 +24,10 @@ AtMostOneAnswer = (text : List ℕ) (a b : Answer) → Deserves text a → Deser
 
 abbrev pub AtMostOneServed : Type 0
 AtMostOneServed = (text : List ℕ) (a b : Answer) → DeservesServed text a → DeservesServed text b → a ≡ b
+
+-- a model that is served is the one that the text deserves in the whole language
+abbrev pub ServedIsDeserved : Type 0
+ServedIsDeserved = (text : List ℕ) (m : Data) → DeservesServed text (Accepted m) → Deserves text (Accepted m)
 
 -- each text deserves one
 abbrev pub SomeAnswer : Type 0

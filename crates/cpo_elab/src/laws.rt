@@ -1,10 +1,15 @@
-ghost use Rattle.cpo_elab.specs.Laws.{ReadingIsDetermined, ReadingIsTotal, AtMostOneAnswer, AtMostOneServed, OnlyWordsCount, SomeAnswer, TextsAreSpelt};
+ghost use Rattle.cpo_elab.specs.Laws.{AtMostOneAnswer, AtMostOneServed, OnlyWordsCount, ServedIsDeserved, GrammarIsDecided, SomeAnswer, TextsAreSpelt};
+
+use cpo_text::reading_is_determined;
 
 /// Stands for laws of the definitions: a text deserves one answer, and its words alone decide it.
 pub fn answer_is_determined()
-    ensures one { ReadingIsDetermined → AtMostOneAnswer }
-    ensures one_served { ReadingIsDetermined → AtMostOneServed }
-    ensures words { ReadingIsDetermined → OnlyWordsCount }
-    ensures some { ReadingIsTotal → SomeAnswer }
+    ensures one { AtMostOneAnswer }
+    ensures one_served { AtMostOneServed }
+    ensures served { ServedIsDeserved }
+    ensures words { OnlyWordsCount }
+    ensures some { GrammarIsDecided → SomeAnswer }
     ensures spelt { TextsAreSpelt }
-{}
+{
+    reading_is_determined();
+}

@@ -1,4 +1,4 @@
-use crate::{ReadFault, Refusal, Tree, elaborate};
+use crate::{ReadFault, Refusal, Tree, elaborate, read_model};
 use cpo_text::{
     Constrained, Definition, Form, Int, Ivarg, Logic, Range, Reading, Sense, Statement, Temporal,
 };
@@ -242,5 +242,58 @@ fn makes_a_model(rt: HostRuntime) -> Result<(), Fail> {
         model.objective().map(|o| o.expr),
         Some(Expr::EndOf(Itv(1), 0))
     );
+    Ok(())
+}
+
+#[test]
+fn reads_texts(rt: HostRuntime) -> Result<(), Fail> {
+    for (text, want) in [
+        ("", Some(0)),
+        (" ; ;\t\n", Some(0)),
+        (
+            "a=intervalVar(size=1);b=intervalVar(size=1);endBeforeStart(a,b);minimize(endOf(b));",
+            Some(2),
+        ),
+        (
+            "a = intervalVar(size=1);\r\nminimize ( endOf ( a ) ) ;\r\n",
+            Some(1),
+        ),
+        ("a = intervalVar(start=-0 .. 0005, end=1..5);", Some(1)),
+        ("a = intervalVar(size=4611686018427387905);", None),
+        ("a = intervalVar(); a = intervalVar();", None),
+        (
+            "endBeforeStart(a,b); a = intervalVar(); b = intervalVar();",
+            None,
+        ),
+        ("a = intervalVar(start=5..3);", None),
+        ("a = intervalVar(size=-1);", None),
+        ("a = intervalVar(end=0..1000000001);", None),
+        (
+            "a = intervalVar(); minimize(endOf(a)); minimize(endOf(a));",
+            None,
+        ),
+        ("a = intervalVar()", None),
+        ("a = intervalVar($);", None),
+        ("a = intervalVar(start=1. .5);", None),
+        ("a = intervalVar(start=1...5);", None),
+        ("a = intervalVar(optional);", None),
+        ("a = intervalVar(size=1,size=2);", None),
+        ("a = intervalVar;", None),
+        ("a = intervalVar(); // of one", None),
+        ("/* none */", None),
+    ] {
+        match read_model(rt.alloc(), text.as_bytes()) {
+            Ok(model) => assert_eq!(rt; Some(model.intervals().len()), want, "{text}"),
+            Err(fault) => {
+                let refusal = Refusal {
+                    number: 2,
+                    statement: 0,
+                    at: 0,
+                };
+                assert_eq!(rt; fault, ReadFault::Refused(refusal), "{text}");
+                assert_eq!(rt; want, None, "{text}");
+            }
+        }
+    }
     Ok(())
 }

@@ -1,8 +1,12 @@
-use Rattle.cpo_elab.proofs.Determined.{at_most_one, at_most_one_served}
+use Rattle.cpo_elab.proofs.Determined.{ReadingIsDetermined, at_most_one, at_most_one_served}
+use Rattle.cpo_elab.proofs.Given.{served_is_deserved}
 use Rattle.cpo_elab.proofs.OnlyWords.{only_words_count}
 use Rattle.cpo_elab.proofs.Spelt.{texts_are_spelt}
 use Rattle.cpo_elab.proofs.Total.{some_answer}
 use Rattle.cpo_elab.proofs.laws.answer_is_determined.Goals as goal
 
 pub returns : goal.returns
-returns c = record { one = at_most_one; one_served = at_most_one_served; words = only_words_count; some = some_answer; spelt = texts_are_spelt }
+returns c =
+    let told = c.reading_is_determined.ensures in
+    let laws : ReadingIsDetermined = record { tokens = told.tokens; bad_byte = told.bad_byte; not_both = told.not_both; statements = told.statements } in
+    record { one = at_most_one laws; one_served = at_most_one_served laws; served = served_is_deserved; words = only_words_count laws; some = some_answer told.every_text; spelt = texts_are_spelt }
