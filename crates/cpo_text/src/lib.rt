@@ -1,5 +1,5 @@
-//! The model language as it is written: tokens, statements and trees. A text is read once, and
-//! each statement is told as its words alone tell it; what its names mean is settled above.
+//! The model language as it is written: tokens, statements and trees. Each statement of a text is
+//! told as its words alone tell it; what its names mean is settled above.
 #![tactic(auto)]
 
 mod fault;

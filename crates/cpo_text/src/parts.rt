@@ -1,4 +1,4 @@
-ghost use Rattle.std.specs.Prelude.{◌≡◌, option_map, codes, IfOk};
+ghost use Rattle.std.specs.Prelude.{◌≡◌, option_map, IfOk};
 ghost use Rattle.cpo_text.specs.Words.{is_sign};
 ghost use Rattle.cpo_text.specs.Places.{said_word};
 ghost use Rattle.cpo_text.specs.Rules.{behind, name_at, size_at, signed_at, int_at, int_behind, range_at};

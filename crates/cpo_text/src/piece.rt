@@ -1,4 +1,4 @@
-ghost use Rattle.std.specs.Prelude.{◌≡◌, ◌-◌, ◌+◌, length, drop, option_map, IfSome, ◌≤◌};
+ghost use Rattle.std.specs.Prelude.{◌≡◌, length, IfSome, ◌≤◌};
 ghost use Rattle.std.specs.List.{prefix_len};
 ghost use Rattle.cpo_text.specs.Tokens.{is_letter, is_digit, is_name_byte, is_blank, is_sign_byte, is_sign_pair, is_on_line, is_comment, begins};
 ghost use Rattle.cpo_text.specs.Lexing.{quote_len, close_len, slash_at, sign_at, piece_from, piece_at};
