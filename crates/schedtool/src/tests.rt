@@ -3,7 +3,7 @@ use crate::run::run;
 use crate::search::solve;
 use cpo_elab::read_model;
 use sched_base::{File, List, MemDesk, NoMemory};
-use sched_model::{Answer, Solved};
+use sched_model::Answer;
 use std::alloc::Global;
 use std::test::Fail;
 
@@ -40,72 +40,89 @@ fn run_words(alloc: Global, words: &[&str], desk: &mut MemDesk) -> Result<Ended,
     Ok(run(alloc, list.as_slice(), desk))
 }
 
+/// Whether a run with one failing call, if any, ends so and prints this.
+fn prints(
+    alloc: Global,
+    words: &[&str],
+    text: &str,
+    failing: &[u32],
+    wanted: (u8, &[u8], &[u8]),
+) -> Result<bool, NoMemory> {
+    let mut desk = desk_with(alloc, text, failing)?;
+    let ended = run_words(alloc, words, &mut desk)?;
+    let (status, out, err) = wanted;
+    Ok(ended.status() == status && desk.out() == out && desk.err() == err)
+}
+
+/// Whether the model's answer begins and ends so.
+fn solves(alloc: Global, text: &str, begin: &[u8], end: &[u8]) -> Result<bool, NoMemory> {
+    let mut desk = desk_with(alloc, text, &[])?;
+    let ended = run_words(alloc, &["solve", "m"], &mut desk)?;
+    Ok(ended.status() == 0 && desk.out().starts_with(begin) && desk.out().ends_with(end))
+}
+
 #[test]
 fn two_in_a_row(rt: HostRuntime) -> Result<(), Fail> {
     let alloc = rt.alloc();
-    let mut desk = desk_with(alloc, TWO_IN_A_ROW, &[])?;
-    let ended = run_words(alloc, &["solve", "m"], &mut desk)?;
-    assert_eq!(rt; ended.status(), 0);
-    assert!(rt; desk.out().starts_with(b"optimal 2\nnodes "));
-    assert!(rt; desk.out().ends_with(b"\na 0 1\nb 1 2\nend\n"));
-    assert!(rt; desk.err().is_empty());
+    let is_so = solves(
+        alloc,
+        TWO_IN_A_ROW,
+        b"optimal 2\nnodes ",
+        b"\na 0 1\nb 1 2\nend\n",
+    )?;
+    assert!(rt; is_so);
     Ok(())
 }
 
 #[test]
 fn answers(rt: HostRuntime) -> Result<(), Fail> {
     let alloc = rt.alloc();
-    let rows = [
-        ("", "feasible\nnodes 1\nend\n", "", 0),
-        (
-            "a = intervalVar(size=1,start=0,end=0);\n",
-            "infeasible\nnodes 1\nend\n",
-            "",
-            10,
-        ),
-        (
-            "a = intervalVar(optional);\n",
-            "",
-            "model refused 2 statement 0 at 0\n",
-            3,
-        ),
-        (
-            "a = intervalVar(size=2,start=3,end=5);\n",
-            "feasible\nnodes 1\na 3 5\nend\n",
-            "",
-            0,
-        ),
-    ];
-    for (text, out, err, status) in rows {
-        let mut desk = desk_with(alloc, text, &[])?;
-        let ended = run_words(alloc, &["solve", "m"], &mut desk)?;
-        assert_eq!(rt; ended.status(), status);
-        assert_eq!(rt; desk.out(), out.as_bytes());
-        assert_eq!(rt; desk.err(), err.as_bytes());
-    }
+    let solve = ["solve", "m"];
+    let empty = prints(
+        alloc,
+        &solve,
+        "",
+        &[],
+        (0, b"feasible\nnodes 1\nend\n", b""),
+    )?;
+    assert!(rt; empty);
+    let no_room = "a = intervalVar(size=1,start=0,end=0);\n";
+    let none = prints(
+        alloc,
+        &solve,
+        no_room,
+        &[],
+        (10, b"infeasible\nnodes 1\nend\n", b""),
+    )?;
+    assert!(rt; none);
+    let one_place = "a = intervalVar(size=2,start=3,end=5);\n";
+    let one = prints(
+        alloc,
+        &solve,
+        one_place,
+        &[],
+        (0, b"feasible\nnodes 1\na 3 5\nend\n", b""),
+    )?;
+    assert!(rt; one);
     Ok(())
 }
 
 #[test]
 fn words_and_faults(rt: HostRuntime) -> Result<(), Fail> {
     let alloc = rt.alloc();
-    let usage = "usage: schedtool COMMAND ARGUMENTS\n";
-    let mut desk = desk_with(alloc, "", &[])?;
-    assert_eq!(rt; run_words(alloc, &["solve"], &mut desk)?, Ended::Usage);
-    assert_eq!(rt; desk.err(), usage.as_bytes());
-    let mut desk = desk_with(alloc, "", &[])?;
-    assert_eq!(rt; run_words(alloc, &["check", "m"], &mut desk)?.status(), 2);
-    let mut desk = desk_with(alloc, "", &[])?;
-    assert_eq!(rt;
-        run_words(alloc, &["solve", "missing"], &mut desk)?.status(),
-        4
-    );
-    assert_eq!(rt; desk.err(), b"fault\n".as_slice());
+    let usage = b"usage: schedtool COMMAND ARGUMENTS\n";
+    assert!(rt; prints(alloc, &["solve"], "", &[], (2, b"", usage))?);
+    assert!(rt; prints(alloc, &["check", "m"], "", &[], (2, b"", usage))?);
+    assert!(rt; prints(alloc, &["solve", "missing"], "", &[], (4, b"", b"fault\n"))?);
+    Ok(())
+}
+
+#[test]
+fn failing_calls(rt: HostRuntime) -> Result<(), Fail> {
+    let alloc = rt.alloc();
     for call in 0..3u32 {
-        let mut desk = desk_with(alloc, "", &[call])?;
-        assert_eq!(rt; run_words(alloc, &["solve", "m"], &mut desk)?, Ended::Fault);
-        assert!(rt; desk.out().is_empty());
-        assert_eq!(rt; desk.err(), b"fault\n".as_slice());
+        let faulted = prints(alloc, &["solve", "m"], "", &[call], (4, b"", b"fault\n"))?;
+        assert!(rt; faulted);
     }
     Ok(())
 }
@@ -114,9 +131,9 @@ fn words_and_faults(rt: HostRuntime) -> Result<(), Fail> {
 fn node_limit(rt: HostRuntime) -> Result<(), Fail> {
     let alloc = rt.alloc();
     let model = read_model(alloc, TWO_IN_A_ROW.as_bytes())?;
-    let Solved { nodes, answer } = solve(alloc, &model, 1)?;
-    assert_eq!(rt; nodes, 1);
-    assert!(rt; matches!(answer, Answer::Unfinished(None)));
+    let solved = solve(alloc, &model, 1)?;
+    let is_open = matches!(&solved.answer, Answer::Unfinished(None));
+    assert!(rt; solved.nodes == 1 && is_open);
     Ok(())
 }
 
@@ -173,30 +190,39 @@ const READ: [&str; 6] = [
     "a = intervalVar(start=00000000000000000000000000000000001..5,size=1);",
 ];
 
+fn all_refused(alloc: Global, texts: &[&str]) -> Result<bool, NoMemory> {
+    for text in texts {
+        let wanted = (
+            3,
+            b"".as_slice(),
+            b"model refused 2 statement 0 at 0\n".as_slice(),
+        );
+        if !prints(alloc, &["solve", "m"], text, &[], wanted)? {
+            return Ok(false);
+        }
+    }
+    Ok(true)
+}
+
+fn all_read(alloc: Global, texts: &[&str]) -> Result<bool, NoMemory> {
+    for text in texts {
+        if !solves(alloc, text, b"feasible\n", b"\na 1 2\nend\n")? {
+            return Ok(false);
+        }
+    }
+    Ok(true)
+}
+
 #[test]
 fn refused_texts(rt: HostRuntime) -> Result<(), Fail> {
-    let alloc = rt.alloc();
-    for text in REFUSED {
-        let mut desk = desk_with(alloc, text, &[])?;
-        let ended = run_words(alloc, &["solve", "m"], &mut desk)?;
-        assert_eq!(rt; ended, Ended::ModelRefused, "{text}");
-        assert_eq!(rt;
-            desk.err(),
-            b"model refused 2 statement 0 at 0\n".as_slice()
-        );
-        assert!(rt; desk.out().is_empty());
-    }
+    let is_so = all_refused(rt.alloc(), &REFUSED)?;
+    assert!(rt; is_so);
     Ok(())
 }
 
 #[test]
 fn read_texts(rt: HostRuntime) -> Result<(), Fail> {
-    let alloc = rt.alloc();
-    for text in READ {
-        let mut desk = desk_with(alloc, text, &[])?;
-        let ended = run_words(alloc, &["solve", "m"], &mut desk)?;
-        assert_eq!(rt; ended, Ended::Done, "{text}");
-        assert!(rt; desk.out().ends_with(b"\na 1 2\nend\n"));
-    }
+    let is_so = all_read(rt.alloc(), &READ)?;
+    assert!(rt; is_so);
     Ok(())
 }
