@@ -1,0 +1,37 @@
+-- Logs: lines that a log may hold, that step one after another from the opening state of a model.
+use Rattle.std.specs.Prelude.{◌≡◌, ℕ, ℤ, Bool, List, All}
+use Rattle.sched_model.specs.Data.{Data}
+use Rattle.kernel.specs.declared.types.Line.{Line}
+use Rattle.kernel.specs.declared.no_extra.NoWitness.{NoWitness}
+use Rattle.kernel.specs.NoExtra.{numbers_of, is_valid, refutes_none}
+use Rattle.kernel.specs.Refuting.{Refuting, refutes_with}
+use Rattle.kernel.specs.Steps.{LogState, Steps, opening}
+use Rattle.textline.specs.Lines.{Bytes}
+use Rattle.logtext.specs.declared.entry.Entry.TheVariants.{Step}
+use Rattle.logtext.specs.Spelling.{line_text, lines_text, log_text}
+use Rattle.logtext.specs.Entries.{Spells}
+
+abbrev pub IsLine : {W : Type 0} → (W → List ℤ) → (W → Bool) → Line W → Type 0
+IsLine numbers valid l = Spells numbers valid (line_text numbers l) (Step l)
+
+-- the lines lead from the opening state to this one
+pub record IsLog {W : Type 0} (refutes : Refuting W) (numbers : W → List ℤ) (valid : W → Bool) (m : Data) (lines : List (Line W)) (s : LogState) : Type 0 where
+  pub each : All (IsLine numbers valid) lines
+  pub steps : Steps (refutes_with refutes) m (opening m) lines s
+
+-- Logs without extra witnesses.
+
+abbrev pub PlainLine : Type 0
+PlainLine = Line NoWitness
+
+abbrev pub IsPlainLog : Data → List PlainLine → LogState → Type 0
+IsPlainLog m lines s = IsLog refutes_none numbers_of is_valid m lines s
+
+abbrev pub plain_text : PlainLine → Bytes
+plain_text l = line_text numbers_of l
+
+abbrev pub plain_lines : List PlainLine → Bytes
+plain_lines ls = lines_text numbers_of ls
+
+abbrev pub plain_log : List PlainLine → Bytes
+plain_log ls = log_text numbers_of ls

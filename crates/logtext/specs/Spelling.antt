@@ -1,0 +1,78 @@
+-- How a log spells its lines: a letter, then words and numbers with one space between each two, and a line feed.
+use Rattle.std.specs.Prelude.{ℕ, ℤ, List, [], ◌∷◌, ◌++◌, length, map, flat_map, codes}
+use Rattle.std.specs.Fmt.{decimal, signed_decimal}
+use Rattle.sched_base.specs.declared.ids.Itv.{Itv}
+use Rattle.sched_model.specs.declared.types.Assignment.{Assignment}
+use Rattle.sched_model.specs.declared.types.Segment.{Segment}
+use Rattle.sched_model.specs.declared.types.Slot.{Slot}
+use Rattle.sched_model.specs.declared.types.Slot.TheVariants as slot
+use Rattle.region.specs.declared.types.Guess.{Guess}
+use Rattle.region.specs.declared.types.Guess.TheVariants.{Present, Absent, StartLe, StartGe, EndLe, EndGe}
+use Rattle.refute_basic.specs.declared.witness.BasicWitness.{BasicWitness}
+use Rattle.refute_basic.specs.declared.witness.BasicWitness.TheVariants.{Leaf}
+use Rattle.kernel.specs.declared.types.Witness.{Witness}
+use Rattle.kernel.specs.declared.types.Witness.TheVariants.{Basic, Extra}
+use Rattle.kernel.specs.declared.types.Line.{Line}
+use Rattle.kernel.specs.declared.types.Line.TheVariants.{Derive, Fail, Split, Sol}
+use Rattle.textline.specs.Lines.{Bytes, line}
+
+-- the word of a form, the interval, and the moment where there is one
+abbrev pub guess_words : Guess → List Bytes
+guess_words (Present x) = codes "P" ∷ decimal x.0 ∷ []
+guess_words (Absent x) = codes "A" ∷ decimal x.0 ∷ []
+guess_words (StartLe x t) = codes "SL" ∷ decimal x.0 ∷ signed_decimal t ∷ []
+guess_words (StartGe x t) = codes "SG" ∷ decimal x.0 ∷ signed_decimal t ∷ []
+guess_words (EndLe x t) = codes "EL" ∷ decimal x.0 ∷ signed_decimal t ∷ []
+guess_words (EndGe x t) = codes "EG" ∷ decimal x.0 ∷ signed_decimal t ∷ []
+
+-- the word of a kind, and its numbers; an extra witness has the count of its numbers before them
+abbrev pub basic_words : BasicWitness → List Bytes
+basic_words (Leaf k u) = codes "LEAF" ∷ decimal k ∷ decimal u ∷ []
+
+abbrev pub witness_words : {W : Type 0} → (W → List ℤ) → Witness W → List Bytes
+witness_words numbers (Basic w) = basic_words w
+witness_words numbers (Extra w) = codes "EXTRA" ∷ decimal (length (numbers w)) ∷ map signed_decimal (numbers w)
+
+-- where each interval stands, the members of each sequence in their order, the segments of each state function
+abbrev pub slot_words : Slot → List Bytes
+slot_words slot.Absent = codes "a" ∷ []
+slot_words (slot.Present s e) = codes "p" ∷ signed_decimal s ∷ signed_decimal e ∷ []
+
+abbrev pub member_word : Itv → Bytes
+member_word x = decimal x.0
+
+abbrev pub order_words : List Itv → List Bytes
+order_words xs = codes "o" ∷ decimal (length xs) ∷ map member_word xs
+
+abbrev pub segment_words : Segment → List Bytes
+segment_words s = signed_decimal s.p ∷ signed_decimal s.q ∷ signed_decimal s.v ∷ []
+
+abbrev pub segments_words : List Segment → List Bytes
+segments_words ss = codes "g" ∷ decimal (length ss) ∷ flat_map segment_words ss
+
+abbrev pub assignment_words : Assignment → List Bytes
+assignment_words a = flat_map slot_words a.slots ++ (flat_map order_words a.orders ++ flat_map segments_words a.segs)
+
+abbrev pub line_words : {W : Type 0} → (W → List ℤ) → Line W → List Bytes
+line_words numbers (Derive g w) = codes "d" ∷ (guess_words g ++ witness_words numbers w)
+line_words numbers (Fail w) = codes "f" ∷ witness_words numbers w
+line_words numbers (Split g) = codes "s" ∷ guess_words g
+line_words numbers (Sol a) = codes "v" ∷ assignment_words a
+
+abbrev pub line_text : {W : Type 0} → (W → List ℤ) → Line W → Bytes
+line_text numbers l = line (line_words numbers l)
+
+-- the first line of a log, and the last
+abbrev pub head_text : Bytes
+head_text = line (codes "schedlog" ∷ codes "1" ∷ [])
+
+abbrev pub end_text : Bytes
+end_text = line (codes "end" ∷ [])
+
+-- the lines one after another
+abbrev pub lines_text : {W : Type 0} → (W → List ℤ) → List (Line W) → Bytes
+lines_text numbers ls = flat_map (line_text numbers) ls
+
+-- a whole log
+abbrev pub log_text : {W : Type 0} → (W → List ℤ) → List (Line W) → Bytes
+log_text numbers ls = head_text ++ (lines_text numbers ls ++ end_text)

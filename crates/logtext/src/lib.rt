@@ -1,0 +1,11 @@
+//! The text of a search log: one spelling for each line, how lines are written, and how they are
+//! read back.
+#![tactic(auto)]
+
+mod entry;
+mod reader;
+mod writer;
+
+pub use entry::{Entry, EntryFault};
+pub use reader::read_entry;
+pub use writer::LogWriter;
