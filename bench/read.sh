@@ -11,6 +11,7 @@ limit=16777216
 : > "$work/empty"
 head -c $limit /dev/zero | tr '\0' ' ' > "$work/spaces"
 head -c $limit /dev/zero | tr '\0' '(' > "$work/brackets"
+head -c $limit /dev/zero | tr '\0' ';' > "$work/semicolons"
 python3 - "$work" $limit <<'PY'
 import sys
 work, limit = sys.argv[1], int(sys.argv[2])
@@ -39,7 +40,7 @@ open(f"{work}/digits", "w").write("a=intervalVar(size=" + "0" * (limit - 30) + "
 PY
 
 printf '%-12s %12s %10s %14s  %s\n' text bytes seconds 'peak KiB' 'first line printed'
-for name in empty spaces brackets statements names digits; do
+for name in empty spaces brackets semicolons statements names digits; do
   set +e
   python3 - "$tool" "$work/$name" "$name" <<'PY'
 import os, resource, subprocess, sys, time

@@ -4,7 +4,7 @@ use Rattle.sched_model.specs.Data.{empty_model}
 use Rattle.cpo_text.specs.Words.{Word}
 use Rattle.cpo_text.specs.Tokens.{Token}
 use Rattle.cpo_text.specs.Runs.{runs, words_of, ended}
-use Rattle.cpo_text.specs.Reads.{IsRead, IsRefused, DeservesNumber, HasForm, AreReadings, text_limit}
+use Rattle.cpo_text.specs.Reads.{IsRead, IsRefused, DeservesNumber, HasForm, AreReadings, text_limit, told}
 use Rattle.cpo_text.specs.Reads.IsRefused.{too_long, bad_byte}
 use Rattle.cpo_text.specs.Laws.{TokensAreDetermined, BadByteIsDetermined, NotBoth, StatementsAreDetermined}
 use Rattle.cpo_text.specs.declared.tree.Statement.{Statement}
@@ -71,7 +71,7 @@ same_readings law (r ∷ rs) (x ∷ xs) (y ∷ ys) one other =
 pub same_tree : ReadingIsDetermined → (text : List ℕ) (t u : Tree) → IsRead text t → IsRead text u → (t.statements ≡ u.statements) × (t.commented ≡ u.commented)
 same_tree laws text t u one other =
     let tokens = laws.tokens text one.tokens other.tokens t.commented u.commented one.are other.are in
-    (same_readings laws.statements (runs one.tokens) t.statements u.statements one.readings (subst (λ ts. AreReadings (runs ts) u.statements) (sym tokens.0) other.readings), tokens.1)
+    (same_readings laws.statements (told (runs one.tokens)) t.statements u.statements one.readings (subst (λ ts. AreReadings (told (runs ts)) u.statements) (sym tokens.0) other.readings), tokens.1)
 
 bad_at : List Token → ℕ → Refusal
 bad_at ts at = record { number = 1; statement = 1 + ended ts; at = at }

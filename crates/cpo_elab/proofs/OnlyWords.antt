@@ -1,10 +1,11 @@
 -- Texts of the same words deserve the same, but for the offset.
-use Rattle.std.proofs.Common.{◌≡◌, ℕ, ◌+◌, ◌≤◌, Bool, true, false, if◌then◌else◌, List, [], ◌∷◌, map, length, codes, Option, Some, None, refl, sym, ap, subst, ◌∙◌}
+use Rattle.std.proofs.Common.{◌≡◌, ℕ, ◌+◌, ◌≤◌, Bool, true, false, if◌then◌else◌, List, [], ◌∷◌, map, length, take, codes, Option, Some, None, refl, sym, ap, subst, ◌∙◌}
+use Rattle.std.proofs.lemmas.List.{take-map}
 use Rattle.sched_model.specs.Data.{Data, empty_model}
 use Rattle.cpo_text.specs.Words.{Word, is_sign}
 use Rattle.cpo_text.specs.Tokens.{Token, HasTokens}
 use Rattle.cpo_text.specs.Runs.{runs, before_runs, words_of, is_end}
-use Rattle.cpo_text.specs.Reads.{IsRefused, HasForm, AreReadings, text_limit}
+use Rattle.cpo_text.specs.Reads.{IsRefused, HasForm, AreReadings, text_limit, told_limit, told}
 use Rattle.cpo_text.specs.Reads.IsRefused.{too_long, bad_byte}
 use Rattle.cpo_text.specs.Laws.{StatementsAreDetermined}
 use Rattle.cpo_text.specs.declared.text.Reading.{Reading}
@@ -36,6 +37,10 @@ words_of_run false t rs ws is = words_before t rs ∙ ap (before_words t.word) i
 words_of_runs : (ts : List Token) → map words_of (runs ts) ≡ word_runs (words_of ts)
 words_of_runs [] = refl
 words_of_runs (t ∷ ts) = words_of_run (is_end t) t (runs ts) (word_runs (words_of ts)) (words_of_runs ts)
+
+words_told : (rs : List (List Token)) → map words_of (told rs) ≡ take told_limit (map words_of rs)
+unfolding told
+words_told rs = sym (take-map words_of told_limit rs)
 
 -- the forms by the words
 
@@ -81,5 +86,6 @@ only_words_count laws text other ts us c d a b short also_short one two same (ju
     let first = (laws.tokens text read.tokens ts t.commented c read.are one).0 in
     let second = (laws.tokens other again.tokens us u.commented d again.are two).0 in
     let runs_same = words_of_runs read.tokens ∙ ap (λ x. word_runs (words_of x)) first ∙ ap word_runs same ∙ sym (ap (λ x. word_runs (words_of x)) second) ∙ sym (words_of_runs again.tokens) in
-    let forms = same_forms laws.statements (runs read.tokens) (runs again.tokens) t.statements u.statements runs_same read.readings again.readings in
+    let told_same = words_told (runs read.tokens) ∙ ap (take told_limit) runs_same ∙ sym (words_told (runs again.tokens)) in
+    let forms = same_forms laws.statements (told (runs read.tokens)) (told (runs again.tokens)) t.statements u.statements told_same read.readings again.readings in
     subst (λ x. SameButOffset x b) (sym is) (subst (SameButOffset (judged empty_model 1 t.statements)) (sym also) (same_judgement empty_model 1 t.statements u.statements forms))

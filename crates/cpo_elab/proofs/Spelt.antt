@@ -1,5 +1,5 @@
 -- The statements of a text have names of the language and literals within the bound.
-use Rattle.std.proofs.Common.{◌≡◌, ℕ, ◌+◌, Bool, true, false, not, ◌&&◌, ◌||◌, if◌then◌else◌, List, [], ◌∷◌, ◌++◌, map, take, drop, codes, nat_lt, nat_le, Option, Some, None, refl, sym, ap, subst, ◌∙◌, arith}
+use Rattle.std.proofs.Common.{◌≡◌, ℕ, zero, suc, ◌+◌, Bool, true, false, not, ◌&&◌, ◌||◌, if◌then◌else◌, List, [], ◌∷◌, ◌++◌, map, take, drop, codes, nat_lt, nat_le, Option, Some, None, refl, sym, ap, subst, ◌∙◌, arith}
 use Rattle.std.specs.List.{list_all, list_any}
 use Rattle.std.proofs.lemmas.List.Folds.{list_all-append}
 use Rattle.std.proofs.lemmas.Bool.Decides.{nat_tests}
@@ -8,7 +8,7 @@ use Rattle.cpo_text.specs.Words.Word.{name, number, large, sign, quoted}
 use Rattle.cpo_text.specs.Tokens.{Token, IsPiece, IsAtFront, ArePieces, put, word_of, bounded, tokens_of, digits_value, literal_limit}
 use Rattle.cpo_text.specs.Runs.{runs, before_runs, words_of, is_end, is_large, has_large}
 use Rattle.cpo_text.specs.Spelling.{spelling, ivarg_words, int_words, range_words, to_words, minus_words}
-use Rattle.cpo_text.specs.Reads.{HasForm, AreReadings}
+use Rattle.cpo_text.specs.Reads.{HasForm, AreReadings, told_limit, told}
 use Rattle.cpo_text.specs.declared.piece.Piece.{Piece}
 use Rattle.cpo_text.specs.declared.piece.Piece.TheVariants as piece
 use Rattle.cpo_text.specs.declared.tree.Int.{Int}
@@ -94,6 +94,17 @@ runs_told (t ∷ ts) all =
     let parts = both (is_told t.word) (list_all is_told (words_of ts)) all in
     turn_told (is_end t) t (runs ts) parts.0 (runs_told ts parts.1)
 
+told_first : (n : ℕ) (rs : List (List Token)) → list_all run_told rs ≡ true → list_all run_told (take n rs) ≡ true
+told_first zero rs all = refl
+told_first (suc n) [] all = refl
+told_first (suc n) (r ∷ rs) all =
+    let parts = both (run_told r) (list_all run_told rs) all in
+    joined (run_told r) (list_all run_told (take n rs)) parts.0 (told_first n rs parts.1)
+
+all_told : (rs : List (List Token)) → list_all run_told rs ≡ true → list_all run_told (told rs) ≡ true
+unfolding told
+all_told rs all = told_first told_limit rs all
+
 -- statements
 
 all_fine : (ws : List Word) → list_all is_told ws ≡ true → has_large ws ≡ false → list_all is_fine ws ≡ true
@@ -170,5 +181,6 @@ readings_fine (r ∷ rs) (x ∷ xs) are told =
 
 pub texts_are_spelt : TextsAreSpelt
 texts_are_spelt text tree read =
-    let told = tokens_told 0 text read.are.pieces [] read.are.whole in
-    readings_fine (runs read.tokens) tree.statements read.readings (runs_told read.tokens (subst (λ ts. list_all is_told (words_of ts) ≡ true) (sym read.are.are) told))
+    let words = tokens_told 0 text read.are.pieces [] read.are.whole in
+    let all = runs_told read.tokens (subst (λ ts. list_all is_told (words_of ts) ≡ true) (sym read.are.are) words) in
+    readings_fine (told (runs read.tokens)) tree.statements read.readings (all_told (runs read.tokens) all)

@@ -5,17 +5,20 @@ use Rattle.sched_model.specs.Data.{empty_model}
 use Rattle.cpo_text.specs.Words.{Word}
 use Rattle.cpo_text.specs.Tokens.{Token}
 use Rattle.cpo_text.specs.Runs.{runs, words_of, offset, ended, early, has_large}
-use Rattle.cpo_text.specs.Laws.{EveryTextHasTokensOrBadByte}
-use Rattle.cpo_text.specs.Reads.{IsGrammatical, HasForm, AreReadings, text_limit}
+use Rattle.cpo_text.specs.Laws.{EveryTextHasTokensOrBadByte, GrammarIsDecided}
+use Rattle.cpo_text.specs.Reads.{IsGrammatical, HasForm, AreReadings, text_limit, told, IsRead, IsRefused}
 use Rattle.cpo_text.specs.Reads.IsRefused.{too_long, bad_byte}
 use Rattle.cpo_text.specs.declared.text.Form.{Form}
 use Rattle.cpo_text.specs.declared.text.Form.TheVariants.{Tree as Parsed, Number}
 use Rattle.cpo_text.specs.declared.text.Reading.{Reading}
+use Rattle.cpo_text.specs.declared.text.Refusal.{Refusal}
 use Rattle.cpo_text.specs.declared.text.Tree.{Tree}
 use Rattle.cpo_elab.specs.Answers.{judged}
 use Rattle.cpo_elab.specs.Answers.Answer.{Refused}
+use Rattle.cpo_elab.specs.Deserves.{served, unserved}
 use Rattle.cpo_elab.specs.Deserves.Deserves.{unread, judgement}
-use Rattle.cpo_elab.specs.Laws.{GrammarIsDecided, SomeAnswer}
+use Rattle.cpo_elab.specs.Deserves.DeservesServed.{unread as unread_served, judgement as judgement_served}
+use Rattle.cpo_elab.specs.Laws.{SomeAnswer, SomeServed}
 
 abbrev Decided : List Word → Type 0
 Decided ws = IsGrammatical ws ⊎ (IsGrammatical ws → ⊥)
@@ -43,14 +46,26 @@ long_or_short : (n m : ℕ) (b : Bool) → nat_lt n m ≡ b → (n < m) ⊎ (m �
 long_or_short n m true h = inl (grind (arith, nat_tests))
 long_or_short n m false h = inr (grind (arith, nat_tests))
 
-pub some_answer : EveryTextHasTokensOrBadByte → GrammarIsDecided → SomeAnswer
-some_answer bytes grammar text = elim (long_or_short text_limit (length text) (nat_lt text_limit (length text)) refl) [
-  | inl above ↦ (Refused (record { number = 11; statement = 0; at = text_limit }), unread _ (too_long above refl) refl)
+-- every text is read or refused
+read_or_refused : EveryTextHasTokensOrBadByte → GrammarIsDecided → (text : List ℕ) → ((tree : Tree) × IsRead text tree) ⊎ ((r : Refusal) × IsRefused text r)
+read_or_refused bytes grammar text = elim (long_or_short text_limit (length text) (nat_lt text_limit (length text)) refl) [
+  | inl above ↦ inr (record { number = 11; statement = 0; at = text_limit }, too_long above refl)
   | inr short ↦ elim (bytes text) [
     | inl read ↦
-        let found = readings grammar (runs read.0) in
-        let tree : Tree = record { statements = found.0; commented = read.1 } in
-        (judged empty_model 1 found.0, judgement tree (record { short = short; tokens = read.0; are = read.2; readings = found.1 }) refl)
-    | inr bad ↦ (Refused (record { number = 1; statement = 1 + ended bad.0; at = bad.1 }), unread _ (bad_byte bad.0 bad.1 short bad.2 refl) refl)
+        let found = readings grammar (told (runs read.0)) in
+        inl (record { statements = found.0; commented = read.1 }, record { short = short; tokens = read.0; are = read.2; readings = found.1 })
+    | inr bad ↦ inr (record { number = 1; statement = 1 + ended bad.0; at = bad.1 }, bad_byte bad.0 bad.1 short bad.2 refl)
   ]
+]
+
+pub some_answer : EveryTextHasTokensOrBadByte → GrammarIsDecided → SomeAnswer
+some_answer bytes grammar text = elim (read_or_refused bytes grammar text) [
+  | inl read ↦ (judged empty_model 1 read.0.statements, judgement read.0 read.1 refl)
+  | inr refused ↦ (Refused refused.0, unread refused.0 refused.1 refl)
+]
+
+pub some_served : EveryTextHasTokensOrBadByte → GrammarIsDecided → SomeServed
+some_served bytes grammar text = elim (read_or_refused bytes grammar text) [
+  | inl read ↦ (served read.0.commented (judged empty_model 1 read.0.statements), judgement_served read.0 read.1 refl)
+  | inr refused ↦ (unserved, unread_served refused.0 refused.1 refl)
 ]

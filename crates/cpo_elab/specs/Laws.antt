@@ -1,22 +1,18 @@
 -- Laws of what a text deserves.
-use Rattle.std.specs.Prelude.{◌≡◌, ◌⊎◌, ℕ, ◌≤◌, Bool, true, not, ◌&&◌, List, length, IsTrue}
+use Rattle.std.specs.Prelude.{◌≡◌, ℕ, ◌≤◌, Bool, true, not, ◌&&◌, List, length, take, IsTrue}
 use Rattle.std.specs.List.{list_all}
-use Rattle.sched_model.specs.Data.{Data}
-use Rattle.cpo_text.specs.Words.{Word}
+use Rattle.sched_model.specs.Data.{Data, empty_model}
 use Rattle.cpo_text.specs.Tokens.{Token, HasTokens}
 use Rattle.cpo_text.specs.Runs.{words_of}
-use Rattle.cpo_text.specs.Reads.{IsRead, IsGrammatical, text_limit}
+use Rattle.cpo_text.specs.Reads.{IsRead, text_limit, told_limit}
 use Rattle.cpo_text.specs.declared.text.Form.{Form}
 use Rattle.cpo_text.specs.declared.text.Form.TheVariants.{Tree as Parsed, Number}
+use Rattle.cpo_text.specs.declared.text.Reading.{Reading}
 use Rattle.cpo_text.specs.declared.text.Tree.{Tree}
 use Rattle.cpo_elab.specs.Judged.{is_misspelt, has_large_literal}
-use Rattle.cpo_elab.specs.Answers.{Answer}
+use Rattle.cpo_elab.specs.Answers.{Answer, judged}
 use Rattle.cpo_elab.specs.Answers.Answer.{Refused, Accepted}
 use Rattle.cpo_elab.specs.Deserves.{Deserves, DeservesServed}
-
--- a list of words is a statement or none
-abbrev pub GrammarIsDecided : Type 0
-GrammarIsDecided = (ws : List Word) → IsGrammatical ws ⊎ (IsGrammatical ws → ⊥)
 
 -- two answers that a text deserves are one
 abbrev pub AtMostOneAnswer : Type 0
@@ -32,6 +28,13 @@ ServedIsDeserved = (text : List ℕ) (m : Data) → DeservesServed text (Accepte
 -- each text deserves one
 abbrev pub SomeAnswer : Type 0
 SomeAnswer = (text : List ℕ) → (a : Answer) × Deserves text a
+
+abbrev pub SomeServed : Type 0
+SomeServed = (text : List ℕ) → (a : Answer) × DeservesServed text a
+
+-- the statements behind the last that is told say nothing: at the latest that one deserves a number
+abbrev pub OnlyToldCount : Type 0
+OnlyToldCount = (xs : List Reading) → judged empty_model 1 (take told_limit xs) ≡ judged empty_model 1 xs
 
 abbrev pub SameButOffset : Answer → Answer → Type 0
 SameButOffset (Refused r) (Refused q) = (r.number ≡ q.number) × (r.statement ≡ q.statement)

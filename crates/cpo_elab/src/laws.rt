@@ -1,4 +1,4 @@
-ghost use Rattle.cpo_elab.specs.Laws.{AtMostOneAnswer, AtMostOneServed, OnlyWordsCount, ServedIsDeserved, GrammarIsDecided, SomeAnswer, TextsAreSpelt};
+ghost use Rattle.cpo_elab.specs.Laws.{AtMostOneAnswer, AtMostOneServed, OnlyWordsCount, OnlyToldCount, ServedIsDeserved, SomeAnswer, SomeServed, TextsAreSpelt};
 
 use cpo_text::reading_is_determined;
 
@@ -8,7 +8,9 @@ pub fn answer_is_determined()
     ensures one_served { AtMostOneServed }
     ensures served { ServedIsDeserved }
     ensures words { OnlyWordsCount }
-    ensures some { GrammarIsDecided → SomeAnswer }
+    ensures told { OnlyToldCount }
+    ensures some { SomeAnswer }
+    ensures some_served { SomeServed }
     ensures spelt { TextsAreSpelt }
 {
     reading_is_determined();

@@ -12,10 +12,11 @@ use Rattle.cpo_text.specs.Runs.{words_of, early}
 use Rattle.cpo_text.specs.Spelling.{IsStatement, spelling}
 use Rattle.cpo_text.specs.Rules.{statement_at}
 use Rattle.cpo_text.specs.Lexing.{pieces, rest, tokens_from}
-use Rattle.cpo_text.specs.Reads.{DeservesNumber, HasForm}
-use Rattle.cpo_text.specs.Laws.{PiecesAreDetermined, TokensAreDetermined, BadByteIsDetermined, EveryTextHasTokensOrBadByte, NotBoth, StatementsAreDetermined, ReadingsAreDetermined}
+use Rattle.cpo_text.specs.Reads.{IsGrammatical, DeservesNumber, HasForm}
+use Rattle.cpo_text.specs.Laws.{PiecesAreDetermined, TokensAreDetermined, BadByteIsDetermined, EveryTextHasTokensOrBadByte, NotBoth, StatementsAreDetermined, GrammarIsDecided, ReadingsAreDetermined}
 use Rattle.cpo_text.proofs.Binds.{some_same, some_pair, both}
 use Rattle.cpo_text.proofs.Walks.{pieces_are, pieces_only, none_at_end}
+use Rattle.cpo_text.proofs.Spelt.{statement_takes}
 use Rattle.cpo_text.proofs.Again.{statement_again}
 use Rattle.cpo_text.proofs.Answered.{has_tokens, has_bad_byte}
 
@@ -69,6 +70,25 @@ read_again ws s is = ap statement_at (is.spelt ∙ sym (append-nil (spelling s))
 
 pub statements_determined : StatementsAreDetermined
 statements_determined ws s t a b = (some_pair s t [] [] (sym (read_again ws s a) ∙ read_again ws t b)).0
+
+-- what the reader takes whole is a statement, and what it doesn't is none
+
+read_whole : (ws : List Word) (s : Statement) → statement_at ws ≡ Some (s, []) → IsStatement ws s
+read_whole ws s h = let t = statement_takes ws s [] h in record { formed = t.0; spelt = t.1 ∙ append-nil (spelling s) }
+
+no_rest : (s t : Statement) (w : Word) (r : List Word) → ◌≡◌ {A = Option (Statement × List Word)} (Some (s, w ∷ r)) (Some (t, [])) → ⊥
+no_rest s t w r h = let e = (some_pair s t (w ∷ r) [] h).1 in cc
+
+no_tree : (t : Statement) → ◌≡◌ {A = Option (Statement × List Word)} None (Some (t, [])) → ⊥
+no_tree t h = cc
+
+pub grammar_decided : GrammarIsDecided
+grammar_decided ws = decided (statement_at ws) refl
+  where
+    decided : (o : Option (Statement × List Word)) → statement_at ws ≡ o → IsGrammatical ws ⊎ (IsGrammatical ws → ⊥)
+    decided None none = inr (λ is. no_tree is.0 (sym none ∙ read_again ws is.0 is.1))
+    decided (Some (s, [])) whole = inl (s, read_whole ws s whole)
+    decided (Some (s, w ∷ r)) more = inr (λ is. no_rest s is.0 w r (sym more ∙ read_again ws is.0 is.1))
 
 -- a number of its own, where the words are early none
 not_some : (o : Option ℕ) (n : ℕ) → o ≡ Some n → o ≡ None → ⊥

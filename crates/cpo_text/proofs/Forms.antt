@@ -1,11 +1,11 @@
 -- What a statement's words deserve, and readings run by run.
-use Rattle.std.proofs.Common.{◌≡◌, inl, inr, ℕ, ◌<◌, Bool, true, false, List, [], ◌∷◌, ◌++◌, length, Option, Some, None, refl, sym, ap, subst, ◌∙◌, append_assoc, append-nil}
+use Rattle.std.proofs.Common.{◌≡◌, inl, inr, ℕ, zero, suc, ◌+◌, ◌<◌, Bool, true, false, List, [], ◌∷◌, ◌++◌, length, take, Option, Some, None, refl, sym, ap, subst, ◌∙◌, append_assoc, append-nil, length-append}
 use Rattle.cpo_text.specs.Words.{Word}
 use Rattle.cpo_text.specs.Tokens.{Token}
 use Rattle.cpo_text.specs.Runs.{runs, words_of, early, has_large}
 use Rattle.cpo_text.specs.Surveys.{first_run, after_run, unsurveyed, surveyed, early_of}
 use Rattle.cpo_text.specs.Rules.{statement_at}
-use Rattle.cpo_text.specs.Reads.{DeservesNumber, HasForm, AreReadings}
+use Rattle.cpo_text.specs.Reads.{DeservesNumber, HasForm, AreReadings, told_limit, told}
 use Rattle.cpo_text.specs.declared.survey.Survey.{Survey}
 use Rattle.cpo_text.specs.declared.tree.Statement.{Statement}
 use Rattle.cpo_text.specs.declared.text.Form.TheVariants.{Tree as Parsed}
@@ -38,20 +38,41 @@ parsed ts s x rest is h read small = (early_is ts s None is h, read_statement ts
 
 -- one run and its reading
 
-one_reading : (t : Token) (ts : List Token) (x : Reading) (more : List Reading) → x.at ≡ t.at → HasForm (run_words (t ∷ ts)) x.form → AreReadings (runs (after_run (t ∷ ts))) more → AreReadings (runs (t ∷ ts)) (x ∷ more)
-one_reading t ts x more place form rest = subst (λ rs. AreReadings rs (x ∷ more)) (sym (runs_first t ts)) (place ∙ sym (offset_first t ts), form, rest)
+-- so many runs at the front
+abbrev first_runs : ℕ → List Token → List (List Token)
+first_runs n ts = take n (runs ts)
 
-pub readings_turn : (here behind : List Token) (t : Token) (ts : List Token) (x : Reading) (more : List Reading) → here ≡ t ∷ ts → behind ≡ after_run here → x.at ≡ t.at → HasForm (run_words here) x.form
-    → AreReadings (runs behind) more → AreReadings (runs here) (x ∷ more)
-readings_turn here behind t ts x more is after place form rest =
-    subst (λ us. AreReadings (runs us) (x ∷ more)) (sym is)
-    (one_reading t ts x more place (subst (λ us. HasForm (run_words us) x.form) is form) (subst (λ us. AreReadings (runs us) more) (after ∙ ap after_run is) rest))
+pub readings_start : (n : ℕ) (here whole : List Token) (seen more : List Reading) → seen ≡ [] → n ≡ told_limit → here ≡ whole → AreReadings (first_runs n here) more → AreReadings (told (runs whole)) (seen ++ more)
+unfolding told
+readings_start n here whole seen more none count is h =
+    subst (λ xs. AreReadings (first_runs told_limit whole) (xs ++ more)) (sym none) (subst (λ k. AreReadings (first_runs k whole) more) count (subst (λ ts. AreReadings (first_runs n ts) more) is h))
+
+one_reading : (n : ℕ) (t : Token) (ts : List Token) (x : Reading) (more : List Reading) → x.at ≡ t.at → HasForm (run_words (t ∷ ts)) x.form → AreReadings (first_runs n (after_run (t ∷ ts))) more
+    → AreReadings (first_runs (suc n) (t ∷ ts)) (x ∷ more)
+one_reading n t ts x more place form rest = subst (λ rs. AreReadings (take (suc n) rs) (x ∷ more)) (sym (runs_first t ts)) (place ∙ sym (offset_first t ts), form, rest)
+
+pub readings_turn : (n : ℕ) (here behind : List Token) (t : Token) (ts : List Token) (x : Reading) (more : List Reading) → here ≡ t ∷ ts → behind ≡ after_run here → x.at ≡ t.at → HasForm (run_words here) x.form
+    → AreReadings (first_runs n behind) more → AreReadings (first_runs (suc n) here) (x ∷ more)
+readings_turn n here behind t ts x more is after place form rest =
+    subst (λ us. AreReadings (first_runs (suc n) us) (x ∷ more)) (sym is)
+    (one_reading n t ts x more place (subst (λ us. HasForm (run_words us) x.form) is form) (subst (λ us. AreReadings (first_runs n us) more) (after ∙ ap after_run is) rest))
 
 pub readings_on : (whole : List (List Token)) (seen seen' : List Reading) (x : Reading) (more : List Reading) → seen' ≡ seen ++ x ∷ [] → AreReadings whole (seen ++ x ∷ more) → AreReadings whole (seen' ++ more)
 readings_on whole seen seen' x more is h = subst (AreReadings whole) (sym (ap (λ xs. xs ++ more) is ∙ append_assoc seen (x ∷ []) more)) h
 
-pub readings_end : (whole : List (List Token)) (here : List Token) (seen : List Reading) → here ≡ [] → ((more : List Reading) → AreReadings (runs here) more → AreReadings whole (seen ++ more)) → AreReadings whole seen
-readings_end whole here seen is h = subst (AreReadings whole) (append-nil seen) (h [] (subst (λ us. AreReadings (runs us) []) (sym is) tt))
+pub length-push : (seen seen' : List Reading) (x : Reading) → seen' ≡ seen ++ x ∷ [] → length seen' ≡ length seen + 1
+length-push seen seen' x is = ap length is ∙ length-append seen (x ∷ [])
+
+pub readings_end : (whole : List (List Token)) (n : ℕ) (here : List Token) (seen : List Reading) → here ≡ [] → (AreReadings (first_runs n here) [] → AreReadings whole (seen ++ [])) → AreReadings whole seen
+readings_end whole n here seen is h = subst (AreReadings whole) (append-nil seen) (h (subst (λ us. AreReadings (first_runs n us) []) (sym is) (none n)))
+  where
+    none : (m : ℕ) → AreReadings (first_runs m []) []
+    none zero = tt
+    none (suc m) = tt
+
+-- where as many are told as there is room for
+pub readings_full : (whole : List (List Token)) (here : List Token) (seen : List Reading) → (AreReadings (first_runs 0 here) [] → AreReadings whole (seen ++ [])) → AreReadings whole seen
+readings_full whole here seen h = subst (AreReadings whole) (append-nil seen) (h tt)
 
 pub behind_fewer : (here behind : List Token) (t : Token) (ts : List Token) → here ≡ t ∷ ts → behind ≡ after_run here → length behind < length here
 behind_fewer here behind t ts is after = subst (λ us. length behind < length us) (sym is) (subst (λ us. length us < length (t ∷ ts)) (sym (after ∙ ap after_run is)) (after_fewer t ts))

@@ -16,3 +16,4 @@ pub mod Firsts
 pub mod Forms
 pub mod Answered
 pub mod Determined
+pub mod Pieces

@@ -1,5 +1,5 @@
 -- What reading a text answers: a refusal of the whole text, or each statement as its words alone tell it.
-use Rattle.std.specs.Prelude.{◌≡◌, ◌⊎◌, ℕ, ◌+◌, ◌≤◌, ◌<◌, true, false, List, [], ◌∷◌, length, Some, None, Result, Ok, Err, ⊤}
+use Rattle.std.specs.Prelude.{◌≡◌, ◌⊎◌, ℕ, ◌+◌, ◌≤◌, ◌<◌, true, false, List, [], ◌∷◌, length, take, Some, None, Result, Ok, Err, ⊤}
 use Rattle.cpo_text.specs.Words.{Word}
 use Rattle.cpo_text.specs.Tokens.{Token, HasTokens, HasBadByte}
 use Rattle.cpo_text.specs.Runs.{runs, words_of, ended, offset, early, has_large}
@@ -36,12 +36,19 @@ AreReadings (r ∷ rs) [] = ⊥
 abbrev pub text_limit : ℕ
 text_limit = 16777216
 
--- the text is within its limit and has no bad byte; each of its runs has its reading
+-- A text may have 100,000 statements. The one behind them is refused at the latest, so those further on are not told.
+abbrev pub told_limit : ℕ
+told_limit = 100001
+
+unfoldable pub told : List (List Token) → List (List Token)
+told rs = take told_limit rs
+
+-- the text is within its limit and has no bad byte; each of its runs, up to the last that is told, has its reading
 pub record IsRead (text : List ℕ) (tree : Tree) : Type 0 where
   pub short : length text ≤ text_limit
   pub tokens : List Token
   pub are : HasTokens text tokens tree.commented
-  pub readings : AreReadings (runs tokens) tree.statements
+  pub readings : AreReadings (told (runs tokens)) tree.statements
 
 -- the text is too long, or it has a bad byte behind some tokens
 pub data IsRefused (text : List ℕ) (r : Refusal) : Type 0 where

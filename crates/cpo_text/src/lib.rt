@@ -16,7 +16,7 @@ mod whole;
 mod word;
 
 pub use laws::reading_is_determined;
-pub use text::{Form, ReadFault, Reading, Refusal, TEXT_LIMIT, Tree};
+pub use text::{Form, ReadFault, Reading, Refusal, TEXT_LIMIT, TOLD_LIMIT, Tree};
 pub use tree::{Constrained, Definition, Int, Ivarg, Logic, Range, Sense, Statement, Temporal};
 pub use whole::read_text;
 

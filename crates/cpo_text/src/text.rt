@@ -8,6 +8,10 @@ use thiserror::Error;
 /// The most bytes that a text may have.
 pub const TEXT_LIMIT: usize = 16_777_216;
 
+/// The most statements of a text that are told: those that it may have, and one more, which is
+/// refused at the latest.
+pub const TOLD_LIMIT: usize = 100_001;
+
 /// Why a text is refused: a number of the table of refusals, the statement, counted from 1 (0
 /// where it is the whole text), and the offset of a byte.
 #[derive(Clone, Copy, Debug, PartialEq, Eq)]
@@ -52,8 +56,8 @@ pub struct Reading {
     pub form: Form,
 }
 
-/// The statements of a text in order, and whether a comment stands in it. Tokens behind the last
-/// semicolon are one more statement.
+/// The statements of a text in order, the first 100,001 of them, and whether a comment stands in
+/// it. Tokens behind the last semicolon are one more statement.
 #[derive(Debug, Drop)]
 pub struct Tree {
     pub statements: List<Reading>,

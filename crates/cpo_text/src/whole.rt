@@ -3,14 +3,14 @@ ghost use Rattle.cpo_text.specs.Runs.{runs, words_of};
 ghost use Rattle.cpo_text.specs.Lexing.{tokens_from};
 ghost use Rattle.cpo_text.specs.Places.{left};
 ghost use Rattle.cpo_text.specs.Surveys.{first_run, after_run};
-ghost use Rattle.cpo_text.specs.Reads.{HasForm, AreReadings, Reads};
+ghost use Rattle.cpo_text.specs.Reads.{HasForm, AreReadings, told, Reads};
 
 use crate::fault::Fault;
 use crate::grammar::statement;
 use crate::place::Place;
 use crate::scan::scan;
 use crate::survey::survey_run;
-use crate::text::{Form, ReadFault, Reading, Refusal, TEXT_LIMIT, Tree};
+use crate::text::{Form, ReadFault, Reading, Refusal, TEXT_LIMIT, TOLD_LIMIT, Tree};
 use sched_base::{List, NoMemory};
 use std::alloc::Global;
 
@@ -45,14 +45,17 @@ fn read_form(alloc: Global, place: Place<'_>) -> Result<(Form, Place<'_>), NoMem
     }
 }
 
-/// The statements of a text.
+/// The statements of a text, up to the last that is told.
 fn statements(alloc: Global, text: &[u8]) -> Result<List<Reading>, NoMemory>
     requires { length text.now ≤ 16777216 }
-    ensures { IfOk result (λ readings. AreReadings (runs (tokens_from 0 text.now)) readings) }
+    ensures { IfOk result (λ readings. AreReadings (told (runs (tokens_from 0 text.now))) readings) }
 {
     let mut readings = List::new(alloc);
     let mut here = Place::start(text);
     while let Some((token, _)) = here.next() {
+        if readings.len() >= TOLD_LIMIT {
+            return Ok(readings);
+        }
         let (form, behind) = read_form(alloc, here)?;
         readings.push(Reading {
             at: token.at as u64,
