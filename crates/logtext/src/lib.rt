@@ -3,9 +3,11 @@
 #![tactic(auto)]
 
 mod entry;
+mod laws;
 mod reader;
 mod writer;
 
 pub use entry::{Entry, EntryFault};
+pub use laws::spelling_is_determined;
 pub use reader::read_entry;
 pub use writer::LogWriter;

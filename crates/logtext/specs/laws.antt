@@ -1,0 +1,4 @@
+pub mod Leads
+pub mod Told
+pub mod Plain
+pub mod Entries
