@@ -2,3 +2,4 @@ pub mod Leads
 pub mod Told
 pub mod Plain
 pub mod Entries
+pub mod Ends
