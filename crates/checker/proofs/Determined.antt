@@ -1,5 +1,5 @@
 -- Bytes have one judgement.
-use Rattle.std.proofs.Common.{◌≡◌, ℕ, ◌+◌, ◌<◌, ◌≤◌, List, [], ◌∷◌, ◌++◌, length, Ok, refl, sym, ap, subst, ◌∙◌, arith, append_assoc, length-append}
+use Rattle.std.proofs.Common.{◌≡◌, ℕ, ◌+◌, List, [], ◌++◌, length, refl, sym, ap, subst, ◌∙◌, arith, append_assoc, length-append}
 use Rattle.std.proofs.lemmas.List.{append-nil}
 use Rattle.sched_model.specs.Data.{Data}
 use Rattle.sched_model.specs.Valid.{IsValid}
@@ -14,7 +14,7 @@ use Rattle.checker.specs.Judgement.{BeginsWith, CantGoOn, IsAccepted, IsRefused}
 use Rattle.checker.specs.Judgement.IsRefused.{at_head, at_line, behind_end}
 use Rattle.checker.specs.Laws.{OneVerdict, OneLine, NotBoth, WholeLogIsAccepted, AcceptedMeans}
 use Rattle.checker.proofs.Spelt.{Spellings, begun}
-use Rattle.checker.proofs.Logs.{SameLog, PlainSteps, Stops, one_text, cant_stops, end_stops}
+use Rattle.checker.proofs.Logs.{SameLog, PlainSteps, one_text, cant_stops, end_stops}
 use Rattle.checker.proofs.Judged.{end_spelt, begins_head}
 
 -- a log in front of its end and of what stands behind that

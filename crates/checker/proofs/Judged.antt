@@ -1,5 +1,5 @@
 -- What was read decides the judgement.
-use Rattle.std.proofs.Common.{◌≡◌, ℕ, ◌+◌, ◌-◌, ◌<◌, ◌≤◌, true, false, List, [], ◌∷◌, ◌++◌, length, take, drop, Ok, refl, sym, ap, subst, ◌∙◌, arith, append_assoc, length-append, length-take, length-drop}
+use Rattle.std.proofs.Common.{◌≡◌, ℕ, ◌+◌, ◌<◌, ◌≤◌, List, [], ◌++◌, length, take, drop, Ok, refl, sym, ap, subst, ◌∙◌, arith, append_assoc, length-take, length-drop}
 use Rattle.std.proofs.lemmas.List.{take-append-drop, take-take, take_all, drop_all, drop-append-le, append-nil}
 use Rattle.sched_model.specs.Data.{Data}
 use Rattle.textline.specs.Lines.{Bytes}
@@ -10,7 +10,7 @@ use Rattle.logtext.specs.declared.entry.Entry.{Entry}
 use Rattle.logtext.specs.declared.entry.Entry.TheVariants.{Head, Step, Finish}
 use Rattle.logtext.specs.Spelling.{head_text, end_text}
 use Rattle.logtext.specs.Entries.{line_limit}
-use Rattle.logtext.specs.Logs.{PlainLine, IsPlainLog, plain_lines, plain_log}
+use Rattle.logtext.specs.Logs.{PlainLine, IsPlainLog, plain_lines}
 use Rattle.logtext.specs.Reading.{HasNoWholeLine, BeginsWithNone}
 use Rattle.checker.specs.Judgement.{BeginsWith, CantGoOn, IsAccepted, IsRefused, IsTooLong, log_limit}
 use Rattle.checker.specs.Judgement.IsRefused.{at_head, at_line, behind_end}
@@ -25,7 +25,7 @@ use Rattle.checker.proofs.Reached.{Reached, plain_entry, line_apart, entry_spelt
 pub same_entry : Spellings → (bytes more : Bytes) (from to : ℕ) (e f : Entry NoWitness) → IsEntryAt bytes from to e → BeginsWith (drop from bytes ++ more) f → e ≡ f
 same_entry laws bytes more from to e f at begins =
     (one_line laws (plain_entry e) (take begins.0 (drop from bytes ++ more)) (drop to bytes ++ more) (drop begins.0 (drop from bytes ++ more)) e f (entry_spelt bytes from to e at) begins.2
-      (sym (append_assoc (plain_entry e) (drop to bytes) more) ∙ ap (λ r. r ++ more) (sym (line_apart bytes from to e at)) ∙ begins_by (drop from bytes ++ more) f begins)).entry
+    (sym (append_assoc (plain_entry e) (drop to bytes) more) ∙ ap (λ r. r ++ more) (sym (line_apart bytes from to e at)) ∙ begins_by (drop from bytes ++ more) f begins)).entry
 
 pub entry_whole : Spellings → (bytes : Bytes) (from to : ℕ) (e : Entry NoWitness) → IsEntryAt bytes from to e → HasNoWholeLine (drop from bytes) → ⊥
 entry_whole laws bytes from to e at open_one = not_open laws (plain_entry e) (drop to bytes) e (entry_spelt bytes from to e at) (subst HasNoWholeLine (line_apart bytes from to e at) open_one)
@@ -129,14 +129,14 @@ module _ (laws : Spellings) (m : Data) (limit : ℕ) (bytes cut : Bytes) (is_cut
   missing_at place line s so_far open_one short =
       let rest = subst (λ b. HasNoWholeLine (drop place b)) (is_cut ∙ take_all limit bytes short) open_one in
       at_line so_far.lines s (drop place bytes) so_far.log (text_whole m limit bytes cut is_cut place line s so_far)
-        (record { no_line = λ l t begins goes. open_begins_none laws (drop place bytes) (Step l) rest begins; no_end = open_begins_none laws (drop place bytes) Finish rest })
-        so_far.number
+      (record { no_line = λ l t begins goes. open_begins_none laws (drop place bytes) (Step l) rest begins; no_end = open_begins_none laws (drop place bytes) Finish rest })
+      so_far.number
 
   behind_at : (place to line : ℕ) (s : LogState) → Reached m cut place line s → IsEntryAt cut place to Finish → to < length bytes → IsRefused m bytes (line + 1)
   behind_at place to line s so_far at some =
       behind_end so_far.lines s (drop to bytes) so_far.log
-        (text_whole m limit bytes cut is_cut place line s so_far ∙ ap (λ r. head_text ++ (plain_lines so_far.lines ++ r)) (end_apart m limit bytes cut is_cut place to so_far.within at) ∙ regroup (plain_lines so_far.lines) (drop to bytes))
-        (omega (arith, some, length-drop to bytes)) (omega (arith, so_far.number))
+      (text_whole m limit bytes cut is_cut place line s so_far ∙ ap (λ r. head_text ++ (plain_lines so_far.lines ++ r)) (end_apart m limit bytes cut is_cut place to so_far.within at) ∙ regroup (plain_lines so_far.lines) (drop to bytes))
+      (omega (arith, some, length-drop to bytes)) (omega (arith, so_far.number))
     where
       regroup : (ls rest : Bytes) → head_text ++ (ls ++ (end_text ++ rest)) ≡ (head_text ++ (ls ++ end_text)) ++ rest
       regroup ls rest = sym (append_assoc head_text (ls ++ end_text) rest ∙ ap (λ r. head_text ++ r) (append_assoc ls end_text rest))
@@ -152,9 +152,10 @@ refused_head m bytes cut is_cut none =
     (at_head (λ begins. none (front_begins log_limit bytes cut is_cut Head (omega arith) begins)) refl, λ long. none (begins_head cut _ (is_cut ∙ long.text)))
 
 pub refused_wrong : Spellings → (m : Data) (bytes cut : Bytes) → cut ≡ take log_limit bytes → (place line : ℕ) (s : LogState) → Reached m cut place line s → IsWrong m s (drop place cut) → Refused m bytes line
-refused_wrong laws m bytes cut is_cut place line s so_far wrong =
-    (wrong_at laws m log_limit bytes cut is_cut place line s so_far wrong,
-     λ long. other_way laws m log_limit bytes cut is_cut place line s long.state long.lines long.rest so_far (wrong_stops laws m log_limit bytes cut is_cut place line s wrong) wrong.whole long.log long.text long.open_line)
+refused_wrong laws m bytes cut is_cut place line s so_far wrong = (
+  wrong_at laws m log_limit bytes cut is_cut place line s so_far wrong,
+  λ long. other_way laws m log_limit bytes cut is_cut place line s long.state long.lines long.rest so_far (wrong_stops laws m log_limit bytes cut is_cut place line s wrong) wrong.whole long.log long.text long.open_line,
+)
 
 pub refused_missing : Spellings → (m : Data) (bytes cut : Bytes) → cut ≡ take log_limit bytes → (place line : ℕ) (s : LogState) → Reached m cut place line s → HasNoWholeLine (drop place cut) → length bytes < log_limit
     → Refused m bytes line
@@ -163,9 +164,10 @@ refused_missing laws m bytes cut is_cut place line s so_far open_one short =
 
 pub refused_behind : Spellings → (m : Data) (bytes cut : Bytes) → cut ≡ take log_limit bytes → (place to line : ℕ) (s : LogState) → Reached m cut place line s → IsEntryAt cut place to Finish → to < length bytes
     → Refused m bytes (line + 1)
-refused_behind laws m bytes cut is_cut place to line s so_far at some =
-    (behind_at laws m log_limit bytes cut is_cut place to line s so_far at some,
-     λ long. other_way laws m log_limit bytes cut is_cut place line s long.state long.lines long.rest so_far (end_stops_at laws m log_limit bytes cut is_cut place to s at) (entry_whole laws cut place to Finish at) long.log long.text long.open_line)
+refused_behind laws m bytes cut is_cut place to line s so_far at some = (
+  behind_at laws m log_limit bytes cut is_cut place to line s so_far at some,
+  λ long. other_way laws m log_limit bytes cut is_cut place line s long.state long.lines long.rest so_far (end_stops_at laws m log_limit bytes cut is_cut place to s at) (entry_whole laws cut place to Finish at) long.log long.text long.open_line,
+)
 
 pub accepted : (m : Data) (bytes cut : Bytes) → cut ≡ take log_limit bytes → (place to line : ℕ) (s : LogState) → Reached m cut place line s → IsEntryAt cut place to Finish → length bytes ≤ to
     → IsAccepted m bytes (verdict_of s) s.nodes

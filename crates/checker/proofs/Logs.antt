@@ -1,6 +1,6 @@
 -- One text has one log in it.
-use Rattle.std.proofs.Common.{◌≡◌, ℕ, ◌+◌, ◌≤◌, Bool, true, false, List, [], ◌∷◌, ◌++◌, length, Option, Some, None, Ok, Err, refl, sym, ap, subst, ◌∙◌, arith, append_assoc}
-use Rattle.std.specs.Prelude.{All, ◌&&◌}
+use Rattle.std.proofs.Common.{◌≡◌, ℕ, ◌+◌, ◌≤◌, Bool, true, false, List, [], ◌∷◌, ◌++◌, Option, Some, None, Ok, refl, sym, ap, subst, ◌∙◌, arith, append_assoc}
+use Rattle.std.specs.Prelude.{All}
 use Rattle.std.proofs.lemmas.List.{append_cancel_left}
 use Rattle.std.proofs.lemmas.List.Elements.{All-append, All-nil, All-cons, All-head, All-tail}
 use Rattle.sched_model.specs.Data.{Data}
@@ -8,18 +8,16 @@ use Rattle.region.specs.Cells.{Region}
 use Rattle.textline.specs.Lines.{Bytes}
 use Rattle.kernel.specs.declared.types.Line.TheVariants.{Derive, Fail, Split, Sol}
 use Rattle.kernel.specs.declared.types.StepFault.{StepFault}
-use Rattle.kernel.specs.declared.no_extra.NoWitness.{NoWitness}
 use Rattle.kernel.specs.NoExtra.{numbers_of, is_valid, refutes_none}
 use Rattle.kernel.specs.Refuting.{refutes_with}
-use Rattle.kernel.specs.Steps.{LogState, Node, Outcome, Steps, step, step_at, step_on, node_of, taken, unless, opening}
+use Rattle.kernel.specs.Steps.{LogState, Node, Outcome, Steps, step, step_at, step_on, node_of, taken, unless}
 use Rattle.kernel.specs.Steps.Steps.{done, more}
-use Rattle.logtext.specs.declared.entry.Entry.{Entry}
-use Rattle.logtext.specs.declared.entry.Entry.TheVariants.{Head, Step, Finish}
+use Rattle.logtext.specs.declared.entry.Entry.TheVariants.{Step, Finish}
 use Rattle.logtext.specs.Spelling.{head_text, end_text}
 use Rattle.logtext.specs.Reading.{HasNoWholeLine}
 use Rattle.logtext.specs.Logs.{PlainLine, IsLine, IsPlainLog, plain_text, plain_lines}
-use Rattle.checker.specs.Judgement.{BeginsWith, CantGoOn}
-use Rattle.checker.proofs.Spelt.{Spellings, Spelt, SameLine, one_line, begun, not_open}
+use Rattle.checker.specs.Judgement.{CantGoOn}
+use Rattle.checker.proofs.Spelt.{Spellings, Spelt, one_line, begun, not_open}
 
 abbrev pub IsPlainLine : PlainLine → Type 0
 IsPlainLine l = IsLine numbers_of is_valid l
@@ -57,7 +55,7 @@ one_log laws m {ls = l ∷ ls} x y each all (more {t = u} goes steps) done h sto
     absurd (halt l u (plain_lines ls ++ x) (All-head IsPlainLine l ls each) (sym h ∙ append_assoc (plain_text l) (plain_lines ls) x) goes)
 one_log laws m {a = a} {t = end} {ls = l ∷ ls} {ks = k ∷ ks} x y each all (more {t = u} goes steps) (more {t = v} walks others) h stop halt =
     let line = one_line laws (plain_text l) (plain_text k) (plain_lines ls ++ x) (plain_lines ks ++ y) (Step l) (Step k) (All-head IsPlainLine l ls each) (All-head IsPlainLine k ks all)
-        (sym (append_assoc (plain_text l) (plain_lines ls) x) ∙ h ∙ append_assoc (plain_text k) (plain_lines ks) y) in
+    (sym (append_assoc (plain_text l) (plain_lines ls) x) ∙ h ∙ append_assoc (plain_text k) (plain_lines ks) y) in
     let same : l ≡ k = same_step l k line.entry in
     let states : u ≡ v = same_ok u v (sym goes ∙ ap (λ q. plain_step m q a) same ∙ walks) in
     let rest = one_log laws m x y (All-tail IsPlainLine l ls each) (All-tail IsPlainLine k ks all) steps (subst (λ w. PlainSteps m w ks end) (sym states) others) line.rest stop halt in

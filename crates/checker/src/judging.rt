@@ -1,22 +1,15 @@
-ghost use Rattle.std.specs.Prelude.{◌≡◌, ◌<◌, ◌≤◌, ◌^◌, true, length, take, drop, Err, IfOk, OnOk, IsTrue, not, ◌==◌, List, ◌++◌, ◌∷◌, []};
-ghost use Rattle.std.specs.List.{list_all};
+ghost use Rattle.std.specs.Prelude.{◌≡◌, ◌<◌, ◌≤◌, ◌^◌, true, length, take, Err, IfOk};
 ghost use Rattle.sched_base.specs.State.{is_opened};
-ghost use Rattle.kernel.specs.declared.no_extra.NoWitness.{NoWitness};
-ghost use Rattle.kernel.specs.NoExtra.{numbers_of, is_valid};
 ghost use Rattle.kernel.specs.Steps.{opening};
 ghost use Rattle.kernel.specs.Promises.{Ready, Means};
-ghost use Rattle.textline.specs.Lines.{Bytes};
-ghost use Rattle.logtext.specs.declared.entry.Entry.{Entry};
 ghost use Rattle.logtext.specs.declared.entry.Entry.TheVariants.{Head};
-ghost use Rattle.logtext.specs.Entries.{Spells};
-ghost use Rattle.logtext.specs.Reading.{HasNoWholeLine};
 ghost use Rattle.checker.specs.Judgement.{log_limit};
 ghost use Rattle.checker.specs.Checking.{Checks, Judges};
 ghost use Rattle.checker.specs.Turns.{FindsHead, IsEntryAt, Tries, Turns, is_head};
 ghost use Rattle.checker.specs.declared.judging.CheckFault.TheVariants as fault;
 
 use kernel::{Kernel, Line, NoExtra, NoWitness, StepFault, Verdict};
-use logtext::{Entry, EntryFault, read_entry};
+use logtext::{Entry, EntryFault, read_entry, spelling_is_determined};
 use sched_base::{Desk, Inlet, NoMemory, ReadError, read_up_to};
 use sched_model::Model;
 use std::alloc::Global;
@@ -81,13 +74,6 @@ enum Turn {
     Wrong,
     /// The bytes end before it does.
     Missing,
-}
-
-pub(crate) fn spellings() -> Result<(), NoMemory>
-    ensures one_entry { OnOk result ((text : Bytes) (e f : Entry NoWitness) → Spells numbers_of is_valid text e → Spells numbers_of is_valid text f → e ≡ f) }
-    ensures ends_once { OnOk result ((text : Bytes) (e : Entry NoWitness) → Spells numbers_of is_valid text e → (t : Bytes) × (text ≡ t ++ 10 ∷ []) × IsTrue (list_all (λ b. not (b == 10)) t)) }
-{
-    Err(NoMemory)
 }
 
 /// The first bytes, at most so many.
@@ -158,7 +144,7 @@ fn take_line(
     ensures turns { Turns model.now bytes.now from result kernel.old kernel.new }
     ensures ready { Ready model.now kernel.new }
 {
-    spellings()?;
+    spelling_is_determined::<NoExtra>();
     let (entry, to) = match read_entry::<NoExtra>(alloc, bytes, from) {
         Ok(Some(read)) => read,
         Ok(None) => return Ok(Turn::Missing),
@@ -195,7 +181,7 @@ fn judge_lines(
     ensures no_fault { result ≡ Err fault.Fault → ⊥ }
     ensures means { IfOk result (λ c. Means model.now c.verdict) }
 {
-    spellings()?;
+    spelling_is_determined::<NoExtra>();
     let mut place = head;
     let mut line: u64 = 2;
     'lines: loop {

@@ -1,8 +1,8 @@
-use Rattle.std.proofs.Common.{◌≡◌, refl, Err}
+use Rattle.std.proofs.Common.{Err}
 use Rattle.kernel.specs.NoExtra.{numbers_of, is_valid}
 use Rattle.logtext.specs.Reading.{ReadsEntry}
 use Rattle.logtext.specs.declared.entry.EntryFault.TheVariants.{Bad}
-use Rattle.checker.proofs.Judged.{bad_head, other_head, head_is}
+use Rattle.checker.proofs.Judged.{bad_head}
 use Rattle.checker.proofs.judging.behind_head.Goals as goal
 
 pub returns-in-Err-Bad : goal.returns-in-Err-Bad

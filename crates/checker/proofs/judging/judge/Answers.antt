@@ -1,4 +1,3 @@
-use Rattle.std.proofs.Common.{◌≡◌}
 use Rattle.checker.proofs.Judged.{refused_head}
 use Rattle.checker.proofs.judging.judge.Goals as goal
 

@@ -1,7 +1,7 @@
-use Rattle.std.proofs.Common.{◌≡◌, ◌∙◌, ap, sym, subst}
+use Rattle.std.proofs.Common.{◌∙◌, ap, sym, subst}
 use Rattle.kernel.specs.Steps.{verdict_of}
 use Rattle.checker.specs.Judgement.{IsAccepted}
-use Rattle.checker.proofs.Spelt.{Spellings, spellings_of}
+use Rattle.checker.proofs.Spelt.{Spellings}
 use Rattle.checker.proofs.Reached.{Reached, reached_head, reached_more}
 use Rattle.checker.proofs.Judged.{accepted, refused_behind, refused_missing, refused_wrong}
 use Rattle.checker.proofs.judging.judge_lines.Goals as goal
@@ -22,7 +22,7 @@ lines-preserved c =
 
 pub returns-then-to-bytes-clause-judges : goal.returns-then-to-bytes-clause-judges
 returns-then-to-bytes-clause-judges c =
-    let laws : Spellings = spellings_of c.in_ok-spellings.ensures.one_entry c.in_ok-spellings.ensures.ends_once in
+    let laws : Spellings = record { told = c.spelling_is_determined.ensures.told; ends = c.spelling_is_determined.ensures.ends } in
     let turned = rw c.in-Ended.is at c.in_ok-to.ensures.turns in
     refused_behind laws c.args.model.now c.args.bytes.now c.args.cut.now c.requires.cut c.lines.place c.in-Ended.to c.lines.line c.lines.kernel c.lines.invariant.reached turned.0 c.if-to-bytes.true
 
@@ -30,7 +30,7 @@ pub returns-in-Ended-clause-judges : goal.returns-in-Ended-clause-judges
 returns-in-Ended-clause-judges c =
     let turned = rw c.in-Ended.is at c.in_ok-to.ensures.turns in
     let read : IsAccepted c.args.model.now c.args.bytes.now (verdict_of c.lines.kernel) c.lines.kernel.nodes =
-        accepted c.args.model.now c.args.bytes.now c.args.cut.now c.requires.cut c.lines.place c.in-Ended.to c.lines.line c.lines.kernel c.lines.invariant.reached turned.0 c.if-to-bytes.false in
+    accepted c.args.model.now c.args.bytes.now c.args.cut.now c.requires.cut c.lines.place c.in-Ended.to c.lines.line c.lines.kernel c.lines.invariant.reached turned.0 c.if-to-bytes.false in
     record {
       lines = read.lines;
       state = read.state;
@@ -42,12 +42,12 @@ returns-in-Ended-clause-judges c =
 
 pub returns-in-Wrong-clause-judges : goal.returns-in-Wrong-clause-judges
 returns-in-Wrong-clause-judges c =
-    let laws : Spellings = spellings_of c.in_ok-spellings.ensures.one_entry c.in_ok-spellings.ensures.ends_once in
+    let laws : Spellings = record { told = c.spelling_is_determined.ensures.told; ends = c.spelling_is_determined.ensures.ends } in
     let turned = rw c.in-Wrong.is at c.in_ok-to.ensures.turns in
     refused_wrong laws c.args.model.now c.args.bytes.now c.args.cut.now c.requires.cut c.lines.place c.lines.line c.lines.kernel c.lines.invariant.reached turned
 
 pub returns-in-Missing-clause-judges : goal.returns-in-Missing-clause-judges
 returns-in-Missing-clause-judges c =
-    let laws : Spellings = spellings_of c.in_ok-spellings.ensures.one_entry c.in_ok-spellings.ensures.ends_once in
+    let laws : Spellings = record { told = c.spelling_is_determined.ensures.told; ends = c.spelling_is_determined.ensures.ends } in
     let turned = rw c.in-Missing.is at c.in_ok-to.ensures.turns in
     refused_missing laws c.args.model.now c.args.bytes.now c.args.cut.now c.requires.cut c.lines.place c.lines.line c.lines.kernel c.lines.invariant.reached turned c.if-bytes-ge-LOG_BYTES.false

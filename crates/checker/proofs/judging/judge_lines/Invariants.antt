@@ -1,4 +1,4 @@
-use Rattle.std.proofs.Common.{ℕ, ◌-◌, length}
+use Rattle.std.proofs.Common.{◌-◌, length}
 use Rattle.kernel.specs.Promises.{Ready}
 use Rattle.checker.proofs.Reached.{Reached}
 use Rattle.checker.proofs.judging.judge_lines.Given as goal
