@@ -152,14 +152,14 @@ fn take_line(
         Err(EntryFault::NoMemory) => return Err(NoMemory),
     };
     match entry {
-        Entry::Head => return Ok(Turn::Wrong),
+        Entry::Head => Ok(Turn::Wrong),
         Entry::Step(line) => {
             if try_line(model, kernel, line)? {
                 return Ok(Turn::Stepped(to));
             }
-            return Ok(Turn::Wrong);
+            Ok(Turn::Wrong)
         }
-        Entry::Finish => return Ok(Turn::Ended(to)),
+        Entry::Finish => Ok(Turn::Ended(to)),
     }
 }
 

@@ -20,8 +20,8 @@ returns-in-Head-clause-turns c =
     head_wrong laws c.args.model.now c.args.kernel.now c.args.bytes.now c.args.from c.in-Ok-Some.read.1
     (subst (λ e. IsEntryAt c.args.bytes.now c.args.from c.in-Ok-Some.read.1 e) c.in-Head.is read)
 
-pub returns-in-Step-clause-turns : goal.returns-in-Step-clause-turns
-returns-in-Step-clause-turns c =
+pub returns-else-branch-clause-turns : goal.returns-else-branch-clause-turns
+returns-else-branch-clause-turns c =
     let laws : Spellings = record { told = c.spelling_is_determined.ensures.told; ends = c.spelling_is_determined.ensures.ends } in
     let read : ReadsEntry numbers_of is_valid c.args.bytes.now c.args.from (Ok (Some c.in-Ok-Some.read)) = rw c.in-Ok-Some.field-0-is at c.in-Ok-Some.ensures in
     step_wrong laws c.args.model.now c.args.kernel.now c.args.bytes.now c.args.from c.in-Ok-Some.read.1 c.in-Step.line
