@@ -4,6 +4,7 @@
 
 mod entry;
 mod reader;
+mod words;
 mod writer;
 
 pub use entry::{Entry, EntryFault};
