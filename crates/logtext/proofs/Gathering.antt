@@ -1,6 +1,6 @@
 -- Gathering: one write, one text after another, and what is held.
-use Rattle.std.proofs.Common.{◌≡◌, ℕ, ◌+◌, ◌≤◌, true, List, [], ◌∷◌, ◌++◌, length, take, drop, refl, sym, ap, ◌∙◌, subst, arith, append-nil, append_assoc, length-append, length-drop, length-take}
-use Rattle.std.specs.Prelude.{Option, Some, None, Result, Ok, Err, OnOk, IsOk, IsErr, option_map}
+use Rattle.std.proofs.Common.{◌≡◌, ℕ, ◌+◌, ◌≤◌, [], ◌++◌, length, take, drop, refl, sym, ap, ◌∙◌, subst, arith, append-nil, append_assoc, length-append, length-drop}
+use Rattle.std.specs.Prelude.{Option, Some, None, Result, Ok, Err, OnOk, IsErr}
 use Rattle.std.proofs.lemmas.List.{take_all, drop_all, take-append-le, drop-append-le, drop-drop}
 use Rattle.std.proofs.Math.Seq.{take-add}
 use Rattle.sched_base.specs.declared.desk.Failed.{Failed}
@@ -80,11 +80,12 @@ goes_on {a} {b} {u} {r} {held} {mid} {kept} {s} {t} {v} first second =
         n + m,
         omega (arith, within, second.part.1, ap length first.part.3, length-drop n (held ++ a), length-append held a, length-append mid b, length-append held (a ++ b), length-append a b),
         second.part.2
-          ∙ ap (appended (take m (mid ++ b))) first.part.2
-          ∙ twice (take n (held ++ a)) (take m (mid ++ b)) s.logged
-          ∙ ap (λ bs. appended (take n (held ++ a) ++ take m (bs ++ b)) s.logged) first.part.3
-          ∙ ap (λ bs. appended bs s.logged) (both_parts n m held a b within),
-        subst (λ bs. OnOk r (kept ≡ bs)) (ap (λ bs. drop m (bs ++ b)) first.part.3 ∙ rest_of_both n m held a b within) second.part.3);
+            ∙ ap (appended (take m (mid ++ b))) first.part.2
+            ∙ twice (take n (held ++ a)) (take m (mid ++ b)) s.logged
+            ∙ ap (λ bs. appended (take n (held ++ a) ++ take m (bs ++ b)) s.logged) first.part.3
+            ∙ ap (λ bs. appended bs s.logged) (both_parts n m held a b within),
+        subst (λ bs. OnOk r (kept ≡ bs)) (ap (λ bs. drop m (bs ++ b)) first.part.3 ∙ rest_of_both n m held a b within) second.part.3,
+      );
       count = subst (λ k. Counted r k v.faults) first.count.ok second.count;
       calm = λ calm. second.calm (ap (λ w. w.calm) first.only ∙ calm);
     }
