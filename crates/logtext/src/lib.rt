@@ -4,7 +4,10 @@
 
 mod entry;
 mod reader;
+mod words;
 mod writer;
+#[cfg(test)]
+mod writer_tests;
 
 pub use entry::{Entry, EntryFault};
 pub use reader::read_entry;

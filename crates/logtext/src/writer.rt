@@ -1,36 +1,137 @@
-ghost use Rattle.std.specs.Prelude.{◌≡◌, [], IfOk, OnOk, IsTrue, true};
+ghost use Rattle.std.specs.Prelude.{◌≡◌, [], ◌∷◌, ◌++◌, if◌then◌else◌, IfOk, OnOk, IsTrue, true, codes};
 ghost use Rattle.kernel.specs.Fit.{is_fit};
-ghost use Rattle.logtext.specs.Spelling.{line_text, head_text, end_text};
+ghost use Rattle.kernel.specs.declared.types.Line.TheVariants as Line;
+ghost use Rattle.textline.specs.Lines.{line};
+ghost use Rattle.logtext.specs.Spelling.{guess_words, assignment_words, line_text, head_text, end_text};
 ghost use Rattle.logtext.specs.Writing.{Gathers};
 
-use kernel::Line;
-use region::Numbers;
+use itoa::{Buffer, Integer};
+use kernel::{Line, Witness};
+use region::{Guess, Numbers};
 use sched_base::{Desk, Failed, NoMemory, Port};
+use sched_model::Assignment;
 use std::alloc::Global;
 
+/// How many bytes are gathered before they are written.
+const ROOM: usize = 65_536;
+
 /// Writes the lines of a log. It gathers them, so that a line isn't a call of the system each;
-/// contracts see the bytes that still wait. After a failure nothing further is to be written.
+/// contracts see the bytes that still wait. After a failure nothing further is to be written: what
+/// then waits, and what a later call writes, is not promised.
 #[derive(Drop)]
 pub struct LogWriter {
     waiting: Vec<u8>,
 }
 
 impl std::marker::Model for LogWriter {
-    ghost use Rattle.std.specs.Prelude.{◌≡◌, ℕ, List, true, false};
+    ghost use Rattle.std.specs.Prelude.{ℕ, List};
 
     ghost Value = { List ℕ };
 
     ghost view = { λ w. w.waiting.items };
-
-    ghost invariant = { λ w. true ≡ false };
 }
 
 impl LogWriter {
     /// A writer with nothing gathered. No later call takes memory.
-    pub fn new(_alloc: Global) -> Result<LogWriter, NoMemory>
+    pub fn new(alloc: Global) -> Result<LogWriter, NoMemory>
         ensures { IfOk result (λ w. w ≡ []) }
     {
-        Err(NoMemory)
+        Ok(LogWriter {
+            waiting: Vec::with_capacity(alloc, ROOM)?,
+        })
+    }
+
+    /// Puts the bytes behind those that wait, if there is room for them.
+    fn hold(&mut self, bytes: &[u8]) -> bool
+        ensures { self.new ≡ (if result then self.old ++ bytes.now else self.old) }
+    {
+        if bytes.len() > self.waiting.capacity().saturating_sub(self.waiting.len()) {
+            return false;
+        }
+        self.waiting.extend_from_slice(bytes).is_ok()
+    }
+
+    /// Writes all that waits.
+    fn flush<D: Desk>(&mut self, desk: &mut D) -> Result<(), Failed>
+        requires { (D.state desk.old).created ≡ true }
+        ensures gathers { Gathers [] result self.old self.new (D.state desk.old) (D.state desk.new) }
+        ensures none { OnOk result (self.new ≡ []) }
+    {
+        desk.write(Port::Log, &self.waiting)?;
+        self.waiting.clear();
+        Ok(())
+    }
+
+    /// Puts the bytes behind those that wait. A piece for which all the room isn't enough goes out
+    /// by itself.
+    pub(crate) fn put<D: Desk>(&mut self, bytes: &[u8], desk: &mut D) -> Result<(), Failed>
+        requires { (D.state desk.old).created ≡ true }
+        ensures { Gathers bytes.now result self.old self.new (D.state desk.old) (D.state desk.new) }
+    {
+        if self.hold(bytes) {
+            return Ok(());
+        }
+        self.flush(desk)?;
+        if self.hold(bytes) {
+            return Ok(());
+        }
+        desk.write(Port::Log, bytes)
+    }
+
+    /// A space and a number.
+    pub(crate) fn put_number<I: Integer, D: Desk>(
+        &mut self,
+        n: I,
+        desk: &mut D,
+    ) -> Result<(), Failed>
+        requires { (D.state desk.old).created ≡ true }
+        ensures { Gathers (32 ∷ I.text n) result self.old self.new (D.state desk.old) (D.state desk.new) }
+    {
+        let mut buffer = Buffer::new();
+        self.put(b" ", desk)?;
+        self.put(buffer.format(n).as_bytes(), desk)
+    }
+
+    fn put_derive<W: Numbers, D: Desk>(
+        &mut self,
+        g: Guess,
+        w: &Witness<W>,
+        desk: &mut D,
+    ) -> Result<(), Failed>
+        requires { (D.state desk.old).created ≡ true }
+        ensures { Gathers (line_text W.numbers (Line.Derive g w.now)) result self.old self.new (D.state desk.old) (D.state desk.new) }
+    {
+        self.put(b"d", desk)?;
+        self.put_guess(g, desk)?;
+        self.put_witness(w, desk)?;
+        self.put(b"\n", desk)
+    }
+
+    fn put_fail<W: Numbers, D: Desk>(&mut self, w: &Witness<W>, desk: &mut D) -> Result<(), Failed>
+        requires { (D.state desk.old).created ≡ true }
+        ensures { Gathers (line_text W.numbers (Line.Fail w.now)) result self.old self.new (D.state desk.old) (D.state desk.new) }
+    {
+        self.put(b"f", desk)?;
+        self.put_witness(w, desk)?;
+        self.put(b"\n", desk)
+    }
+
+    fn put_split<D: Desk>(&mut self, g: Guess, desk: &mut D) -> Result<(), Failed>
+        requires { (D.state desk.old).created ≡ true }
+        ensures { Gathers (line (codes "s" ∷ guess_words g)) result self.old self.new (D.state desk.old) (D.state desk.new) }
+    {
+        self.put(b"s", desk)?;
+        self.put_guess(g, desk)?;
+        self.put(b"\n", desk)
+    }
+
+    fn put_sol<D: Desk>(&mut self, a: &Assignment, desk: &mut D) -> Result<(), Failed>
+        requires { (D.state desk.old).created ≡ true }
+        ensures { Gathers (line (codes "v" ∷ assignment_words a.now)) result self.old self.new (D.state desk.old) (D.state desk.new) }
+    {
+        self.put(b"v", desk)?;
+        self.put_assignment(a, desk)?;
+        self.put(b"\n", desk)
     }
 
     /// The first line.
@@ -38,22 +139,25 @@ impl LogWriter {
         requires { (D.state desk.old).created ≡ true }
         ensures { Gathers head_text result self.old self.new (D.state desk.old) (D.state desk.new) }
     {
-        let _ = &self.waiting;
-        desk.write(Port::Log, b"")
+        self.put(b"schedlog 1\n", desk)
     }
 
     /// A line that steps.
     pub fn write_line<W: Numbers, D: Desk>(
         &mut self,
-        _line: &Line<W>,
+        line: &Line<W>,
         desk: &mut D,
     ) -> Result<(), Failed>
         requires created { (D.state desk.old).created ≡ true }
-        requires fit { IsTrue (is_fit W.is_valid _line.now) }
-        ensures { Gathers (line_text W.numbers _line.now) result self.old self.new (D.state desk.old) (D.state desk.new) }
+        requires fit { IsTrue (is_fit W.is_valid line.now) }
+        ensures { Gathers (line_text W.numbers line.now) result self.old self.new (D.state desk.old) (D.state desk.new) }
     {
-        let _ = &self.waiting;
-        desk.write(Port::Log, b"")
+        match line {
+            Line::Derive(g, w) => self.put_derive(*g, w, desk),
+            Line::Fail(w) => self.put_fail(w, desk),
+            Line::Split(g) => self.put_split(*g, desk),
+            Line::Sol(a) => self.put_sol(a, desk),
+        }
     }
 
     /// The last line. With it all that waited is written.
@@ -62,7 +166,7 @@ impl LogWriter {
         ensures gathers { Gathers end_text result self.old self.new (D.state desk.old) (D.state desk.new) }
         ensures none { OnOk result (self.new ≡ []) }
     {
-        let _ = &self.waiting;
-        desk.write(Port::Log, b"")
+        self.put(b"end\n", desk)?;
+        self.flush(desk)
     }
 }

@@ -1,0 +1,11 @@
+use Rattle.logtext.proofs.Spaced.{first_word, no_word}
+use Rattle.logtext.proofs.writer.LogWriter.put_order.Goals as goal
+
+pub returns-in_err-put : goal.returns-in_err-put
+returns-in_err-put g c = no_word _ c.from_residual.ensures.0 c.in_err-put.ensures
+
+pub returns-in_err-put_number : goal.returns-in_err-put_number
+returns-in_err-put_number g c = first_word _ c.in_ok-put.ensures (no_word _ c.from_residual-in_err-put_number.ensures.0 c.in_err-put_number.ensures)
+
+pub returns : goal.returns
+returns g c = first_word _ c.in_ok-put.ensures (first_word _ c.in_ok-put_number.ensures c.put_members.ensures)

@@ -1,0 +1,221 @@
+ghost use Rattle.std.specs.Prelude.{◌≡◌, [], ◌∷◌, ◌++◌, map, true, codes};
+ghost use Rattle.std.specs.List.{flat_map};
+ghost use Rattle.std.specs.Fmt.{decimal, signed_decimal};
+ghost use Rattle.kernel.specs.declared.types.Witness.TheVariants.{Extra};
+ghost use Rattle.logtext.specs.Spelling.{guess_words, basic_words, witness_words, slot_words, member_word, order_words, segment_words, segments_words, assignment_words};
+ghost use Rattle.logtext.specs.Writing.{Gathers, spaced};
+
+use crate::writer::LogWriter;
+use kernel::Witness;
+use refute_basic::BasicWitness;
+use region::{Guess, Numbers};
+use sched_base::{Desk, Failed, Itv, List};
+use sched_model::{Assignment, Segment, Slot};
+
+/// The words of the parts of a line, each with a space before it.
+impl LogWriter {
+    /// A word and an interval.
+    fn put_named<D: Desk>(&mut self, word: &[u8], x: Itv, desk: &mut D) -> Result<(), Failed>
+        requires { (D.state desk.old).created ≡ true }
+        ensures { Gathers (word.now ++ spaced (decimal x.0 ∷ [])) result self.old self.new (D.state desk.old) (D.state desk.new) }
+    {
+        self.put(word, desk)?;
+        self.put_number(x.0, desk)
+    }
+
+    /// A word, an interval and a moment.
+    fn put_timed<D: Desk>(
+        &mut self,
+        word: &[u8],
+        x: Itv,
+        t: i64,
+        desk: &mut D,
+    ) -> Result<(), Failed>
+        requires { (D.state desk.old).created ≡ true }
+        ensures { Gathers (word.now ++ spaced (decimal x.0 ∷ signed_decimal t ∷ [])) result self.old self.new (D.state desk.old) (D.state desk.new) }
+    {
+        self.put(word, desk)?;
+        self.put_number(x.0, desk)?;
+        self.put_number(t, desk)
+    }
+
+    #[tactic(auto, unfolding(crate::specs::Writing::spaced))]
+    pub(crate) fn put_guess<D: Desk>(&mut self, g: Guess, desk: &mut D) -> Result<(), Failed>
+        requires { (D.state desk.old).created ≡ true }
+        ensures { Gathers (spaced (guess_words g)) result self.old self.new (D.state desk.old) (D.state desk.new) }
+    {
+        match g {
+            Guess::Present(x) => self.put_named(b" P", x, desk),
+            Guess::Absent(x) => self.put_named(b" A", x, desk),
+            Guess::StartLe(x, t) => self.put_timed(b" SL", x, t, desk),
+            Guess::StartGe(x, t) => self.put_timed(b" SG", x, t, desk),
+            Guess::EndLe(x, t) => self.put_timed(b" EL", x, t, desk),
+            Guess::EndGe(x, t) => self.put_timed(b" EG", x, t, desk),
+        }
+    }
+
+    fn put_leaf<D: Desk>(&mut self, k: u32, u: u32, desk: &mut D) -> Result<(), Failed>
+        requires { (D.state desk.old).created ≡ true }
+        ensures { Gathers (spaced (codes "LEAF" ∷ decimal k ∷ decimal u ∷ [])) result self.old self.new (D.state desk.old) (D.state desk.new) }
+    {
+        self.put(b" LEAF", desk)?;
+        self.put_number(k, desk)?;
+        self.put_number(u, desk)
+    }
+
+    fn put_basic<D: Desk>(&mut self, w: BasicWitness, desk: &mut D) -> Result<(), Failed>
+        requires { (D.state desk.old).created ≡ true }
+        ensures { Gathers (spaced (basic_words w)) result self.old self.new (D.state desk.old) (D.state desk.new) }
+    {
+        match w {
+            BasicWitness::Leaf { k, u } => self.put_leaf(k, u, desk),
+        }
+    }
+
+    fn put_numbers<W: Numbers, D: Desk>(&mut self, w: &W, desk: &mut D) -> Result<(), Failed>
+        requires { (D.state desk.old).created ≡ true }
+        ensures { Gathers (spaced (map signed_decimal (W.numbers w.now))) result self.old self.new (D.state desk.old) (D.state desk.new) }
+    {
+        for i in 0..w.count() {
+            self.put_number(w.number(i), desk)?;
+        }
+        Ok(())
+    }
+
+    fn put_extra<W: Numbers, D: Desk>(&mut self, w: &W, desk: &mut D) -> Result<(), Failed>
+        requires { (D.state desk.old).created ≡ true }
+        ensures { Gathers (spaced (witness_words W.numbers (Extra w.now))) result self.old self.new (D.state desk.old) (D.state desk.new) }
+    {
+        self.put(b" EXTRA", desk)?;
+        self.put_number(w.count(), desk)?;
+        self.put_numbers(w, desk)
+    }
+
+    pub(crate) fn put_witness<W: Numbers, D: Desk>(
+        &mut self,
+        w: &Witness<W>,
+        desk: &mut D,
+    ) -> Result<(), Failed>
+        requires { (D.state desk.old).created ≡ true }
+        ensures { Gathers (spaced (witness_words W.numbers w.now)) result self.old self.new (D.state desk.old) (D.state desk.new) }
+    {
+        match w {
+            Witness::Basic(basic) => self.put_basic(*basic, desk),
+            Witness::Extra(extra) => self.put_extra(extra, desk),
+        }
+    }
+
+    fn put_present<D: Desk>(&mut self, s: i64, e: i64, desk: &mut D) -> Result<(), Failed>
+        requires { (D.state desk.old).created ≡ true }
+        ensures { Gathers (spaced (codes "p" ∷ signed_decimal s ∷ signed_decimal e ∷ [])) result self.old self.new (D.state desk.old) (D.state desk.new) }
+    {
+        self.put(b" p", desk)?;
+        self.put_number(s, desk)?;
+        self.put_number(e, desk)
+    }
+
+    #[tactic(auto, unfolding(crate::specs::Writing::spaced))]
+    fn put_slot<D: Desk>(&mut self, slot: Slot, desk: &mut D) -> Result<(), Failed>
+        requires { (D.state desk.old).created ≡ true }
+        ensures { Gathers (spaced (slot_words slot)) result self.old self.new (D.state desk.old) (D.state desk.new) }
+    {
+        match slot {
+            Slot::Absent => self.put(b" a", desk),
+            Slot::Present { s, e } => self.put_present(s, e, desk),
+        }
+    }
+
+    fn put_slots<D: Desk>(&mut self, slots: &[Slot], desk: &mut D) -> Result<(), Failed>
+        requires { (D.state desk.old).created ≡ true }
+        ensures { Gathers (spaced (flat_map slot_words slots.now)) result self.old self.new (D.state desk.old) (D.state desk.new) }
+    {
+        for slot in slots {
+            self.put_slot(*slot, desk)?;
+        }
+        Ok(())
+    }
+
+    fn put_members<D: Desk>(&mut self, members: &[Itv], desk: &mut D) -> Result<(), Failed>
+        requires { (D.state desk.old).created ≡ true }
+        ensures { Gathers (spaced (map member_word members.now)) result self.old self.new (D.state desk.old) (D.state desk.new) }
+    {
+        for x in members {
+            self.put_number(x.0, desk)?;
+        }
+        Ok(())
+    }
+
+    fn put_order<D: Desk>(&mut self, order: &[Itv], desk: &mut D) -> Result<(), Failed>
+        requires { (D.state desk.old).created ≡ true }
+        ensures { Gathers (spaced (order_words order.now)) result self.old self.new (D.state desk.old) (D.state desk.new) }
+    {
+        self.put(b" o", desk)?;
+        self.put_number(order.len(), desk)?;
+        self.put_members(order, desk)
+    }
+
+    fn put_orders<D: Desk>(&mut self, orders: &[List<Itv>], desk: &mut D) -> Result<(), Failed>
+        requires { (D.state desk.old).created ≡ true }
+        ensures { Gathers (spaced (flat_map order_words orders.now)) result self.old self.new (D.state desk.old) (D.state desk.new) }
+    {
+        for order in orders {
+            self.put_order(order.as_slice(), desk)?;
+        }
+        Ok(())
+    }
+
+    fn put_segment<D: Desk>(&mut self, segment: Segment, desk: &mut D) -> Result<(), Failed>
+        requires { (D.state desk.old).created ≡ true }
+        ensures { Gathers (spaced (segment_words segment)) result self.old self.new (D.state desk.old) (D.state desk.new) }
+    {
+        self.put_number(segment.p, desk)?;
+        self.put_number(segment.q, desk)?;
+        self.put_number(segment.v, desk)
+    }
+
+    fn put_segments<D: Desk>(&mut self, segments: &[Segment], desk: &mut D) -> Result<(), Failed>
+        requires { (D.state desk.old).created ≡ true }
+        ensures { Gathers (spaced (flat_map segment_words segments.now)) result self.old self.new (D.state desk.old) (D.state desk.new) }
+    {
+        for segment in segments {
+            self.put_segment(*segment, desk)?;
+        }
+        Ok(())
+    }
+
+    fn put_function<D: Desk>(&mut self, segments: &[Segment], desk: &mut D) -> Result<(), Failed>
+        requires { (D.state desk.old).created ≡ true }
+        ensures { Gathers (spaced (segments_words segments.now)) result self.old self.new (D.state desk.old) (D.state desk.new) }
+    {
+        self.put(b" g", desk)?;
+        self.put_number(segments.len(), desk)?;
+        self.put_segments(segments, desk)
+    }
+
+    fn put_functions<D: Desk>(
+        &mut self,
+        functions: &[List<Segment>],
+        desk: &mut D,
+    ) -> Result<(), Failed>
+        requires { (D.state desk.old).created ≡ true }
+        ensures { Gathers (spaced (flat_map segments_words functions.now)) result self.old self.new (D.state desk.old) (D.state desk.new) }
+    {
+        for segments in functions {
+            self.put_function(segments.as_slice(), desk)?;
+        }
+        Ok(())
+    }
+
+    pub(crate) fn put_assignment<D: Desk>(
+        &mut self,
+        a: &Assignment,
+        desk: &mut D,
+    ) -> Result<(), Failed>
+        requires { (D.state desk.old).created ≡ true }
+        ensures { Gathers (spaced (assignment_words a.now)) result self.old self.new (D.state desk.old) (D.state desk.new) }
+    {
+        self.put_slots(a.slots.as_slice(), desk)?;
+        self.put_orders(a.orders.as_slice(), desk)?;
+        self.put_functions(a.segs.as_slice(), desk)
+    }
+}
