@@ -1,5 +1,5 @@
 -- What checking a log gives, and what it does to the desk.
-use Rattle.std.specs.Prelude.{◌≡◌, ℕ, ◌+◌, ◌≤◌, true, take, Result, Ok, Err, IfSome, ⊤}
+use Rattle.std.specs.Prelude.{◌≡◌, ◌+◌, ◌≤◌, true, take, Result, Ok, Err, IfSome, ⊤}
 use Rattle.sched_base.specs.declared.desk.Inlet.TheVariants.{Log}
 use Rattle.sched_base.specs.State.{State, left_in}
 use Rattle.sched_base.specs.Calls.{Rose}

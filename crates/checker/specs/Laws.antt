@@ -1,8 +1,12 @@
 -- Laws of the judgement of a log.
-use Rattle.std.specs.Prelude.{◌≡◌, ℕ}
+use Rattle.std.specs.Prelude.{◌≡◌, ℕ, List}
 use Rattle.sched_model.specs.Data.{Data}
+use Rattle.sched_model.specs.Valid.{IsValid}
 use Rattle.kernel.specs.declared.types.Verdict.{Verdict}
+use Rattle.kernel.specs.Steps.{LogState, verdict_of}
+use Rattle.kernel.specs.Promises.{Means}
 use Rattle.textline.specs.Lines.{Bytes}
+use Rattle.logtext.specs.Logs.{PlainLine, IsPlainLog, plain_log}
 use Rattle.checker.specs.Judgement.{IsAccepted, IsRefused}
 
 -- bytes are accepted with one verdict and one count, or refused at one line, and not both
@@ -14,3 +18,11 @@ OneLine = (m : Data) (bytes : Bytes) (j k : ℕ) → IsRefused m bytes j → IsR
 
 abbrev pub NotBoth : Type 0
 NotBoth = (m : Data) (bytes : Bytes) (v : Verdict) (i k : ℕ) → IsAccepted m bytes v i → IsRefused m bytes k → ⊥
+
+-- a log that is written whole is accepted with what it has shown
+abbrev pub WholeLogIsAccepted : Type 0
+WholeLogIsAccepted = (m : Data) (lines : List PlainLine) (s : LogState) → IsPlainLog m lines s → IsAccepted m (plain_log lines) (verdict_of s) s.nodes
+
+-- a verdict that is accepted means what it says
+abbrev pub AcceptedMeans : Type 0
+AcceptedMeans = (m : Data) (bytes : Bytes) (v : Verdict) (n : ℕ) → IsValid m → IsAccepted m bytes v n → Means m v

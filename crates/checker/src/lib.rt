@@ -2,5 +2,7 @@
 #![tactic(auto)]
 
 mod judging;
+mod laws;
 
 pub use judging::{CheckFault, Checked, check};
+pub use laws::judgement_is_determined;

@@ -3,3 +3,5 @@ pub mod Entries
 pub mod Reading
 pub mod Writing
 pub mod Logs
+pub mod Promises
+pub mod laws

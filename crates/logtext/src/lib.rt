@@ -3,6 +3,7 @@
 #![tactic(auto)]
 
 mod entry;
+mod laws;
 mod reader;
 mod words;
 mod writer;
@@ -10,5 +11,6 @@ mod writer;
 mod writer_tests;
 
 pub use entry::{Entry, EntryFault};
+pub use laws::spelling_is_determined;
 pub use reader::read_entry;
 pub use writer::LogWriter;

@@ -1,5 +1,5 @@
 -- Lines of words.
-use Rattle.std.specs.Prelude.{ℕ, Bool, List, [], ◌∷◌, ◌++◌, ◌==◌}
+use Rattle.std.specs.Prelude.{ℕ, List, [], ◌∷◌, ◌++◌, ◌==◌}
 use Rattle.std.specs.List.{slice_split}
 
 abbrev pub Bytes : Type 0

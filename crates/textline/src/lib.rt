@@ -4,8 +4,13 @@
 ghost use Rattle.std.specs.Prelude.{◌≡◌, ◌++◌, OnOk};
 ghost use Rattle.std.specs.Fmt.{signed_decimal};
 
+mod number;
+mod words;
+
 use itoa::Buffer;
+pub use number::{read_count, read_number};
 use sched_base::NoMemory;
+pub use words::Words;
 
 /// Puts the decimal spelling of a number behind the bytes.
 pub fn push_number(bytes: &mut Vec<u8>, n: i64) -> Result<(), NoMemory>

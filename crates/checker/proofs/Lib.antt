@@ -1,0 +1,6 @@
+pub mod Feeds
+pub mod Spelt
+pub mod Logs
+pub mod Reached
+pub mod Judged
+pub mod Determined

@@ -1,0 +1,73 @@
+-- How far a log has been read.
+use Rattle.std.proofs.Common.{◌≡◌, ℕ, ◌+◌, ◌-◌, ◌≤◌, List, [], ◌∷◌, ◌++◌, length, take, drop, Ok, refl, sym, ap, subst, ◌∙◌, arith, append_assoc, length-append, length-take}
+use Rattle.std.proofs.lemmas.List.{take-append-drop, drop-drop}
+use Rattle.std.proofs.lemmas.List.Elements.{All-nil}
+use Rattle.sched_model.specs.Data.{Data}
+use Rattle.textline.specs.Lines.{Bytes}
+use Rattle.kernel.specs.declared.no_extra.NoWitness.{NoWitness}
+use Rattle.kernel.specs.NoExtra.{numbers_of}
+use Rattle.kernel.specs.Steps.{LogState, opening}
+use Rattle.kernel.specs.Steps.Steps.{done}
+use Rattle.logtext.specs.declared.entry.Entry.{Entry}
+use Rattle.logtext.specs.declared.entry.Entry.TheVariants.{Head, Step}
+use Rattle.logtext.specs.Spelling.{head_text}
+use Rattle.logtext.specs.Entries.{entry_text}
+use Rattle.logtext.specs.Logs.{PlainLine, IsPlainLog, plain_text, plain_lines}
+use Rattle.checker.specs.Turns.{IsEntryAt}
+use Rattle.checker.proofs.Spelt.{Spelt}
+use Rattle.checker.proofs.Logs.{plain_step, log_more, step_nodes}
+
+abbrev pub plain_entry : Entry NoWitness → Bytes
+plain_entry e = entry_text numbers_of e
+
+-- the lines in front of a place lead to this state, and the next line has this number
+pub record Reached (m : Data) (bytes : Bytes) (place line : ℕ) (s : LogState) : Type 0 where
+  pub lines : List PlainLine
+  pub log : IsPlainLog m lines s
+  pub text : bytes ≡ head_text ++ (plain_lines lines ++ drop place bytes)
+  pub number : line ≡ length lines + 2
+  pub within : place ≤ length bytes
+  pub few : length lines ≤ place
+  pub nodes : s.nodes ≤ length lines
+
+-- the line that stands at a place, and what is behind it
+pub line_apart : (bytes : Bytes) (from to : ℕ) (e : Entry NoWitness) → IsEntryAt bytes from to e → drop from bytes ≡ plain_entry e ++ drop to bytes
+line_apart bytes from to e at =
+    let place : from + (to - from) ≡ to = omega (arith, at.further) in
+    sym (take-append-drop (to - from) (drop from bytes)) ∙ ap (λ t. t ++ drop (to - from) (drop from bytes)) at.spells.text_is ∙ ap (λ t. plain_entry e ++ t) (drop-drop (to - from) from bytes ∙ ap (λ n. drop n bytes) place)
+
+pub entry_spelt : (bytes : Bytes) (from to : ℕ) (e : Entry NoWitness) → IsEntryAt bytes from to e → Spelt (plain_entry e) e
+entry_spelt bytes from to e at = subst (λ t. Spelt t e) at.spells.text_is at.spells
+
+pub reached_head : (m : Data) (bytes : Bytes) (to : ℕ) → IsEntryAt bytes 0 to Head → Reached m bytes to 2 (opening m)
+reached_head m bytes to at = record {
+  lines = [];
+  log = record { each = All-nil _; steps = done };
+  text = line_apart bytes 0 to Head at;
+  number = refl;
+  within = at.within;
+  few = omega arith;
+  nodes = omega arith;
+}
+
+pub reached_more : (m : Data) (bytes : Bytes) (place to line : ℕ) (s t : LogState) (l : PlainLine) → Reached m bytes place line s → IsEntryAt bytes place to (Step l) → plain_step m l s ≡ Ok t
+    → Reached m bytes to (line + 1) t
+reached_more m bytes place to line s t l so_far at goes = record {
+  lines = so_far.lines ++ l ∷ [];
+  log = log_more m so_far.lines l s t so_far.log (entry_spelt bytes place to (Step l) at) goes;
+  text = so_far.text ∙ ap (λ r. head_text ++ r) (ap (λ r. plain_lines so_far.lines ++ r) (line_apart bytes place to (Step l) at) ∙ sym (lines_more so_far.lines l (drop to bytes)));
+  number = omega (arith, so_far.number, length-append so_far.lines (l ∷ []));
+  within = at.within;
+  few = omega (arith, so_far.few, at.further, length-append so_far.lines (l ∷ []));
+  nodes = omega (arith, so_far.nodes, step_nodes m l s t goes, length-append so_far.lines (l ∷ []));
+}
+  where
+    lines_more : (ls : List PlainLine) (l : PlainLine) (rest : Bytes) → plain_lines (ls ++ l ∷ []) ++ rest ≡ plain_lines ls ++ (plain_text l ++ rest)
+    lines_more [] l rest = append_assoc (plain_text l) [] rest
+    lines_more (k ∷ ks) l rest = append_assoc (plain_text k) (plain_lines (ks ++ l ∷ [])) rest ∙ ap (λ r. plain_text k ++ r) (lines_more ks l rest) ∙ sym (append_assoc (plain_text k) (plain_lines ks) (plain_text l ++ rest))
+
+-- the counts are small
+pub room : (m : Data) (limit : ℕ) (bytes cut : Bytes) (place line : ℕ) (s : LogState) → cut ≡ take limit bytes → Reached m cut place line s → (s.nodes ≤ limit) × (line ≤ limit + 2)
+room m limit bytes cut place line s is_cut so_far =
+    let few : length cut ≤ limit = omega (arith, ap length is_cut, length-take limit bytes) in
+    (omega (arith, few, so_far.nodes, so_far.few, so_far.within), omega (arith, few, so_far.number, so_far.few, so_far.within))

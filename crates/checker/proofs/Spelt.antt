@@ -1,0 +1,68 @@
+-- What the laws of spelling say of bytes that begin with a line.
+use Rattle.std.proofs.Common.{◌≡◌, Bool, true, false, [], ◌∷◌, ◌++◌, length, take, drop, sym, ap, subst, ◌∙◌, arith, append_assoc, length-append}
+use Rattle.std.proofs.lemmas.List.{take-append-drop}
+use Rattle.std.proofs.Math.Seq.{take-append_seam}
+use Rattle.textline.specs.Lines.{Bytes}
+use Rattle.kernel.specs.declared.no_extra.NoWitness.{NoWitness}
+use Rattle.kernel.specs.NoExtra.{numbers_of, is_valid}
+use Rattle.logtext.specs.declared.entry.Entry.{Entry}
+use Rattle.logtext.specs.Entries.{Spells, entry_text}
+use Rattle.logtext.specs.Reading.{HasNoWholeLine, BeginsWithNone}
+use Rattle.checker.specs.Judgement.{BeginsWith}
+use Rattle.logtext.specs.Promises.{EndsOnce, SpellingsAreTold, SpellingsEndOnce}
+use Rattle.checker.proofs.Feeds.{has_no_feed, feed_within, cut_line}
+use Rattle.checker.proofs.Feeds.Cut.{before, behind}
+
+abbrev pub Spelt : Bytes → Entry NoWitness → Type 0
+Spelt text e = Spells numbers_of is_valid text e
+
+pub record Spellings : Type 0 where
+  pub told : SpellingsAreTold numbers_of is_valid
+  pub ends : SpellingsEndOnce numbers_of is_valid
+
+ends_once : Spellings → (text : Bytes) (e : Entry NoWitness) → Spelt text e → EndsOnce text
+ends_once laws text e p = subst EndsOnce (sym p.text_is) (laws.ends e p.fit)
+
+up_to_feed : (a x : Bytes) (once : EndsOnce a) → a ++ x ≡ once.body ++ 10 ∷ x
+up_to_feed a x once = ap (λ t. t ++ x) once.text_is ∙ append_assoc once.body (10 ∷ []) x
+
+pub record SameLine (a b x y : Bytes) (e f : Entry NoWitness) : Type 0 where
+  pub text : a ≡ b
+  pub rest : x ≡ y
+  pub entry : e ≡ f
+
+pub one_line : Spellings → (a b x y : Bytes) (e f : Entry NoWitness) → Spelt a e → Spelt b f → a ++ x ≡ b ++ y → SameLine a b x y e f
+one_line laws a b x y e f p q h =
+    let same = laws.told e f x y p.fit q.fit (ap (λ t. t ++ x) (sym p.text_is) ∙ h ∙ ap (λ t. t ++ y) q.text_is) in
+    record { text = p.text_is ∙ ap (entry_text numbers_of) same.0 ∙ sym q.text_is; rest = same.1; entry = same.0 }
+
+pub begun : (rest a x : Bytes) (e : Entry NoWitness) → rest ≡ a ++ x → Spelt a e → BeginsWith rest e
+begun rest a x e is p = (length a, rw is (omega (arith, length-append a x)), rw (is, take-append_seam a x) p)
+
+pub begins_by : (rest : Bytes) (e : Entry NoWitness) (begins : BeginsWith rest e) → rest ≡ take begins.0 rest ++ drop begins.0 rest
+begins_by rest e begins = sym (take-append-drop begins.0 rest)
+
+true_false : (b : Bool) → b ≡ true → b ≡ false → ⊥
+true_false b p q = cc
+
+-- a whole line isn't open
+pub not_open : Spellings → (a x : Bytes) (e : Entry NoWitness) → Spelt a e → HasNoWholeLine (a ++ x) → ⊥
+not_open laws a x e p open_one =
+    let once = ends_once laws a e p in
+    true_false (has_no_feed (a ++ x)) open_one.open_line (ap has_no_feed (up_to_feed a x once) ∙ feed_within once.body x)
+
+pub open_begins_none : Spellings → (rest : Bytes) (e : Entry NoWitness) → HasNoWholeLine rest → BeginsWith rest e → ⊥
+open_begins_none laws rest e open_one begins = not_open laws _ (drop begins.0 rest) e begins.2 (subst HasNoWholeLine (begins_by rest e begins) open_one)
+
+-- where no line is spelt in front, and what stands there is no part of one, none is whatever follows
+pub none_with_more : Spellings → (r z : Bytes) → (HasNoWholeLine r → ⊥) → BeginsWithNone numbers_of is_valid r → (e : Entry NoWitness) → BeginsWith (r ++ z) e → ⊥
+none_with_more laws r z whole none e begins =
+    let a = take begins.0 (r ++ z) in
+    let once = ends_once laws a e begins.2 in
+    elim (cut_line r z once.body (drop begins.0 (r ++ z)) once.clean (begins_by (r ++ z) e begins ∙ up_to_feed a (drop begins.0 (r ++ z)) once)) [
+      | before clean short ↦ whole (record { open_line = clean; short = omega (arith, ap length once.text_is, length-append once.body (10 ∷ []), begins.2.short) })
+      | behind more is ↦
+          let parts : r ≡ a ++ more = is ∙ sym (up_to_feed a more once) in
+          let front = begun r a more e parts begins.2 in
+          none e front.0 front.1 front.2
+    ]

@@ -1,0 +1,5 @@
+pub mod Leads
+pub mod Told
+pub mod Plain
+pub mod Entries
+pub mod Ends

@@ -1,0 +1,132 @@
+-- No spelling of a line is the front of another's, and each tells its line.
+use Rattle.std.specs.Prelude.{◌≡◌, ℕ, zero, suc, ◌&&◌, ◌^◌, ◌<◌, ℤ, Bool, true, IsTrue, List, [], ◌∷◌, ◌++◌, length, map, codes, All}
+use Rattle.std.proofs.Common.{refl, ap, sym, ◌∙◌, append_assoc, arith, get_or}
+use Rattle.std.proofs.lemmas.List.{append-nil}
+use Rattle.std.proofs.lemmas.Bool.Decides.{nat_tests}
+use Rattle.std.specs.List.{list_all}
+use Rattle.std.specs.Fmt.{decimal, signed_decimal}
+use Rattle.sched_model.specs.Valid.{is_small}
+use Rattle.region.specs.Spelled.{AreSmall}
+use Rattle.refute_basic.specs.declared.witness.BasicWitness.{BasicWitness}
+use Rattle.refute_basic.specs.declared.witness.BasicWitness.TheVariants.{Leaf}
+use Rattle.kernel.specs.declared.types.Witness.{Witness}
+use Rattle.kernel.specs.declared.types.Witness.TheVariants.{Basic, Extra}
+use Rattle.kernel.specs.declared.types.Line.{Line}
+use Rattle.kernel.specs.declared.types.Line.TheVariants.{Derive, Fail, Split, Sol}
+use Rattle.kernel.specs.Fit.{is_count, is_fit, is_fit_guess, is_fit_basic, is_fit_witness}
+use Rattle.textline.specs.Lines.{Bytes, line}
+use Rattle.textline.specs.Words.{are_words}
+use Rattle.textline.specs.laws.Lines.{both_true, true_both, line_told}
+use Rattle.logtext.specs.declared.entry.Entry.{Entry}
+use Rattle.logtext.specs.declared.entry.Entry.TheVariants.{Head, Step, Finish}
+use Rattle.logtext.specs.Spelling.{guess_words, basic_words, witness_words, assignment_words, line_words}
+use Rattle.logtext.specs.Entries.{entry_text, entry_words, is_fit_entry}
+use Rattle.logtext.specs.laws.Leads.{Tells, tag}
+use Rattle.logtext.specs.laws.Told.{count_told, numbers_told, guess_told, assignment_told}
+use Rattle.logtext.specs.laws.Plain.{count_word, moment_word, first_and, front_and, each_plain, guess_plain, assignment_plain}
+
+-- valid witnesses have few and small numbers, which tell them apart
+pub record AreTold {W : Type 0} (numbers : W → List ℤ) (valid : W → Bool) : Type 0 where
+  pub few : (w : W) → IsTrue (valid w) → length (numbers w) < 2 ^ 32
+  pub small : (w : W) → IsTrue (valid w) → AreSmall (numbers w)
+  pub apart : (v w : W) → IsTrue (valid v) → IsTrue (valid w) → numbers v ≡ numbers w → v ≡ w
+
+pub all_small : (zs : List ℤ) → AreSmall zs → list_all is_small zs ≡ true
+all_small [] h = refl
+all_small (z ∷ zs) h = true_both (is_small z) (list_all is_small zs) (h zero z (omega arith)) (all_small zs (λ k d within. h (suc k) d (omega (arith, within))))
+
+pub few_is_count : (n : ℕ) → n < 2 ^ 32 → is_count n ≡ true
+few_is_count n h = grind (arith, nat_tests)
+
+pub basic_told : Tells basic_words is_fit_basic
+basic_told (Leaf k u) (Leaf l v) x y ha hb e =
+    let h = both_true (is_count k) (is_count u) ha in
+    let i = both_true (is_count l) (is_count v) hb in
+    let first = count_told k l h.0 i.0 (cc) in
+    let second = count_told u v h.1 i.1 (cc) in (cc, cc)
+
+pub witness_told : {W : Type 0} → (numbers : W → List ℤ) (valid : W → Bool) → AreTold numbers valid → Tells (witness_words numbers) (is_fit_witness valid)
+witness_told numbers valid laws (Basic a) (Basic b) x y ha hb e = let same = basic_told a b x y ha hb e in (ap Basic same.0, same.1)
+witness_told numbers valid laws (Extra a) (Extra b) x y ha hb e =
+    let count = count_told (length (numbers a)) (length (numbers b)) (few_is_count (length (numbers a)) (laws.few a ha)) (few_is_count (length (numbers b)) (laws.few b hb)) (cc) in
+    let same = numbers_told (numbers a) (numbers b) x y (all_small (numbers a) (laws.small a ha)) (all_small (numbers b) (laws.small b hb)) count (cc) in (ap Extra (laws.apart a b ha hb same.0), same.1)
+witness_told numbers valid laws (Basic (Leaf k u)) (Extra b) x y ha hb e = absurd (omega (arith, ap tag e))
+witness_told numbers valid laws (Extra a) (Basic (Leaf k u)) x y ha hb e = absurd (omega (arith, ap tag e))
+
+behind : (v w : Bytes) (x y : List Bytes) → v ∷ x ≡ w ∷ y → x ≡ y
+behind v w x y e = cc
+
+pub line_words_told : {W : Type 0} → (numbers : W → List ℤ) (valid : W → Bool) → AreTold numbers valid → (a b : Line W) → is_fit valid a ≡ true → is_fit valid b ≡ true → line_words numbers a ≡ line_words numbers b → a ≡ b
+line_words_told numbers valid laws (Derive g v) (Derive h w) ha hb e =
+    let fa = both_true (is_fit_guess g) (is_fit_witness valid v) ha in
+    let fb = both_true (is_fit_guess h) (is_fit_witness valid w) hb in
+    let guess = guess_told g h (witness_words numbers v) (witness_words numbers w) fa.0 fb.0 (behind _ _ _ _ e) in
+    let witness = witness_told numbers valid laws v w [] [] fa.1 fb.1 (append-nil (witness_words numbers v) ∙ guess.1 ∙ sym (append-nil (witness_words numbers w))) in
+    ap (λ x. Derive x v) guess.0 ∙ ap (λ x. Derive h x) witness.0
+line_words_told numbers valid laws (Fail v) (Fail w) ha hb e =
+    ap Fail (witness_told numbers valid laws v w [] [] ha hb (append-nil (witness_words numbers v) ∙ behind _ _ _ _ e ∙ sym (append-nil (witness_words numbers w)))).0
+line_words_told numbers valid laws (Split g) (Split h) ha hb e =
+    ap Split (guess_told g h [] [] ha hb (append-nil (guess_words g) ∙ behind _ _ _ _ e ∙ sym (append-nil (guess_words h)))).0
+line_words_told numbers valid laws (Sol a) (Sol b) ha hb e = ap Sol (assignment_told a b ha hb (behind _ _ _ _ e))
+line_words_told numbers valid laws _ _ ha hb e = absurd (omega (arith, ap tag e))
+
+-- a line that steps begins with one letter
+letter : {W : Type 0} → (numbers : W → List ℤ) (l : Line W) → tag (line_words numbers l) < 256
+letter numbers (Derive g w) = omega arith
+letter numbers (Fail w) = omega arith
+letter numbers (Split g) = omega arith
+letter numbers (Sol a) = omega arith
+
+pub entry_words_told : {W : Type 0} → (numbers : W → List ℤ) (valid : W → Bool) → AreTold numbers valid → (a b : Entry W) → is_fit_entry valid a ≡ true → is_fit_entry valid b ≡ true → entry_words numbers a ≡ entry_words numbers b → a ≡ b
+entry_words_told numbers valid laws Head Head ha hb e = refl
+entry_words_told numbers valid laws Finish Finish ha hb e = refl
+entry_words_told numbers valid laws (Step a) (Step b) ha hb e = ap Step (line_words_told numbers valid laws a b ha hb e)
+entry_words_told numbers valid laws Head Finish ha hb e = absurd (omega (arith, ap tag e))
+entry_words_told numbers valid laws Finish Head ha hb e = absurd (omega (arith, ap tag e))
+entry_words_told numbers valid laws Head (Step b) ha hb e = absurd (omega (arith, letter numbers b, ap tag e))
+entry_words_told numbers valid laws Finish (Step b) ha hb e = absurd (omega (arith, letter numbers b, ap tag e))
+entry_words_told numbers valid laws (Step a) Head ha hb e = absurd (omega (arith, letter numbers a, ap tag e))
+entry_words_told numbers valid laws (Step a) Finish ha hb e = absurd (omega (arith, letter numbers a, ap tag e))
+
+pub witness_plain : {W : Type 0} → (numbers : W → List ℤ) (valid : W → Bool) → AreTold numbers valid → (w : Witness W) → is_fit_witness valid w ≡ true → are_words (witness_words numbers w) ≡ true
+witness_plain numbers valid laws (Basic (Leaf k u)) h =
+    let two = both_true (is_count k) (is_count u) h in first_and (decimal k) (decimal u ∷ []) (count_word k two.0) (first_and (decimal u) [] (count_word u two.1) refl)
+witness_plain numbers valid laws (Extra w) h =
+    first_and (decimal (length (numbers w))) (map signed_decimal (numbers w)) (count_word (length (numbers w)) (few_is_count (length (numbers w)) (laws.few w h)))
+    (each_plain signed_decimal is_small moment_word (numbers w) (all_small (numbers w) (laws.small w h)))
+
+line_plain : {W : Type 0} → (numbers : W → List ℤ) (valid : W → Bool) → AreTold numbers valid → (l : Line W) → is_fit valid l ≡ true → are_words (line_words numbers l) ≡ true
+line_plain numbers valid laws (Derive g w) h =
+    let two = both_true (is_fit_guess g) (is_fit_witness valid w) h in front_and (guess_words g) (witness_words numbers w) (guess_plain g two.0) (witness_plain numbers valid laws w two.1)
+line_plain numbers valid laws (Fail w) h = witness_plain numbers valid laws w h
+line_plain numbers valid laws (Split g) h = guess_plain g h
+line_plain numbers valid laws (Sol a) h = assignment_plain a h
+
+pub entry_plain : {W : Type 0} → (numbers : W → List ℤ) (valid : W → Bool) → AreTold numbers valid → (e : Entry W) → is_fit_entry valid e ≡ true → are_words (entry_words numbers e) ≡ true
+entry_plain numbers valid laws Head h = refl
+entry_plain numbers valid laws (Step l) h = line_plain numbers valid laws l h
+entry_plain numbers valid laws Finish h = refl
+
+-- the words of an entry, the first by itself
+pub record HasWords {W : Type 0} (numbers : W → List ℤ) (e : Entry W) : Type 0 where
+  pub first : Bytes
+  pub rest : List Bytes
+  pub words : entry_words numbers e ≡ first ∷ rest
+  pub text : entry_text numbers e ≡ line (first ∷ rest)
+
+pub has_words : {W : Type 0} → (numbers : W → List ℤ) (e : Entry W) → HasWords numbers e
+has_words numbers Head = record { first = codes "schedlog"; rest = codes "1" ∷ []; words = refl; text = refl }
+has_words numbers (Step (Derive g w)) = record { first = codes "d"; rest = guess_words g ++ witness_words numbers w; words = refl; text = refl }
+has_words numbers (Step (Fail w)) = record { first = codes "f"; rest = witness_words numbers w; words = refl; text = refl }
+has_words numbers (Step (Split g)) = record { first = codes "s"; rest = guess_words g; words = refl; text = refl }
+has_words numbers (Step (Sol a)) = record { first = codes "v"; rest = assignment_words a; words = refl; text = refl }
+has_words numbers Finish = record { first = codes "end"; rest = []; words = refl; text = refl }
+
+-- a text in front that is a spelling tells its entry and its end
+pub entry_told : {W : Type 0} → (numbers : W → List ℤ) (valid : W → Bool) → AreTold numbers valid → (a b : Entry W) (x y : Bytes) → is_fit_entry valid a ≡ true → is_fit_entry valid b ≡ true → entry_text numbers a ++ x ≡ entry_text numbers b ++ y → (a ≡ b) × (x ≡ y)
+entry_told numbers valid laws a b x y ha hb e =
+    let u = has_words numbers a in
+    let v = has_words numbers b in
+    let same = line_told u.first u.rest v.first v.rest x y (ap are_words (sym u.words) ∙ entry_plain numbers valid laws a ha) (ap are_words (sym v.words) ∙ entry_plain numbers valid laws b hb)
+    (ap (λ t. t ++ x) (sym u.text) ∙ e ∙ ap (λ t. t ++ y) v.text) in
+    (entry_words_told numbers valid laws a b ha hb (u.words ∙ same.0 ∙ sym v.words), same.1)

@@ -1,0 +1,52 @@
+-- Where lists of spelled values end.
+use Rattle.std.specs.Prelude.{◌≡◌, ℕ, ◌+◌, ◌*◌, Bool, true, false, List, [], ◌∷◌, ◌++◌, length}
+use Rattle.std.proofs.Common.{refl, ap, sym, ◌∙◌, append_assoc, arith}
+use Rattle.std.specs.List.{list_all, flat_map}
+use Rattle.textline.specs.Lines.{Bytes}
+use Rattle.textline.specs.laws.Lines.{both_true}
+
+-- a reading that tells values in front of words from each other
+abbrev pub Tells : {A : Type 0} → (A → List Bytes) → (A → Bool) → Type 0
+Tells {A} spelled fit = (a b : A) (x y : List Bytes) → fit a ≡ true → fit b ≡ true → spelled a ++ x ≡ spelled b ++ y → (a ≡ b) × (x ≡ y)
+
+-- the first byte of the first word, or 0
+abbrev pub lead : List Bytes → ℕ
+lead [] = 0
+lead ([] ∷ ws) = 0
+lead ((b ∷ w) ∷ ws) = b
+
+-- the first two bytes of the first word
+abbrev pub tag : List Bytes → ℕ
+tag [] = 0
+tag ([] ∷ ws) = 0
+tag ((a ∷ []) ∷ ws) = a
+tag ((a ∷ b ∷ w) ∷ ws) = a * 256 + b
+
+both : {A : Type 0} → (a b : A) (us vs : List A) → a ≡ b → us ≡ vs → a ∷ us ≡ b ∷ vs
+both a b us vs e f = cc
+
+-- as many values
+pub counted_told : {A : Type 0} → (f : A → List Bytes) (fit : A → Bool) → Tells f fit → (us vs : List A) (x y : List Bytes) → list_all fit us ≡ true → list_all fit vs ≡ true → length us ≡ length vs → flat_map f us ++ x ≡ flat_map f vs ++ y → (us ≡ vs) × (x ≡ y)
+counted_told f fit tells [] [] x y ha hb same e = (refl, e)
+counted_told f fit tells [] (b ∷ vs) x y ha hb same e = absurd (omega (arith, same))
+counted_told f fit tells (a ∷ us) [] x y ha hb same e = absurd (omega (arith, same))
+counted_told f fit tells (a ∷ us) (b ∷ vs) x y ha hb same e =
+    let ha' = both_true (fit a) (list_all fit us) ha in
+    let hb' = both_true (fit b) (list_all fit vs) hb in
+    let first = tells a b (flat_map f us ++ x) (flat_map f vs ++ y) ha'.0 hb'.0 (sym (append_assoc (f a) (flat_map f us) x) ∙ e ∙ append_assoc (f b) (flat_map f vs) y) in
+    let rest = counted_told f fit tells us vs x y ha'.1 hb'.1 (omega (arith, same)) first.1 in (both a b us vs first.0 rest.0, rest.1)
+
+-- values up to the first word that begins none
+pub open_told : {A : Type 0} → (f : A → List Bytes) (fit : A → Bool) (begins : ℕ → Bool) → Tells f fit → ((a : A) (x : List Bytes) → begins (lead (f a ++ x)) ≡ true) → (us vs : List A) (x y : List Bytes) → list_all fit us ≡ true → list_all fit vs ≡ true → begins (lead x) ≡ false → begins (lead y) ≡ false → flat_map f us ++ x ≡ flat_map f vs ++ y → (us ≡ vs) × (x ≡ y)
+open_told f fit begins tells starts [] [] x y ha hb hx hy e = (refl, e)
+open_told f fit begins tells starts [] (b ∷ vs) x y ha hb hx hy e =
+    let here = starts b (flat_map f vs ++ y) in
+    let more = ap (λ ws. begins (lead ws)) (e ∙ append_assoc (f b) (flat_map f vs) y) in cc
+open_told f fit begins tells starts (a ∷ us) [] x y ha hb hx hy e =
+    let here = starts a (flat_map f us ++ x) in
+    let more = ap (λ ws. begins (lead ws)) (sym e ∙ append_assoc (f a) (flat_map f us) x) in cc
+open_told f fit begins tells starts (a ∷ us) (b ∷ vs) x y ha hb hx hy e =
+    let ha' = both_true (fit a) (list_all fit us) ha in
+    let hb' = both_true (fit b) (list_all fit vs) hb in
+    let first = tells a b (flat_map f us ++ x) (flat_map f vs ++ y) ha'.0 hb'.0 (sym (append_assoc (f a) (flat_map f us) x) ∙ e ∙ append_assoc (f b) (flat_map f vs) y) in
+    let rest = open_told f fit begins tells starts us vs x y ha'.1 hb'.1 hx hy first.1 in (both a b us vs first.0 rest.0, rest.1)

@@ -1,0 +1,141 @@
+-- Words tell the value that they spell.
+use Rattle.std.specs.Prelude.{◌≡◌, ℕ, ◌==◌, ◌||◌, ◌&&◌, ◌^◌, ◌<◌, ◌≤◌, ℤ, pos, Bool, true, false, IsTrue, List, [], ◌∷◌, ◌++◌, length, map, codes, nat_lt}
+use Rattle.std.proofs.Common.{refl, ap, sym, ◌∙◌, append_assoc, arith}
+use Rattle.std.proofs.lemmas.Int.{ints}
+use Rattle.std.proofs.lemmas.List.{append-nil}
+use Rattle.std.proofs.lemmas.Bool.Decides.{nat_tests}
+use Rattle.std.proofs.lemmas.Fmt.{decimal_injective, signed_decimal_injective}
+use Rattle.std.proofs.lemmas.List.Concat.{flat_map_single}
+use Rattle.std.specs.List.{list_all, flat_map}
+use Rattle.std.specs.Fmt.{decimal, signed_decimal}
+use lib.Signed.{mag}
+use Rattle.sched_base.specs.declared.ids.Itv.{Itv}
+use Rattle.sched_model.specs.Valid.{is_small}
+use Rattle.sched_model.specs.declared.types.Assignment.{Assignment}
+use Rattle.sched_model.specs.declared.types.Segment.{Segment}
+use Rattle.sched_model.specs.declared.types.Slot.{Slot}
+use Rattle.sched_model.specs.declared.types.Slot.TheVariants as slot
+use Rattle.region.specs.declared.types.Guess.{Guess}
+use Rattle.region.specs.declared.types.Guess.TheVariants.{Present, Absent, StartLe, StartGe, EndLe, EndGe}
+use Rattle.kernel.specs.Fit.{is_count, is_id, is_fit_guess, is_fit_slot, is_fit_order, is_fit_segment, are_fit_segments, is_fit_assignment}
+use Rattle.textline.specs.Lines.{Bytes}
+use Rattle.textline.specs.laws.Lines.{both_true}
+use Rattle.logtext.specs.Spelling.{guess_words, slot_words, member_word, order_words, segment_words, segments_words, assignment_words}
+use Rattle.logtext.specs.laws.Leads.{Tells, lead, tag, counted_told, open_told}
+
+pub three_true : (p q r : Bool) → (p && q && r) ≡ true → (p ≡ true) × (q ≡ true) × (r ≡ true)
+three_true true true r h = (refl, refl, h)
+three_true true false r h = cc
+three_true false q r h = cc
+
+pub count_told : (m n : ℕ) → is_count m ≡ true → is_count n ≡ true → decimal m ≡ decimal n → m ≡ n
+count_told m n hm hn e = decimal_injective m n (grind (arith, nat_tests)) (grind (arith, nat_tests)) e
+
+pub small_mag : (z : ℤ) → is_small z ≡ true → mag z < 2 ^ 63
+small_mag z h = grind (arith, ints)
+
+pub moment_told : (s t : ℤ) → is_small s ≡ true → is_small t ≡ true → signed_decimal s ≡ signed_decimal t → s ≡ t
+moment_told s t hs ht e = signed_decimal_injective s t (small_mag s hs) (small_mag t ht) e
+
+pub id_told : (x y : Itv) → is_id x ≡ true → is_id y ≡ true → decimal x.0 ≡ decimal y.0 → x ≡ y
+id_told x y hx hy e = ap (λ n. let it : Itv = record { 0 = n } in it) (count_told x.0 y.0 hx hy e)
+
+bound_told : (v : Bytes) (x y : Itv) (s t : ℤ) (ws vs : List Bytes) → (is_id x && is_small s) ≡ true → (is_id y && is_small t) ≡ true
+    → v ∷ decimal x.0 ∷ signed_decimal s ∷ ws ≡ v ∷ decimal y.0 ∷ signed_decimal t ∷ vs → (x ≡ y) × (s ≡ t) × (ws ≡ vs)
+bound_told v x y s t ws vs hx hy e =
+    let h = both_true (is_id x) (is_small s) hx in
+    let k = both_true (is_id y) (is_small t) hy in
+    (id_told x y h.0 k.0 (cc), moment_told s t h.1 k.1 (cc), cc)
+
+pub guess_told : Tells guess_words is_fit_guess
+guess_told (Present x) (Present y) ws vs hx hy e = let same = id_told x y hx hy (cc) in (ap Present same, cc)
+guess_told (Absent x) (Absent y) ws vs hx hy e = let same = id_told x y hx hy (cc) in (ap Absent same, cc)
+guess_told (StartLe x s) (StartLe y t) ws vs hx hy e = let same = bound_told (codes "SL") x y s t ws vs hx hy e in (cc, same.2)
+guess_told (StartGe x s) (StartGe y t) ws vs hx hy e = let same = bound_told (codes "SG") x y s t ws vs hx hy e in (cc, same.2)
+guess_told (EndLe x s) (EndLe y t) ws vs hx hy e = let same = bound_told (codes "EL") x y s t ws vs hx hy e in (cc, same.2)
+guess_told (EndGe x s) (EndGe y t) ws vs hx hy e = let same = bound_told (codes "EG") x y s t ws vs hx hy e in (cc, same.2)
+guess_told _ _ ws vs hx hy e = absurd (omega (arith, ap tag e))
+
+pub slot_told : Tells slot_words is_fit_slot
+slot_told slot.Absent slot.Absent ws vs hx hy e = (refl, cc)
+slot_told (slot.Present s f) (slot.Present t g) ws vs hx hy e =
+    let h = both_true (is_small s) (is_small f) hx in
+    let k = both_true (is_small t) (is_small g) hy in
+    let begin = moment_told s t h.0 k.0 (cc) in
+    let finish = moment_told f g h.1 k.1 (cc) in (cc, cc)
+slot_told _ _ ws vs hx hy e = absurd (omega (arith, ap tag e))
+
+member_told : Tells (λ x. member_word x ∷ []) is_id
+member_told x y ws vs hx hy e = (id_told x y hx hy (cc), cc)
+
+number_told : Tells (λ z. signed_decimal z ∷ []) is_small
+number_told x y ws vs hx hy e = (moment_told x y hx hy (cc), cc)
+
+abbrev made_segment : ℤ → ℤ → ℤ → Segment
+made_segment p q v = record { p = p; q = q; v = v }
+
+segment_of : (a b : Segment) → a.p ≡ b.p → a.q ≡ b.q → a.v ≡ b.v → a ≡ b
+segment_of a b p q v = ap (λ x. made_segment x a.q a.v) p ∙ ap (λ x. made_segment b.p x a.v) q ∙ ap (λ x. made_segment b.p b.q x) v
+
+pub segment_told : Tells segment_words is_fit_segment
+segment_told a b ws vs hx hy e =
+    let h = three_true (is_small a.p) (is_small a.q) (is_small a.v) hx in
+    let k = three_true (is_small b.p) (is_small b.q) (is_small b.v) hy in
+    let p = moment_told a.p b.p h.0 k.0 (cc) in
+    let q = moment_told a.q b.q h.1 k.1 (cc) in
+    let v = moment_told a.v b.v h.2 k.2 (cc) in
+    (segment_of a b p q v, cc)
+
+pub ids_told : (xs ys : List Itv) (x y : List Bytes) → list_all is_id xs ≡ true → list_all is_id ys ≡ true → length xs ≡ length ys → map member_word xs ++ x ≡ map member_word ys ++ y → (xs ≡ ys) × (x ≡ y)
+ids_told xs ys x y hx hy same e =
+    counted_told (λ z. member_word z ∷ []) is_id member_told xs ys x y hx hy same (ap (λ l. l ++ x) (flat_map_single member_word xs) ∙ e ∙ ap (λ l. l ++ y) (sym (flat_map_single member_word ys)))
+
+pub numbers_told : (xs ys : List ℤ) (x y : List Bytes) → list_all is_small xs ≡ true → list_all is_small ys ≡ true → length xs ≡ length ys → map signed_decimal xs ++ x ≡ map signed_decimal ys ++ y → (xs ≡ ys) × (x ≡ y)
+numbers_told xs ys x y hx hy same e =
+    counted_told (λ z. signed_decimal z ∷ []) is_small number_told xs ys x y hx hy same (ap (λ l. l ++ x) (flat_map_single signed_decimal xs) ∙ e ∙ ap (λ l. l ++ y) (sym (flat_map_single signed_decimal ys)))
+
+pub order_told : Tells order_words is_fit_order
+order_told xs ys ws vs hx hy e =
+    let h = both_true (is_count (length xs)) (list_all is_id xs) hx in
+    let k = both_true (is_count (length ys)) (list_all is_id ys) hy in
+    let same = count_told (length xs) (length ys) h.0 k.0 (cc) in ids_told xs ys ws vs h.1 k.1 same (cc)
+
+pub segments_told : Tells segments_words are_fit_segments
+segments_told xs ys ws vs hx hy e =
+    let h = both_true (is_count (length xs)) (list_all is_fit_segment xs) hx in
+    let k = both_true (is_count (length ys)) (list_all is_fit_segment ys) hy in
+    let same = count_told (length xs) (length ys) h.0 k.0 (cc) in counted_told segment_words is_fit_segment segment_told xs ys ws vs h.1 k.1 same (cc)
+
+-- the letters of slots, of orders and of segments
+
+abbrev pub slot_begins : ℕ → Bool
+slot_begins b = b == 97 || b == 112
+
+pub slot_starts : (s : Slot) (x : List Bytes) → slot_begins (lead (slot_words s ++ x)) ≡ true
+slot_starts slot.Absent x = refl
+slot_starts (slot.Present s e) x = refl
+
+pub behind_slots : (xss : List (List Itv)) (sss : List (List Segment)) → slot_begins (lead (flat_map order_words xss ++ flat_map segments_words sss)) ≡ false
+behind_slots [] [] = refl
+behind_slots [] (ss ∷ sss) = refl
+behind_slots (xs ∷ xss) sss = refl
+
+pub behind_orders : (sss : List (List Segment)) → (lead (flat_map segments_words sss) == 111) ≡ false
+behind_orders [] = refl
+behind_orders (ss ∷ sss) = refl
+
+abbrev made_assignment : List Slot → List (List Itv) → List (List Segment) → Assignment
+made_assignment s o g = record { slots = s; orders = o; segs = g }
+
+assignment_of : (a b : Assignment) → a.slots ≡ b.slots → a.orders ≡ b.orders → a.segs ≡ b.segs → a ≡ b
+assignment_of a b s o g = ap (λ x. made_assignment x a.orders a.segs) s ∙ ap (λ x. made_assignment b.slots x a.segs) o ∙ ap (λ x. made_assignment b.slots b.orders x) g
+
+-- an assignment's words have no end of their own
+pub assignment_told : (a b : Assignment) → is_fit_assignment a ≡ true → is_fit_assignment b ≡ true → assignment_words a ≡ assignment_words b → a ≡ b
+assignment_told a b ha hb e =
+    let fa = three_true (list_all is_fit_slot a.slots) (list_all is_fit_order a.orders) (list_all are_fit_segments a.segs) ha in
+    let fb = three_true (list_all is_fit_slot b.slots) (list_all is_fit_order b.orders) (list_all are_fit_segments b.segs) hb in
+    let s = open_told slot_words is_fit_slot slot_begins slot_told slot_starts a.slots b.slots _ _ fa.0 fb.0 (behind_slots a.orders a.segs) (behind_slots b.orders b.segs) e in
+    let o = open_told order_words is_fit_order (λ n. n == 111) order_told (λ xs x. refl) a.orders b.orders _ _ fa.1 fb.1 (behind_orders a.segs) (behind_orders b.segs) s.1 in
+    let g = open_told segments_words are_fit_segments (λ n. n == 103) segments_told (λ xs x. refl) a.segs b.segs [] [] fa.2 fb.2 refl refl (append-nil (flat_map segments_words a.segs) ∙ o.1 ∙ sym (append-nil (flat_map segments_words b.segs))) in
+    assignment_of a b s.0 o.0 g.0
