@@ -29,12 +29,7 @@ fn judge_file<D: Desk>(
 }
 
 /// Judges the log that a file holds, of the model that another holds, and prints what it shows.
-fn check_file<D: Desk>(
-    alloc: Global,
-    desk: &mut D,
-    name: &str,
-    log: &str,
-) -> Result<Ended, Stop>
+fn check_file<D: Desk>(alloc: Global, desk: &mut D, name: &str, log: &str) -> Result<Ended, Stop>
     ensures { TriesCheck name.now log.now result (D.state desk.old) (D.state desk.new) }
 {
     let model = load(alloc, desk, name)?;

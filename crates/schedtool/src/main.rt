@@ -12,6 +12,8 @@ mod report;
 mod run;
 mod solving;
 mod stop;
+#[cfg(test)]
+mod tests;
 
 pub use ended::Ended;
 pub use real::RealDesk;

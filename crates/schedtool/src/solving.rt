@@ -44,12 +44,7 @@ fn search_logged<D: Desk>(
 }
 
 /// Solves the model that a file holds with a log of the search, and then prints the answer.
-fn solve_file<D: Desk>(
-    alloc: Global,
-    desk: &mut D,
-    name: &str,
-    log: &str,
-) -> Result<Ended, Stop>
+fn solve_file<D: Desk>(alloc: Global, desk: &mut D, name: &str, log: &str) -> Result<Ended, Stop>
     ensures { TriesSolve name.now result (D.state desk.old) (D.state desk.new) }
 {
     let model = load(alloc, desk, name)?;

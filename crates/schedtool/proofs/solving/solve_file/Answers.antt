@@ -25,11 +25,11 @@ returns-in_err-text g c =
 pub returns-in-Ok : goal.returns-in-Ok
 returns-in-Ok g c =
     printed c.in_ok-model.model c.in_ok-solved.solved c.args.name.now c.as_slice.result.now c.ending.result _
-        (g.D.Desk.state c.args.desk.now) (g.D.Desk.state c.load.new.desk) (g.D.Desk.state c.search_logged.new.desk) (g.D.Desk.state c.write.new.self)
-        c.in_ok-model.ensures.only c.in_ok-model.ensures.loads.0 c.in_ok-model.ensures.loads.1 c.in_ok-solved.ensures (c.as_slice.ensures.value ∙ c.in_ok-text.ensures) c.in-Ok.ensures c.ending.ensures.is c.ending.ensures.success
+    (g.D.Desk.state c.args.desk.now) (g.D.Desk.state c.load.new.desk) (g.D.Desk.state c.search_logged.new.desk) (g.D.Desk.state c.write.new.self)
+    c.in_ok-model.ensures.only c.in_ok-model.ensures.loads.0 c.in_ok-model.ensures.loads.1 c.in_ok-solved.ensures (c.as_slice.ensures.value ∙ c.in_ok-text.ensures) c.in-Ok.ensures c.ending.ensures.is c.ending.ensures.success
 
 pub returns : goal.returns
 returns g c =
     half_printed c.in_ok-model.model c.in_ok-solved.solved c.args.name.now c.as_slice.result.now _
-        (g.D.Desk.state c.args.desk.now) (g.D.Desk.state c.load.new.desk) (g.D.Desk.state c.search_logged.new.desk) (g.D.Desk.state c.write.new.self)
-        c.in_ok-model.ensures.only c.in_ok-model.ensures.loads.0 c.in_ok-model.ensures.loads.1 c.in_ok-solved.ensures (c.as_slice.ensures.value ∙ c.in_ok-text.ensures) c.in-Err.ensures
+    (g.D.Desk.state c.args.desk.now) (g.D.Desk.state c.load.new.desk) (g.D.Desk.state c.search_logged.new.desk) (g.D.Desk.state c.write.new.self)
+    c.in_ok-model.ensures.only c.in_ok-model.ensures.loads.0 c.in_ok-model.ensures.loads.1 c.in_ok-solved.ensures (c.as_slice.ensures.value ∙ c.in_ok-text.ensures) c.in-Err.ensures
