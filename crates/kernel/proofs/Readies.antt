@@ -1,6 +1,6 @@
 -- Each state of a log is ready, and its verdict means what it says.
 use Rattle.std.proofs.Common.{◌≡◌, ℕ, ℤ, Bool, true, false, ◌&&◌, List, [], ◌∷◌, Option, Some, None, Result, Ok, Err, refl, sym, subst, ◌∙◌, arith}
-use Rattle.std.specs.Prelude.{IsTrue, IfOk, is_some, if◌then◌else◌}
+use Rattle.std.specs.Prelude.{IsTrue, IfOk, OnOk, OnErr, IfSome, All, ◌++◌, option_map, option_to_list, is_some, if◌then◌else◌}
 use Rattle.std.proofs.lemmas.List.Elements.{All-nil, All-cons, All-head}
 use Rattle.std.proofs.lemmas.List.Kept.{AllPairs-cons}
 use Rattle.sched_model.specs.declared.types.Assignment.{Assignment}
@@ -149,3 +149,19 @@ verdict_means m s ready = by_open m s.found (open_regions s) (is_empty (open_reg
 pub new_ready : {E : Type 0} (m : Data) (r : Result LogState E) → IfOk r (λ k. k ≡ opening m) → IfOk r (λ k. IsValid m) → IfOk r (λ k. Ready m k)
 new_ready m (Ok k) is valid = subst (Ready m) (sym is) (opening_ready m valid)
 new_ready m (Err e) is valid = is
+
+-- a call that takes a line, or changes nothing, keeps a state ready
+pub advance_keeps : {W E : Type 0} (m : Data) (refutes : Refuting (Witness W)) (r : Result (Unit {0}) E) (s t : LogState) (line : Line W) → IsSound m refutes
+    → OnOk r (step refutes m line s ≡ Ok t) → OnErr r (t ≡ s) → Ready m s → Ready m t
+advance_keeps m refutes (Ok u) s t line sound is same ready = step_keeps m refutes s t line sound is ready
+advance_keeps m refutes (Err e) s t line sound is same ready = subst (Ready m) (sym same) ready
+
+-- the first region is one of the model
+of_first : (m : Data) (current : Option Region) (waiting : List Region) (r : Region) → All (IsRegionOf m) (option_to_list current ++ waiting) → first_in current waiting ≡ Some r → IsRegionOf m r
+of_first m (Some q) waiting r each is = let same : q ≡ r = cc in subst (IsRegionOf m) same (All-head (IsRegionOf m) q waiting each)
+of_first m None (q ∷ qs) r each is = let same : q ≡ r = cc in subst (IsRegionOf m) same (All-head (IsRegionOf m) q qs each)
+of_first m None [] r each is = cc
+
+pub first_is_of : {X : Type 0} (f : X → Region) (m : Data) (s : LogState) (o : Option X) → option_map f o ≡ first_in s.current s.waiting → Ready m s → IfSome o (λ x. IsRegionOf m (f x))
+first_is_of f m s None is ready = tt
+first_is_of f m s (Some x) is ready = of_first m s.current s.waiting (f x) ready.regions (sym is)

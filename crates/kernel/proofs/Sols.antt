@@ -2,7 +2,9 @@
 use Rattle.std.proofs.Common.{◌≡◌, ℤ, true, false, ◌&&◌, List, [], ◌∷◌, length, Option, Some, None, inl, inr, refl, sym, ap, subst, ◌∙◌, arith, true≢false}
 use Rattle.std.specs.Prelude.{is_some, slice_index_or, option_map, if◌then◌else◌}
 use Rattle.std.proofs.lemmas.Int.{ints}
+use Rattle.std.specs.List.{list_all}
 use Rattle.std.proofs.lemmas.List.Elements.{All-nil, All-head, All-tail}
+use Rattle.std.proofs.lemmas.List.Sums.{AllPass-from_list_all}
 use Rattle.sched_model.specs.declared.types.Assignment.{Assignment}
 use Rattle.sched_model.specs.declared.types.Expr.{Expr}
 use Rattle.sched_model.specs.declared.types.Expr.TheVariants.{EndOf}
@@ -14,9 +16,9 @@ use Rattle.sched_model.specs.Words.{passes}
 use Rattle.sched_model.specs.Data.{Data}
 use Rattle.sched_model.specs.Value.{value_of, end_or}
 use Rattle.sched_model.specs.Solution.{IsSolution, is_solution, is_better, beats, objective_of}
-use Rattle.sched_model.specs.Domain.{fits_def}
+use Rattle.sched_model.specs.Domain.{fits_def, is_in_domain}
+use Rattle.sched_model.specs.Sentences.{holds}
 use Rattle.sched_model.specs.Words.{placewise, is_empty}
-use Rattle.sched_model.proofs.Tested.{solution_from_test}
 use Rattle.region.specs.Cells.{Region, Allows, allows, is_settled}
 use Rattle.region.specs.Looks.{IsRegionOf, is_narrowed}
 use Rattle.region.specs.Narrows.{HasPoint}
@@ -80,6 +82,12 @@ wanted_before : (m : Data) (o : Objective) (found : Option Found) (a b : Assignm
     → beats o.sense (value_of b o.expr) (value_of a o.expr) ≡ true → is_wanted m found b ≡ true
 wanted_before m o None a b is old new = refl
 wanted_before m o (Some f) a b is old new = wanted_by_value m o a b f.value is old new
+
+-- what passes the test is a solution
+solution_from_test : (m : Data) (a : Assignment) → is_solution m a ≡ true → IsSolution m a
+solution_from_test m a h =
+    let two = both_true (is_in_domain m a) (list_all (holds m a) m.constraints) h in
+    record { domain = two.0; holds = AllPass-from_list_all (holds m a) m.constraints two.1 }
 
 found_is : (m : Data) (a : Assignment) → is_solution m a ≡ true → IsFound m (found_in m a)
 found_is m a solution = record { solution = solution_from_test m a solution; value = refl }

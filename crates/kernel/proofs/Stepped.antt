@@ -1,11 +1,11 @@
 -- A step is its tests one after another, and then what it changes.
-use Rattle.std.proofs.Common.{◌≡◌, ℕ, Bool, true, false, List, [], ◌∷◌, Option, Some, None, Ok, Err, refl, sym, ap, ◌∙◌}
+use Rattle.std.proofs.Common.{◌≡◌, ℕ, Bool, true, false, List, [], ◌∷◌, Option, Some, None, Result, Ok, Err, refl, sym, ap, subst, ◌∙◌}
 use Rattle.sched_model.specs.Data.{Data}
 use Rattle.sched_model.specs.Solution.{is_solution}
 use Rattle.region.specs.Cells.{Region, is_settled, allows}
 use Rattle.region.specs.Guesses.{admits, splits}
 use Rattle.region.specs.Tight.{is_tight}
-use Rattle.std.specs.Prelude.{◌&&◌}
+use Rattle.std.specs.Prelude.{◌&&◌, IsOk, OnOk}
 use Rattle.kernel.specs.declared.types.Witness.{Witness}
 use Rattle.kernel.specs.declared.types.Line.{Line}
 use Rattle.kernel.specs.declared.types.Line.TheVariants.{Derive, Fail, Split, Sol}
@@ -73,3 +73,16 @@ unfaulted (Some f) s t h = cc
 pub stepped : {W : Type 0} (refutes : Refuting (Witness W)) (m : Data) (s t : LogState) (line : Line W) → step refutes m line s ≡ Ok t
     → (fault_in refutes m (first_in s.current s.waiting) s.found line ≡ None) × (t ≡ after m s line)
 stepped refutes m s t line h = unfaulted _ (after m s line) t (sym (step_is refutes m s line) ∙ h)
+
+-- a line that steps fails no test, and what it changes is its step
+unfaulted_ok : (o : Option StepFault) (s : LogState) → IsOk (outcome o s) → o ≡ None
+unfaulted_ok None s h = refl
+unfaulted_ok (Some f) s h = cc
+
+pub steps_pass : {W : Type 0} (refutes : Refuting (Witness W)) (m : Data) (s : LogState) (line : Line W) → IsOk (step refutes m line s) → fault_in refutes m (first_in s.current s.waiting) s.found line ≡ None
+steps_pass refutes m s line h = unfaulted_ok _ (after m s line) (subst (λ (o : Outcome). IsOk o) (step_is refutes m s line) h)
+
+pub advanced : {W E : Type 0} (refutes : Refuting (Witness W)) (m : Data) (r : Result (Unit {0}) E) (s t : LogState) (line : Line W) → IsOk (step refutes m line s) → OnOk r (t ≡ after m s line)
+    → OnOk r (step refutes m line s ≡ Ok t)
+advanced refutes m (Ok u) s t line h is = gives_ok refutes m s t line (steps_pass refutes m s line h) is
+advanced refutes m (Err e) s t line h is = tt

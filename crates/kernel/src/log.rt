@@ -1,4 +1,4 @@
-ghost use Rattle.std.specs.Prelude.{◌≡◌, ◌<◌, ◌^◌, IsTrue, IfOk, OnOk, OnErr, true, None, IsSome, option_copied};
+ghost use Rattle.std.specs.Prelude.{◌≡◌, ◌<◌, ◌^◌, IsTrue, IfOk, IsOk, OnOk, OnErr, Ok, true, None, IfSome, IsSome, option_copied, option_map};
 ghost use Rattle.sched_model.specs.Data.{Data};
 ghost use Rattle.sched_model.specs.Domain.{is_in_domain};
 ghost use Rattle.sched_model.specs.Valid.{IsValid};
@@ -186,11 +186,32 @@ impl<X: Refuter> Kernel<X> {
         best_of(&self.found)
     }
 
+    /// The current region, or else the first that waits: the region that the next line is about.
+    pub fn first(&self) -> Option<&Region>
+        ensures first { option_map (λ r. r.now.region) result ≡ first_in self.now.current self.now.waiting }
+        ensures of { (m : Data) → Ready m self.now → IfSome result (λ r. IsRegionOf m r.now.region) }
+    {
+        self.agenda.first()
+    }
+
     /// The solution found last.
     pub fn found(&self) -> Option<&Found>
         ensures { option_copied result ≡ self.now.found }
     {
         self.found.as_ref()
+    }
+
+    /// The solution found last, moved out.
+    pub fn into_found(self) -> Option<Found>
+        ensures { result ≡ self.found }
+    {
+        let Kernel {
+            agenda: _,
+            nodes: _,
+            found,
+            extra: _,
+        } = self;
+        found
     }
 
     /// The nodes with the first region taken.
@@ -286,6 +307,18 @@ impl<X: Refuter> Kernel<X> {
                 Ok(())
             }
         }
+    }
+
+    /// Takes one line that steps, without a test. Where memory is refused nothing changes.
+    pub fn advance(&mut self, model: &Model, line: Line<X::Witness>) -> Result<(), NoMemory>
+        requires nodes { self.old.nodes < 2 ^ 63 }
+        requires ready { Ready model.now self.old }
+        requires steps { IsOk (step (refutes_with X.refuting) model.now line self.old) }
+        ensures ok { OnOk result (step (refutes_with X.refuting) model.now line self.old ≡ Ok self.new) }
+        ensures err { OnErr result (self.new ≡ self.old) }
+        ensures ready { Ready model.now self.new }
+    {
+        self.take(model, line)
     }
 
     fn apply(&mut self, model: &Model, line: Line<X::Witness>) -> Result<(), StepFault>
@@ -398,6 +431,9 @@ mod tests {
             step(&mut kernel, &model, Line::Fail(leaf(0))),
             Err(StepFault::NothingLeft)
         );
+        assert!(rt; kernel.first().is_none());
+        let found = kernel.into_found().ok_or("none")?;
+        assert_eq!(rt; found.value, None);
         Ok(())
     }
 

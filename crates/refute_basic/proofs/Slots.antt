@@ -1,8 +1,8 @@
 -- The settled slots, one by one.
-use Rattle.std.specs.Prelude.{◌≡◌, ℕ, zero, suc, ◌^◌, ◌<◌, ◌≤◌, ◌-ℤ◌, Bool, true, false, not, ◌&&◌, List, [], ◌∷◌, Some, map, length, nat_le, slice_get}
+use Rattle.std.specs.Prelude.{◌≡◌, ℕ, zero, suc, ◌+◌, ◌^◌, ◌<◌, ◌≤◌, ◌-ℤ◌, Bool, true, false, not, ◌&&◌, List, [], ◌∷◌, Some, map, length, nat_le, slice_get, drop}
 use Rattle.std.specs.List.{list_all}
-use Rattle.std.proofs.Common.{refl, sym, subst, arith, get_or}
-use Rattle.std.proofs.lemmas.Bool.{ltb-true, leb-true}
+use Rattle.std.proofs.Common.{refl, sym, subst, ◌∙◌, arith, get_or, add-one}
+use Rattle.std.proofs.lemmas.Bool.{ltb-true, leb-true, not-false}
 use Rattle.std.proofs.lemmas.List.{get_or_past}
 use Rattle.sched_model.specs.declared.types.Constraint.{Constraint}
 use Rattle.sched_model.specs.declared.types.Constraint.TheVariants.{Temporal}
@@ -16,7 +16,7 @@ use Rattle.region.specs.Looks.{IsRegionOf, is_narrowed}
 use Rattle.region.specs.laws.Lists.{both_true, placewise-length}
 use Rattle.sched_base.specs.declared.ids.Itv.{Itv}
 use Rattle.sched_model.specs.declared.types.Slot.TheVariants as slot
-use Rattle.sched_model.specs.Words.{is_between, passes_if_any}
+use Rattle.sched_model.specs.Words.{is_between, passes, passes_if_any}
 use Rattle.sched_model.specs.Value.{slot_of}
 use Rattle.region.specs.declared.types.Bounds.{Bounds}
 use Rattle.region.specs.declared.types.Presence.TheVariants as presence
@@ -73,3 +73,13 @@ subject_within m r o valid of is = subject_at m r o.expr of (subst (λ q. passes
 -- a constraint that is listed fails where it doesn't hold
 pub failing_at : (m : Data) (r : Region) (cs : List Constraint) (u : ℕ) (c : Constraint) (b : Bool) → cs ≡ m.constraints → slice_get cs u ≡ Some c → b ≡ holds m (settled_assignment r) c → not b ≡ fails_at m r u
 failing_at m r cs u c b same is holding = rw (← same, is, holding) refl
+
+-- one step of a walk over the constraints
+hold_next_at : {X : Type 0} (p : X → Bool) (xs : List X) (u : ℕ) → u < length xs → false ≡ passes (λ x. not (p x)) (slice_get xs u) → list_all p (drop (suc u) xs) ≡ list_all p (drop u xs)
+hold_next_at p [] u within h = absurd (omega (arith, within))
+hold_next_at p (x ∷ xs) zero within h = rw (not-false (p x) (sym h)) refl
+hold_next_at p (x ∷ xs) (suc u) within h = hold_next_at p xs u (omega (arith, within)) h
+
+pub hold_next : (m : Data) (r : Region) (u : ℕ) (b : Bool) → u < length m.constraints → false ≡ fails_at m r u → list_all (holds m (settled_assignment r)) (drop u m.constraints) ≡ b
+    → list_all (holds m (settled_assignment r)) (drop (u + 1) m.constraints) ≡ b
+hold_next m r u b within h before = rw add-one (hold_next_at (holds m (settled_assignment r)) m.constraints u within h ∙ before)

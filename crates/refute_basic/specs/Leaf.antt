@@ -1,18 +1,18 @@
 -- LEAF: the one choice of slots that a settled region leaves fails.
-use Rattle.std.specs.Prelude.{ℕ, zero, suc, ◌-ℤ◌, Bool, false, not, ◌&&◌, [], length, ◌<◌, slice_get}
+use Rattle.std.specs.Prelude.{ℕ, zero, suc, ◌-ℤ◌, Bool, false, not, ◌&&◌, IsTrue, [], length, ◌<◌, slice_get}
 use Rattle.std.specs.List.{list_all}
 use Rattle.sched_model.specs.declared.types.Constraint.{Constraint}
 use Rattle.sched_model.specs.declared.types.Constraint.TheVariants.{Temporal}
 use Rattle.sched_model.specs.declared.types.Expr.{Expr}
 use Rattle.sched_model.specs.declared.types.Expr.TheVariants.{EndOf}
 use Rattle.sched_model.specs.declared.types.Assignment.{Assignment}
-use Rattle.sched_model.specs.Words.{◌implies◌, passes, is_between}
+use Rattle.sched_model.specs.Words.{◌implies◌, passes, passes_if_any, is_between}
 use Rattle.sched_model.specs.Data.{Data}
 use Rattle.sched_model.specs.Value.{value_of}
 use Rattle.sched_model.specs.Sentences.{holds}
-use Rattle.sched_model.specs.Solution.{beats}
+use Rattle.sched_model.specs.Solution.{beats, is_solution, is_better}
 use Rattle.region.specs.declared.types.Bounds.{Bounds}
-use Rattle.region.specs.Cells.{Region, bounds_of, says_present, is_settled, settled_slots}
+use Rattle.region.specs.Cells.{Region, bounds_of, says_present, is_settled, settled_slots, allows}
 use Rattle.region.specs.Looks.{Seen}
 
 -- the assignment at the settled values; there are no sequences and no state functions yet
@@ -44,6 +44,13 @@ leaf_case m l _ _ = false
 
 abbrev pub leaf_row : Data → Seen → ℕ → ℕ → Bool
 leaf_row m l k u = is_settled l.region && leaf_case m l k u
+
+-- the assignment at the settled values is a solution that the look allows, and better than the best value, where there
+-- are an objective and a best value
+pub record Solves (m : Data) (l : Seen) : Type 0 where
+  pub solution : IsTrue (is_solution m (settled_assignment l.region))
+  pub allowed : IsTrue (allows l.region (settled_assignment l.region))
+  pub better : IsTrue (passes_if_any (λ o. is_better m l.best (settled_assignment l.region)) m.objective)
 
 -- the constraint speaks of intervals of the region
 abbrev pub NamesWithin : Region → Constraint → Type 0

@@ -27,7 +27,7 @@ fn is_between(lo: i64, hi: i64, z: i64) -> bool
 }
 
 /// Whether the size is in its range where the interval is present.
-fn has_size(c: Bounds) -> bool
+pub fn has_size(c: Bounds) -> bool
     requires { HasMoments c }
     ensures { result ≡ has_size c }
 {
@@ -70,7 +70,7 @@ fn fails_size(look: &Look<'_>, u: u32) -> bool
 }
 
 /// Whether a constraint fails at the settled values.
-fn fails_at(model: &Model, look: &Look<'_>, u: u32) -> bool
+pub fn fails_at(model: &Model, look: &Look<'_>, u: u32) -> bool
     requires { IsRegionOf model.now look.now.region }
     ensures { result ≡ fails_at model.now look.now.region u }
 {
@@ -81,7 +81,7 @@ fn fails_at(model: &Model, look: &Look<'_>, u: u32) -> bool
 }
 
 /// Whether the objective isn't better than the best value at the settled values.
-fn is_no_better(model: &Model, look: &Look<'_>) -> bool
+pub fn is_no_better(model: &Model, look: &Look<'_>) -> bool
     requires { IsRegionOf model.now look.now.region }
     ensures { result ≡ is_no_better model.now look.now }
 {

@@ -2,10 +2,12 @@
 #![tactic(auto)]
 
 mod basic;
+mod find;
 mod leaf;
 mod settled;
 mod spelling;
 mod witness;
 
 pub use basic::Basic;
+pub use find::{find_leaf, settled_assignment};
 pub use witness::BasicWitness;

@@ -11,7 +11,7 @@ use sched_base::Itv;
 use sched_model::{Constraint, End, Expr, Slot};
 
 /// The slot that settled bounds leave.
-fn settled_slot(c: Bounds) -> Slot
+pub fn settled_slot(c: Bounds) -> Slot
     ensures { result ≡ settled_slot c }
 {
     match c.presence {

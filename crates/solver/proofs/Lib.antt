@@ -1,1 +1,5 @@
-mod Begun
+pub mod Branching
+pub mod Fitting
+pub mod Stepping
+pub mod Writing
+pub mod Answering

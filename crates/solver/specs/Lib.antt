@@ -1,2 +1,3 @@
 pub mod Answers
 pub mod Solving
+pub mod Searching

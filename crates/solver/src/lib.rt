@@ -1,6 +1,9 @@
 //! Branch and bound that writes the log of its search.
 #![tactic(auto)]
 
+mod answer;
+mod branch;
+mod line;
 mod search;
 
 pub use search::{SolveFault, solve};

@@ -1,0 +1,107 @@
+-- A cut splits what is open of an interval.
+use Rattle.std.proofs.Common.{w64, SFits, to_z, of_z, ◌≡◌, ℕ, zero, suc, ◌+◌, ◌/◌, ◌<◌, ℤ, pos, negsuc, ◌+ℤ◌, Bool, true, ◌&&◌, List, [], ◌∷◌, length, refl, sym, ap, subst, ◌∙◌, arith, get_or}
+use Rattle.std.specs.Prelude.{int_le, int_lt, ◌≤ℤ◌, ◌<ℤ◌, nat_lt, IsTrue, not}
+use Rattle.std.specs.Int.{int_div_euclid}
+use Rattle.std.specs.Ordering.{int_eq}
+use Rattle.std.proofs.lemmas.Int.{ints, to_z-of_z}
+use Rattle.std.proofs.lemmas.Bool.{ltb-true}
+use Rattle.std.proofs.lemmas.Bool.Decides.{nat_tests}
+use Rattle.sched_base.specs.declared.ids.Itv.{Itv}
+use Rattle.sched_model.specs.declared.types.IntervalDef.{IntervalDef}
+use Rattle.sched_model.specs.Words.{placewise, ◌implies◌}
+use Rattle.sched_model.specs.Valid.{is_moment}
+use Rattle.sched_model.specs.Data.{Data}
+use Rattle.region.specs.declared.types.Bounds.{Bounds}
+use Rattle.region.specs.declared.types.Guess.{Guess}
+use Rattle.region.specs.declared.types.Guess.TheVariants.{Present, StartLe, EndLe}
+use Rattle.region.specs.declared.types.Presence.TheVariants as presence
+use Rattle.region.specs.Cells.{Region, unknown, bounds_of, is_fixed, says_present}
+use Rattle.region.specs.Guesses.{subject, is_open_at, is_ready_at, admits, splits}
+use Rattle.region.specs.Looks.{IsRegionOf, is_narrowed}
+use Rattle.region.specs.laws.Lists.{both_true, true_both}
+use Rattle.solver.specs.Searching.{IsMiddle, IsCut, Cuts, is_ordered}
+
+-- half, rounded down
+half_below : (z : ℤ) → (int_div_euclid z (pos 2) +ℤ int_div_euclid z (pos 2)) ≤ℤ z
+half_below (pos n) = omega (arith, ints)
+half_below (negsuc n) = omega (arith, ints)
+
+half_above : (z : ℤ) → z <ℤ (int_div_euclid z (pos 2) +ℤ int_div_euclid z (pos 2) +ℤ pos 2)
+half_above (pos n) = omega (arith, ints)
+half_above (negsuc n) = omega (arith, ints)
+
+pub middle_is : (lo hi z t : ℤ) → t ≡ int_div_euclid z (pos 2) → z ≡ lo +ℤ hi → IsMiddle lo hi t
+middle_is lo hi z t half sum = record {
+  below = subst (λ s. (t +ℤ t) ≤ℤ s) sum (subst (λ h. (h +ℤ h) ≤ℤ z) (sym half) (half_below z));
+  above = subst (λ s. s <ℤ (t +ℤ t +ℤ pos 2)) sum (subst (λ h. z <ℤ (h +ℤ h +ℤ pos 2)) (sym half) (half_above z));
+}
+
+pub middle_from : (lo hi t : ℤ) → SFits w64 lo → SFits w64 hi → SFits w64 t → is_moment lo ≡ true → is_moment hi ≡ true
+    → t ≡ int_div_euclid (to_z w64 (of_z w64 (to_z w64 (of_z w64 lo) +ℤ to_z w64 (of_z w64 hi)))) (pos 2) → IsMiddle lo hi (to_z w64 (of_z w64 t))
+middle_from lo hi t lo_fits hi_fits fits low high half =
+    let sum : SFits w64 (lo +ℤ hi) = grind (arith, ints) in
+    simp to_z-of_z (middle_is lo hi (lo +ℤ hi) t (simp to_z-of_z at half) refl)
+
+-- a bound cut at the middle splits
+start_opens : (x : Itv) (c : Bounds) (t : ℤ) → c.presence ≡ presence.Present → c.smin <ℤ c.smax → IsMiddle c.smin c.smax t → is_open_at (StartLe x t) c ≡ true
+start_opens x c t here less middle = rw here (in_between c.smin c.smax t less middle.below middle.above)
+  where
+    in_between : (lo hi t : ℤ) → lo <ℤ hi → (t +ℤ t) ≤ℤ (lo +ℤ hi) → (lo +ℤ hi) <ℤ (t +ℤ t +ℤ pos 2) → (int_le lo t && int_lt t hi) ≡ true
+    in_between lo hi t less below above = grind (arith, ints)
+
+end_opens : (x : Itv) (c : Bounds) (t : ℤ) → c.presence ≡ presence.Present → c.emin <ℤ c.emax → IsMiddle c.emin c.emax t → is_open_at (EndLe x t) c ≡ true
+end_opens x c t here less middle = rw here (in_between c.emin c.emax t less middle.below middle.above)
+  where
+    in_between : (lo hi t : ℤ) → lo <ℤ hi → (t +ℤ t) ≤ℤ (lo +ℤ hi) → (lo +ℤ hi) <ℤ (t +ℤ t +ℤ pos 2) → (int_le lo t && int_lt t hi) ≡ true
+    in_between lo hi t less below above = grind (arith, ints)
+
+pub cuts_start : (x : Itv) (c : Bounds) (t : ℤ) → c.presence ≡ presence.Present → c.smin <ℤ c.smax → IsMiddle c.smin c.smax t → Cuts x c (StartLe x t)
+cuts_start x c t here less middle = record { of = refl; opens = start_opens x c t here less middle; ready = ap says_present here; cut = middle }
+
+pub cuts_end : (x : Itv) (c : Bounds) (t : ℤ) → c.presence ≡ presence.Present → c.emin <ℤ c.emax → IsMiddle c.emin c.emax t → Cuts x c (EndLe x t)
+cuts_end x c t here less middle = record { of = refl; opens = end_opens x c t here less middle; ready = ap says_present here; cut = middle }
+
+pub cuts_presence : (x : Itv) (c : Bounds) → c.presence ≡ presence.Maybe → Cuts x c (Present x)
+cuts_presence x c maybe = record { of = refl; opens = rw maybe refl; ready = refl; cut = tt }
+
+pub fixed_absent : (c : Bounds) → c.presence ≡ presence.Absent → is_fixed c ≡ true
+fixed_absent c absent = rw absent refl
+
+pub fixed_present : (c : Bounds) → c.presence ≡ presence.Present → is_ordered c ≡ true → c.smax ≤ℤ c.smin → c.emax ≤ℤ c.emin → is_fixed c ≡ true
+fixed_present c here ordered starts ends = rw here (same c.smin c.smax c.emin c.emax ordered starts ends)
+  where
+    same : (a b e f : ℤ) → (int_le a b && int_le e f) ≡ true → b ≤ℤ a → f ≤ℤ e → (int_eq a b && int_eq e f) ≡ true
+    same a b e f ordered starts ends = grind (arith, ints)
+
+-- the bounds of a region of a model are ordered
+narrowed_ordered : (d : IntervalDef) (c : Bounds) → is_narrowed d c ≡ true → is_ordered c ≡ true
+narrowed_ordered d c h =
+    let h6 = (both_true _ _ (both_true _ _ h).0).0 in
+    let h5 = both_true _ (int_le c.emax d.end_hi) h6 in
+    let h4 = both_true _ (int_le c.emin c.emax) h5.0 in
+    let h3 = both_true _ (int_le d.end_lo c.emin) h4.0 in
+    let h2 = both_true _ (int_le c.smax d.start_hi) h3.0 in
+    let h1 = both_true _ (int_le c.smin c.smax) h2.0 in
+    true_both (int_le c.smin c.smax) (int_le c.emin c.emax) h1.1 h4.1
+
+all_ordered : (ds : List IntervalDef) (bs : List Bounds) (n : ℕ) → placewise is_narrowed ds bs ≡ true → n < length bs → is_ordered (get_or bs n unknown) ≡ true
+all_ordered ds [] n h within = absurd (omega (arith, within))
+all_ordered [] (b ∷ bs) n h within = cc
+all_ordered (d ∷ ds) (b ∷ bs) zero h within = narrowed_ordered d b (both_true (is_narrowed d b) (placewise is_narrowed ds bs) h).0
+all_ordered (d ∷ ds) (b ∷ bs) (suc n) h within = all_ordered ds bs n (both_true (is_narrowed d b) (placewise is_narrowed ds bs) h).1 (omega (arith, within))
+
+pub ordered_at : (m : Data) (r : Region) (x : Itv) → IsRegionOf m r → x.0 < length r.bounds → is_ordered (bounds_of r x) ≡ true
+ordered_at m r x of within = all_ordered m.intervals r.bounds x.0 of.bounds within
+
+-- a cut of an interval of the region splits it
+pub cut_splits : (r : Region) (x : Itv) (c : Bounds) (g : Guess) → x.0 < length r.bounds → c ≡ bounds_of r x → Cuts x c g → splits r g ≡ true
+cut_splits r x c g within same cuts =
+    let at : c ≡ bounds_of r (subject g) = same ∙ ap (bounds_of r) (sym cuts.of) in
+    true_both _ _ (true_both _ _ (subst (λ y. nat_lt y.0 (length r.bounds) ≡ true) (sym cuts.of) (below x.0 (length r.bounds) within)) (subst (λ b. is_open_at g b ≡ true) at cuts.opens))
+    (subst (λ b. is_ready_at g b ≡ true) at cuts.ready)
+  where
+    below : (n k : ℕ) → n < k → nat_lt n k ≡ true
+    below n k h = grind (arith, nat_tests)
+
+pub cut_at : (r : Region) (x : Itv) (c : Bounds) (g : Guess) → c ≡ bounds_of r x → Cuts x c g → IsCut (bounds_of r (subject g)) g
+cut_at r x c g same cuts = subst (λ b. IsCut b g) (same ∙ ap (bounds_of r) (sym cuts.of)) cuts.cut

@@ -1,0 +1,206 @@
+-- The lines of the search are lines that a log may hold.
+use Rattle.std.proofs.Common.{◌≡◌, ℕ, zero, suc, ◌+◌, ◌*◌, ◌<◌, ◌≤◌, ◌^◌, ℤ, pos, negsuc, neg_ℤ, Bool, true, false, ◌&&◌, List, [], ◌∷◌, ◌++◌, length, Some, None, refl, sym, ap, subst, ◌∙◌, arith, length-append, append-nil, get_or}
+use Rattle.std.specs.Prelude.{IsTrue, map, flat_map, codes, nat_le, nat_lt, int_le, int_lt}
+use Rattle.std.specs.Fmt.{decimal, signed_decimal}
+use Rattle.std.specs.Int.Signed.{mag}
+use Rattle.std.specs.List.{list_all}
+use Rattle.std.proofs.lemmas.Int.{ints}
+use Rattle.std.proofs.lemmas.Bool.{ltb-true, leb-true}
+use Rattle.std.proofs.lemmas.Bool.Decides.{nat_tests}
+use Rattle.std.proofs.lemmas.Fmt.{length-decimal-le, length_signed_le}
+use Rattle.std.proofs.lemmas.List.Concat.{flat_map-cons}
+use Rattle.sched_base.specs.declared.ids.Itv.{Itv}
+use Rattle.sched_model.specs.declared.types.IntervalDef.{IntervalDef}
+use Rattle.sched_model.specs.declared.types.Slot.{Slot}
+use Rattle.sched_model.specs.declared.types.Slot.TheVariants as slot
+use Rattle.sched_model.specs.declared.types.Assignment.{Assignment}
+use Rattle.sched_model.specs.Words.{placewise, is_between, is_empty}
+use Rattle.sched_model.specs.Data.{Data}
+use Rattle.sched_model.specs.Domain.{fits_def, is_in_domain}
+use Rattle.sched_model.specs.Sentences.{holds}
+use Rattle.sched_model.specs.Solution.{is_solution}
+use Rattle.sched_model.specs.Valid.{IsValid, is_small, is_interval_def, is_span_of_moments}
+use Rattle.region.specs.declared.types.Bounds.{Bounds}
+use Rattle.region.specs.declared.types.Guess.{Guess}
+use Rattle.region.specs.declared.types.Guess.TheVariants.{Present, Absent, StartLe, StartGe, EndLe, EndGe}
+use Rattle.region.specs.Cells.{Region, unknown, bounds_of, settled_slots}
+use Rattle.region.specs.Guesses.{subject, is_open_at, admits, splits, is_ready_at}
+use Rattle.region.specs.Looks.{Seen, IsRegionOf, is_narrowed}
+use Rattle.region.specs.laws.Lists.{both_true, true_both, placewise-length, placewise-at}
+use Rattle.refute_basic.specs.declared.witness.BasicWitness.{BasicWitness}
+use Rattle.refute_basic.specs.declared.witness.BasicWitness.TheVariants.{Leaf}
+use Rattle.refute_basic.specs.Basic.{refutes, row_of}
+use Rattle.refute_basic.specs.Witness.{is_valid as is_valid_basic, is_number}
+use Rattle.refute_basic.specs.Leaf.{settled_assignment}
+use Rattle.kernel.specs.declared.types.Line.TheVariants.{Derive, Fail, Split, Sol}
+use Rattle.kernel.specs.declared.types.Witness.TheVariants.{Basic, Extra}
+use Rattle.kernel.specs.NoExtra.{numbers_of, is_valid}
+use Rattle.kernel.specs.Fit.{is_count, is_id, is_fit, is_fit_guess, is_fit_basic, is_fit_slot}
+use Rattle.textline.specs.Lines.{Bytes, line}
+use Rattle.logtext.specs.Spelling.{line_words, guess_words, basic_words, slot_words, assignment_words}
+use Rattle.logtext.specs.Logs.{PlainLine, IsLine}
+
+-- words of at most 20 bytes
+abbrev AreShort : List Bytes → Type 0
+AreShort [] = Unit {0}
+AreShort (w ∷ ws) = (length w ≤ 20) × AreShort ws
+
+short_append : (vs ws : List Bytes) → AreShort vs → AreShort ws → AreShort (vs ++ ws)
+short_append [] ws h k = k
+short_append (v ∷ vs) ws h k = (h.0, short_append vs ws h.1 k)
+
+line_length : (ws : List Bytes) → AreShort ws → length (line ws) ≤ 1 + 21 * length ws
+line_length [] h = omega arith
+line_length (w ∷ []) h = omega (arith, length-append w (10 ∷ []), h.0)
+line_length (w ∷ v ∷ ws) h = omega (arith, length-append w (32 ∷ line (v ∷ ws)), h.0, line_length (v ∷ ws) h.1)
+
+-- numbers are short words
+small_mag : (z : ℤ) → is_small z ≡ true → mag z ≤ 2 ^ 62
+small_mag (pos n) h = grind (arith, ints)
+small_mag (negsuc n) h = grind (arith, ints)
+
+signed_short : (z : ℤ) → is_small z ≡ true → length (signed_decimal z) ≤ 20
+signed_short z h = let small = small_mag z h in length_signed_le 19 z (omega arith) (omega arith)
+
+count_short : (n : ℕ) → is_count n ≡ true → length (decimal n) ≤ 20
+count_short n h = let below : n < 2 ^ 32 = ltb-true n (2 ^ 32) h in length-decimal-le 20 n (omega arith) (omega arith) (omega arith)
+
+-- a fit guess in words
+guess_short : (g : Guess) → is_fit_guess g ≡ true → AreShort (guess_words g) × (length (guess_words g) ≤ 3)
+guess_short (Present x) h = ((omega arith, (count_short x.0 h, tt)), omega arith)
+guess_short (Absent x) h = ((omega arith, (count_short x.0 h, tt)), omega arith)
+guess_short (StartLe x t) h = let two = both_true (is_id x) (is_small t) h in ((omega arith, (count_short x.0 two.0, (signed_short t two.1, tt))), omega arith)
+guess_short (StartGe x t) h = let two = both_true (is_id x) (is_small t) h in ((omega arith, (count_short x.0 two.0, (signed_short t two.1, tt))), omega arith)
+guess_short (EndLe x t) h = let two = both_true (is_id x) (is_small t) h in ((omega arith, (count_short x.0 two.0, (signed_short t two.1, tt))), omega arith)
+guess_short (EndGe x t) h = let two = both_true (is_id x) (is_small t) h in ((omega arith, (count_short x.0 two.0, (signed_short t two.1, tt))), omega arith)
+
+-- a line of few short words
+line_is : (l : PlainLine) → is_fit is_valid l ≡ true → AreShort (line_words numbers_of l) → length (line_words numbers_of l) ≤ 10000 → IsLine numbers_of is_valid l
+line_is l fit short few = record { fit = fit; text_is = refl; short = omega (arith, line_length (line_words numbers_of l) short, few) }
+
+-- a guess that is open in a region of a valid model is fit
+listed_def : (ds : List IntervalDef) (bs : List Bounds) (n : ℕ) → list_all is_interval_def ds ≡ true → placewise is_narrowed ds bs ≡ true → n < length bs
+    → (d : IntervalDef) × (is_interval_def d ≡ true) × (is_narrowed d (get_or bs n unknown) ≡ true)
+listed_def [] [] n defs narrowed within = absurd (omega (arith, within))
+listed_def [] (b ∷ bs) n defs narrowed within = cc
+listed_def (d ∷ ds) [] n defs narrowed within = absurd (omega (arith, within))
+listed_def (d ∷ ds) (b ∷ bs) zero defs narrowed within = (d, (both_true _ _ defs).0, (both_true (is_narrowed d b) (placewise is_narrowed ds bs) narrowed).0)
+listed_def (d ∷ ds) (b ∷ bs) (suc n) defs narrowed within = listed_def ds bs n (both_true (is_interval_def d) (list_all is_interval_def ds) defs).1 (both_true (is_narrowed d b) (placewise is_narrowed ds bs) narrowed).1 (omega (arith, within))
+
+-- the bounds of moments are small
+record IsWithin (c : Bounds) : Type 0 where
+  smin : is_small c.smin ≡ true
+  smax : is_small c.smax ≡ true
+  emin : is_small c.emin ≡ true
+  emax : is_small c.emax ≡ true
+
+small_span : (lo hi a b : ℤ) → is_span_of_moments lo hi ≡ true → int_le lo a ≡ true → int_le a b ≡ true → int_le b hi ≡ true → (is_small a ≡ true) × (is_small b ≡ true)
+small_span lo hi a b span from order to = (grind (arith, ints), grind (arith, ints))
+
+bounds_within : (d : IntervalDef) (c : Bounds) → is_interval_def d ≡ true → is_narrowed d c ≡ true → IsWithin c
+bounds_within d c def h =
+    let spans = (both_true _ _ (both_true _ _ def).0).0 in
+    let two = both_true (is_span_of_moments d.start_lo d.start_hi) (is_span_of_moments d.end_lo d.end_hi) spans in
+    let h6 = (both_true _ _ (both_true _ _ h).0).0 in
+    let h5 = both_true _ (int_le c.emax d.end_hi) h6 in
+    let h4 = both_true _ (int_le c.emin c.emax) h5.0 in
+    let h3 = both_true _ (int_le d.end_lo c.emin) h4.0 in
+    let h2 = both_true _ (int_le c.smax d.start_hi) h3.0 in
+    let h1 = both_true _ (int_le c.smin c.smax) h2.0 in
+    let h0 = both_true _ (int_le d.start_lo c.smin) h1.0 in
+    let s = small_span d.start_lo d.start_hi c.smin c.smax two.0 h0.1 h1.1 h2.1 in
+    let e = small_span d.end_lo d.end_hi c.emin c.emax two.1 h3.1 h4.1 h5.1 in
+    record { smin = s.0; smax = s.1; emin = e.0; emax = e.1 }
+
+between_small : (a b t : ℤ) (p : Bool) → is_small a ≡ true → is_small b ≡ true → (p && int_le a t && int_lt t b) ≡ true → is_small t ≡ true
+between_small a b t true h k is = grind (arith, ints)
+between_small a b t false h k is = cc
+
+after_small : (a b t : ℤ) (p : Bool) → is_small a ≡ true → is_small b ≡ true → (p && int_lt a t && int_le t b) ≡ true → is_small t ≡ true
+after_small a b t true h k is = grind (arith, ints)
+after_small a b t false h k is = cc
+
+fit_open : (g : Guess) (c : Bounds) → is_id (subject g) ≡ true → is_open_at g c ≡ true → IsWithin c → is_fit_guess g ≡ true
+fit_open (Present x) c named h w = named
+fit_open (Absent x) c named h w = named
+fit_open (StartLe x t) c named h w = true_both (is_id x) (is_small t) named (between_small c.smin c.smax t _ w.smin w.smax h)
+fit_open (StartGe x t) c named h w = true_both (is_id x) (is_small t) named (after_small c.smin c.smax t _ w.smin w.smax h)
+fit_open (EndLe x t) c named h w = true_both (is_id x) (is_small t) named (between_small c.emin c.emax t _ w.emin w.emax h)
+fit_open (EndGe x t) c named h w = true_both (is_id x) (is_small t) named (after_small c.emin c.emax t _ w.emin w.emax h)
+
+pub few_intervals : (m : Data) → IsValid m → length m.intervals ≤ 2000
+few_intervals m valid = leb-true _ _ (both_true (nat_le (length m.intervals) 2000) (nat_le (length m.constraints) 20000) valid.limits).0
+
+id_of : (n k : ℕ) → n < k → k ≤ 2000 → is_count n ≡ true
+id_of n k h few = grind (arith, nat_tests)
+
+fit_guess : (m : Data) (r : Region) (g : Guess) → IsValid m → IsRegionOf m r → splits r g ≡ true → is_fit_guess g ≡ true
+fit_guess m r g valid of h =
+    let two = both_true (admits r g) (is_ready_at g (bounds_of r (subject g))) h in
+    let parts = both_true (nat_lt (subject g).0 (length r.bounds)) (is_open_at g (bounds_of r (subject g))) two.0 in
+    let within = ltb-true _ _ parts.0 in
+    let def = listed_def m.intervals r.bounds (subject g).0 valid.intervals of.bounds within in
+    let few = few_intervals m valid in
+    fit_open g (bounds_of r (subject g)) (id_of (subject g).0 (length r.bounds) within (omega (arith, few, placewise-length is_narrowed m.intervals r.bounds of.bounds))) parts.1 (bounds_within def.0 (bounds_of r (subject g)) def.1 def.2)
+
+pub split_line : (m : Data) (r : Region) (g : Guess) → IsValid m → IsRegionOf m r → splits r g ≡ true → IsLine numbers_of is_valid (Split g)
+split_line m r g valid of h =
+    let fit = fit_guess m r g valid of h in
+    let words = guess_short g fit in
+    line_is (Split g) fit (omega arith, words.0) (omega (arith, words.1))
+
+-- a witness that refutes is fit
+pub fail_line : (m : Data) (l : Seen) (w : BasicWitness) → refutes m l w ≡ true → IsLine numbers_of is_valid (Fail (Basic w))
+fail_line m l (Leaf k u) h =
+    let fit = (both_true (is_valid_basic (Leaf k u)) (row_of m l (Leaf k u)) h).0 in
+    let two = both_true (is_number k) (is_number u) fit in
+    line_is (Fail (Basic (Leaf k u))) fit
+    (omega arith, (omega arith, (count_short k two.0, (count_short u two.1, tt))))
+    (omega arith)
+
+-- the slots of a solution are fit, and spelled by few short words
+moments_small : (lo hi z : ℤ) → is_span_of_moments lo hi ≡ true → is_between lo hi z ≡ true → is_small z ≡ true
+moments_small lo hi z span h = grind (arith, ints)
+
+fit_slot : (d : IntervalDef) (s : Slot) → is_interval_def d ≡ true → fits_def d s ≡ true → is_fit_slot s ≡ true
+fit_slot d slot.Absent def h = refl
+fit_slot d (slot.Present s e) def h =
+    let spans = (both_true _ _ (both_true _ _ def).0).0 in
+    let two = both_true (is_span_of_moments d.start_lo d.start_hi) (is_span_of_moments d.end_lo d.end_hi) spans in
+    let places = both_true (is_between d.start_lo d.start_hi s) (is_between d.end_lo d.end_hi e) (both_true _ _ h).0 in
+    true_both (is_small s) (is_small e) (moments_small d.start_lo d.start_hi s two.0 places.0) (moments_small d.end_lo d.end_hi e two.1 places.1)
+
+fit_slots : (ds : List IntervalDef) (ss : List Slot) → list_all is_interval_def ds ≡ true → placewise fits_def ds ss ≡ true → list_all is_fit_slot ss ≡ true
+fit_slots [] [] defs h = refl
+fit_slots (d ∷ ds) [] defs h = cc
+fit_slots [] (s ∷ ss) defs h = cc
+fit_slots (d ∷ ds) (s ∷ ss) defs h =
+    let first = both_true (is_interval_def d) (list_all is_interval_def ds) defs in
+    let second = both_true (fits_def d s) (placewise fits_def ds ss) h in
+    true_both (is_fit_slot s) _ (fit_slot d s first.0 second.0) (fit_slots ds ss first.1 second.1)
+
+slot_short : (s : Slot) → is_fit_slot s ≡ true → AreShort (slot_words s) × (length (slot_words s) ≤ 3)
+slot_short slot.Absent h = ((omega arith, tt), omega arith)
+slot_short (slot.Present s e) h = let two = both_true (is_small s) (is_small e) h in ((omega arith, (signed_short s two.0, (signed_short e two.1, tt))), omega arith)
+
+slots_short : (ss : List Slot) → list_all is_fit_slot ss ≡ true → AreShort (flat_map slot_words ss) × (length (flat_map slot_words ss) ≤ 3 * length ss)
+slots_short [] h = (tt, omega arith)
+slots_short (s ∷ ss) h =
+    let two = both_true (is_fit_slot s) (list_all is_fit_slot ss) h in
+    let first = slot_short s two.0 in
+    let rest = slots_short ss two.1 in (
+      subst AreShort (sym (flat_map-cons slot_words s ss)) (short_append (slot_words s) (flat_map slot_words ss) first.0 rest.0),
+      omega (arith, ap (λ (ws : List Bytes). length ws) (flat_map-cons slot_words s ss), length-append (slot_words s) (flat_map slot_words ss), first.1, rest.1),
+    )
+
+pub sol_line : (m : Data) (r : Region) → IsValid m → is_solution m (settled_assignment r) ≡ true → IsLine numbers_of is_valid (Sol (settled_assignment r))
+sol_line m r valid h =
+    let domain = (both_true (is_in_domain m (settled_assignment r)) (list_all (holds m (settled_assignment r)) m.constraints) h).0 in
+    let each = (both_true (placewise fits_def m.intervals (settled_slots r)) true (both_true _ true domain).0).0 in
+    let fit = fit_slots m.intervals (settled_slots r) valid.intervals each in
+    let words = slots_short (settled_slots r) fit in
+    let few = few_intervals m valid in
+    let same : assignment_words (settled_assignment r) ≡ flat_map slot_words (settled_slots r) = append-nil (flat_map slot_words (settled_slots r)) in
+    line_is (Sol (settled_assignment r)) (true_both _ true (true_both _ true fit refl) refl)
+    (omega arith, subst AreShort (sym same) words.0)
+    (omega (arith, ap (λ (ws : List Bytes). length ws) same, words.1, few, placewise-length fits_def m.intervals (settled_slots r) each))
