@@ -1,3 +1,6 @@
 pub mod Lines
-pub mod Trying
-pub mod Stopped
+pub mod Logged
+pub mod Searched
+pub mod Solved
+pub mod Checked
+pub mod Ending

@@ -3,7 +3,8 @@ use Rattle.std.proofs.Common.{◌≡◌, ℕ, ◌+◌, ◌<◌, ◌≤◌, List,
 use Rattle.std.proofs.lemmas.List.{drop_more, drop_all}
 use Rattle.sched_model.specs.declared.types.IntervalDef.{IntervalDef}
 use Rattle.sched_model.specs.declared.types.Slot.{Slot}
-use Rattle.schedtool.specs.AnswerText.{Bytes, line, slot_words, schedule_lines}
+use Rattle.textline.specs.Lines.{Bytes, line}
+use Rattle.schedtool.specs.AnswerText.{slot_words, schedule_lines}
 
 pub lines_more : (ds : List IntervalDef) (ss : List Slot) (i : ℕ) (d : IntervalDef) (slot : Slot) (before now whole : Bytes) → i < length ds → i < length ss → d ≡ get_or ds i d → slot ≡ get_or ss i slot
     → before ++ schedule_lines (drop i ds) (drop i ss) ≡ whole → now ≡ before ++ line (d.name ∷ slot_words slot) → now ++ schedule_lines (drop (i + 1) ds) (drop (i + 1) ss) ≡ whole

@@ -1,8 +1,10 @@
 pub mod AnswerText
+pub mod Asked
 pub mod Command
 pub mod Ended
-pub mod Found
+pub mod LastSchedule
 pub mod Real
 pub mod Runs
 pub mod Stops
+pub mod Told
 pub mod Tries

@@ -1,15 +1,25 @@
--- What reading a model, and solving it, do to the desk on the way.
-use Rattle.std.specs.Prelude.{◌≡◌, ◌⊎◌, ℕ, ◌≤◌, true, List, Result, Ok, Err, ⊤}
-use Rattle.sched_base.specs.State.{State, Bytes}
+-- What each step of a command does to the desk on the way.
+use Rattle.std.specs.Prelude.{◌≡◌, ◌⊎◌, ℕ, ◌≤◌, true, List, Result, Ok, Err, Option, IfSome, ⊤}
+use Rattle.sched_base.specs.State.{State, with_faults}
 use Rattle.sched_base.specs.Calls.{Rose}
+use Rattle.sched_model.specs.declared.types.Solved.{Solved}
 use Rattle.sched_model.specs.Data.{Data}
 use Rattle.cpo_elab.specs.Answers.Answer.{Accepted, Refused}
-use Rattle.cpo_elab.specs.Deserves.{DeservesServed}
+use Rattle.kernel.specs.Promises.{Means}
+use Rattle.textline.specs.Lines.{Bytes}
+use Rattle.checker.specs.declared.judging.Checked.{Checked}
+use Rattle.checker.specs.Judgement.{IsAccepted, IsRefused, IsTooLong}
+use Rattle.checker.specs.Checking.{log_bytes}
+use Rattle.solver.specs.Answers.{IsAnswer}
 use Rattle.schedtool.specs.declared.ended.Ended.{Ended}
 use Rattle.schedtool.specs.declared.ended.Ended.TheVariants as end
 use Rattle.schedtool.specs.declared.stop.Stop.{Stop}
 use Rattle.schedtool.specs.declared.stop.Stop.TheVariants as stop
-use Rattle.schedtool.specs.Runs.{IfText, HasFile, Prints, PrintsPart, Reports, fault_line, memory_line, refusal_line, is_success}
+use Rattle.schedtool.specs.Ended.{is_success}
+use Rattle.schedtool.specs.Told.{Reports, fault_line, memory_line, refusal_line, log_line, too_long_line}
+use Rattle.schedtool.specs.Runs.{IfFile, FileDeserves, HasFile, LogPromise, HoldsBegunLog, AnswerPromise, CutShort, AcceptsLog, AcceptsPart, AcceptPromise, model_bytes}
+
+-- Reading the model.
 
 -- only the slot of the model and the count of faults have changed
 pub record OnlyReads (old new : State) : Type 0 where
@@ -25,32 +35,80 @@ pub record IsFault (name : Bytes) (old new : State) : Type 0 where
 abbrev pub StopsReading : Bytes → State → State → Stop → Type 0
 StopsReading name old new stop.Fault = IsFault name old new
 StopsReading name old new stop.NoMemory = ⊤
-StopsReading name old new (stop.Refused r) = (new.faults ≡ old.faults) × IfText old name (λ text. DeservesServed text (Refused r))
+StopsReading name old new (stop.ModelRefused r) = (new.faults ≡ old.faults) × FileDeserves old name (Refused r)
+StopsReading name old new _ = ⊥
 
 abbrev pub Fetches : Bytes → Result (List ℕ) Stop → State → State → Type 0
-Fetches name (Ok bytes) old new = (new.faults ≡ old.faults) × IfText old name (λ text. bytes ≡ text)
+Fetches name (Ok bytes) old new = (new.faults ≡ old.faults) × IfFile old name (λ bs. bytes ≡ model_bytes bs)
 Fetches name (Err s) old new = StopsReading name old new s
 
 abbrev pub Loads : Bytes → Result Data Stop → State → State → Type 0
-Loads name (Ok m) old new = (new.faults ≡ old.faults) × IfText old name (λ text. DeservesServed text (Accepted m))
+Loads name (Ok m) old new = (new.faults ≡ old.faults) × FileDeserves old name (Accepted m)
 Loads name (Err s) old new = StopsReading name old new s
 
--- only the slot of the model, the count of faults and standard output have changed
-pub record OnlyPrints (old new : State) : Type 0 where
-  pub only : new ≡ record old { model = new.model; out = new.out; faults = new.faults }
+-- Searching with a log.
+
+-- no log was created, or one was begun
+abbrev pub BeginsSearch : Data → State → State → Type 0
+BeginsSearch m old new = (new ≡ with_faults new.faults old) ⊎ (HoldsBegunLog m old.logged new.logged × (new ≡ record old { logged = new.logged; created = true; faults = new.faults }))
+
+abbrev pub Searches : Data → Result Solved Stop → State → State → Type 0
+Searches m (Ok solved) old new = LogPromise m solved old.logged new.logged × IsAnswer m solved.answer × (new ≡ record old { logged = new.logged; created = true })
+Searches m (Err stop.Fault) old new = Rose old.faults new.faults × (old.calm ≡ true → ⊥) × (old.faults ≤ new.faults) × BeginsSearch m old new
+Searches m (Err stop.NoMemory) old new = (old.faults ≤ new.faults) × BeginsSearch m old new
+Searches m (Err _) old new = ⊥
+
+abbrev pub SolveTried : Bytes → Result Ended Stop → State → State → Type 0
+SolveTried model (Ok ended) old new = (new.faults ≡ old.faults) × (is_success ended ≡ true) × AnswerPromise model ended old new
+SolveTried model (Err stop.Fault) old new = IsFault model old new × CutShort model old new
+SolveTried model (Err stop.NoMemory) old new = (new.out ≡ old.out) × CutShort model old new
+SolveTried model (Err (stop.ModelRefused r)) old new = OnlyReads old new × (new.faults ≡ old.faults) × FileDeserves old model (Refused r)
+SolveTried model (Err _) old new = ⊥
+
+pub record TriesSolve (model : Bytes) (result : Result Ended Stop) (old new : State) : Type 0 where
+  pub only : new ≡ record old { model = new.model; out = new.out; logged = new.logged; created = new.created; faults = new.faults }
+  pub later : old.faults ≤ new.faults
+  pub tried : SolveTried model result old new
+
+-- Checking a log.
+
+-- only the slot of the log and the count of faults have changed
+pub record OnlyJudges (old new : State) : Type 0 where
+  pub only : new ≡ record old { log = new.log; faults = new.faults }
   pub later : old.faults ≤ new.faults
 
-abbrev pub StopsSolving : Bytes → State → State → Stop → Type 0
-StopsSolving name old new stop.Fault = IsFault name old new × IfText old name (λ text. PrintsPart text old.out new.out)
-StopsSolving name old new stop.NoMemory = new.out ≡ old.out
-StopsSolving name old new (stop.Refused r) = (new.faults ≡ old.faults) × (new.out ≡ old.out) × IfText old name (λ text. DeservesServed text (Refused r))
+-- what the log in a file is found to be
+abbrev pub JudgesFile : Data → Bytes → Result Checked Stop → State → State → Type 0
+JudgesFile m log (Ok c) old new = (new.faults ≡ old.faults) × IfFile old log (λ bytes. IsAccepted m (log_bytes bytes) c.verdict c.nodes) × Means m c.verdict
+JudgesFile m log (Err (stop.LogRefused k)) old new = IfFile old log (λ bytes. IsRefused m (log_bytes bytes) k × (IsTooLong m (log_bytes bytes) → ⊥))
+JudgesFile m log (Err stop.LogTooLong) old new = IfFile old log (λ bytes. IsTooLong m (log_bytes bytes))
+JudgesFile m log (Err stop.Fault) old new = IsFault log old new
+JudgesFile m log (Err stop.NoMemory) old new = ⊤
+JudgesFile m log (Err (stop.ModelRefused r)) old new = ⊥
 
-abbrev pub Solves : Bytes → Result Ended Stop → State → State → Type 0
-Solves name (Ok ended) old new = (new.faults ≡ old.faults) × (is_success ended ≡ true) × IfText old name (λ text. Prints text ended old.out new.out)
-Solves name (Err s) old new = StopsSolving name old new s
+abbrev pub CheckTried : Bytes → Bytes → Result Ended Stop → State → State → Type 0
+CheckTried model log (Ok ended) old new = (new.faults ≡ old.faults) × (ended ≡ end.Accepted) × AcceptPromise model log old new
+CheckTried model log (Err stop.Fault) old new = Rose old.faults new.faults × (old.calm ≡ true → HasFile old model → HasFile old log → ⊥) × AcceptsPart model log old new
+CheckTried model log (Err stop.NoMemory) old new = new.out ≡ old.out
+CheckTried model log (Err (stop.ModelRefused r)) old new = OnlyReads old new × (new.faults ≡ old.faults) × FileDeserves old model (Refused r)
+CheckTried model log (Err (stop.LogRefused k)) old new = (new.out ≡ old.out) × ((m : Data) × FileDeserves old model (Accepted m) × IfFile old log (λ bytes. IsRefused m (log_bytes bytes) k × (IsTooLong m (log_bytes bytes) → ⊥)))
+CheckTried model log (Err stop.LogTooLong) old new = (new.out ≡ old.out) × ((m : Data) × FileDeserves old model (Accepted m) × IfFile old log (λ bytes. IsTooLong m (log_bytes bytes)))
+
+pub record TriesCheck (model log : Bytes) (result : Result Ended Stop) (old new : State) : Type 0 where
+  pub only : new ≡ record old { model = new.model; log = new.log; out = new.out; faults = new.faults }
+  pub later : old.faults ≤ new.faults
+  pub tried : CheckTried model log result old new
+
+-- Ending without an answer.
+
+-- with this line on standard error and this ending, or with none for want of memory
+abbrev pub EndsTold : Ended → Bytes → Ended → State → State → Type 0
+EndsTold wanted text ended old new = ((ended ≡ wanted) × Reports text old new) ⊎ ((ended ≡ end.NoMemory) × Reports memory_line old new)
 
 -- how a command ends that came to no answer: with its line on standard error, and nothing else changed
 abbrev pub EndsStopped : Stop → Ended → State → State → Type 0
 EndsStopped stop.Fault ended old new = (ended ≡ end.Fault) × Reports fault_line old new
 EndsStopped stop.NoMemory ended old new = (ended ≡ end.NoMemory) × Reports memory_line old new
-EndsStopped (stop.Refused r) ended old new = ((ended ≡ end.ModelRefused) × Reports (refusal_line r) old new) ⊎ ((ended ≡ end.NoMemory) × Reports memory_line old new)
+EndsStopped (stop.ModelRefused r) ended old new = EndsTold end.ModelRefused (refusal_line r) ended old new
+EndsStopped (stop.LogRefused k) ended old new = EndsTold end.LogRefused (log_line k) ended old new
+EndsStopped stop.LogTooLong ended old new = (ended ≡ end.LogRefused) × Reports too_long_line old new

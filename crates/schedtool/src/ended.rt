@@ -4,8 +4,10 @@ ghost use Rattle.schedtool.specs.Ended.{status_of};
 /// How a run ended.
 #[derive(Clone, Copy, Debug, PartialEq, Eq)]
 pub enum Ended {
-    /// A solution was printed, or what was asked for.
+    /// A solution was printed.
     Done,
+    /// The log is accepted.
+    Accepted,
     /// There is no solution.
     Infeasible,
     /// The node limit was met.
@@ -16,6 +18,8 @@ pub enum Ended {
     ModelRefused,
     /// The outside failed.
     Fault,
+    /// A line of the log is wrong or missing, or the log is too long.
+    LogRefused,
     /// Memory was refused.
     NoMemory,
 }
@@ -27,11 +31,13 @@ impl Ended {
     {
         match self {
             Ended::Done => 0,
+            Ended::Accepted => 0,
             Ended::Infeasible => 10,
             Ended::Unfinished => 20,
             Ended::Usage => 2,
             Ended::ModelRefused => 3,
             Ended::Fault => 4,
+            Ended::LogRefused => 5,
             Ended::NoMemory => 70,
         }
     }

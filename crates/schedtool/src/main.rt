@@ -3,12 +3,14 @@
 #![tactic(auto)]
 
 mod answer;
+mod checking;
 mod command;
 mod ended;
 mod load;
 mod real;
+mod report;
 mod run;
-mod search;
+mod solving;
 mod stop;
 #[cfg(test)]
 mod tests;
@@ -16,7 +18,7 @@ mod tests;
 pub use ended::Ended;
 pub use real::RealDesk;
 pub use run::run;
-pub use search::solve;
+pub use solver::solve;
 use std::process::ExitCode;
 use std::rt::Env;
 use std::{env, io};

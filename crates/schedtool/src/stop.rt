@@ -1,5 +1,7 @@
+use checker::CheckFault;
 use cpo_text::{ReadFault, Refusal};
 use sched_base::{Failed, NoMemory, ReadError};
+use solver::SolveFault;
 
 /// Why a command comes to no answer.
 #[derive(Clone, Copy, Debug)]
@@ -8,7 +10,10 @@ pub enum Stop {
     Fault,
     NoMemory,
     /// The model's text deserves this.
-    Refused(Refusal),
+    ModelRefused(Refusal),
+    /// This line of the log is the first that is wrong or missing.
+    LogRefused(u64),
+    LogTooLong,
 }
 
 impl From<Failed> for Stop {
@@ -55,8 +60,38 @@ impl From<ReadFault> for Stop {
 
     fn from(e: ReadFault) -> Stop {
         match e {
-            ReadFault::Refused(r) => Stop::Refused(r),
+            ReadFault::Refused(r) => Stop::ModelRefused(r),
             ReadFault::NoMemory => Stop::NoMemory,
+        }
+    }
+}
+
+impl From<SolveFault> for Stop {
+    ghost use Rattle.std.specs.Prelude.{◌≡◌};
+    ghost use Rattle.schedtool.specs.Stops.{stop_of_search};
+
+    ghost from_gives = { λ e s. s ≡ stop_of_search e };
+
+    fn from(e: SolveFault) -> Stop {
+        match e {
+            SolveFault::Fault => Stop::Fault,
+            SolveFault::NoMemory => Stop::NoMemory,
+        }
+    }
+}
+
+impl From<CheckFault> for Stop {
+    ghost use Rattle.std.specs.Prelude.{◌≡◌};
+    ghost use Rattle.schedtool.specs.Stops.{stop_of_check};
+
+    ghost from_gives = { λ e s. s ≡ stop_of_check e };
+
+    fn from(e: CheckFault) -> Stop {
+        match e {
+            CheckFault::Refused { line } => Stop::LogRefused(line),
+            CheckFault::TooLong => Stop::LogTooLong,
+            CheckFault::Fault => Stop::Fault,
+            CheckFault::NoMemory => Stop::NoMemory,
         }
     }
 }

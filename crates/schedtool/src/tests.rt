@@ -1,30 +1,49 @@
 use crate::ended::Ended;
 use crate::run::run;
-use crate::search::solve;
 use cpo_elab::read_model;
-use sched_base::{File, List, MemDesk, NoMemory};
-use sched_model::Answer;
+use sched_base::{Desk, File, List, MemDesk, NoMemory};
+use sched_model::{Answer, Assignment, Model, Slot, is_solution, value};
+use solver::solve;
 use std::alloc::Global;
 use std::test::Fail;
+
+const SOLVE: [&str; 3] = ["solve", "m", "l"];
+
+const CHECK: [&str; 3] = ["check", "m", "l"];
 
 const TWO_IN_A_ROW: &str =
     "a = intervalVar(size=1,start=0..2,end=0..3); b = intervalVar(size=1,start=0..2,end=0..3); endBeforeStart(a,b); minimize(endOf(b));\n";
 
-fn listed(alloc: Global, bytes: &[u8]) -> Result<List<u8>, NoMemory> {
+const NO_ROOM: &str = "a = intervalVar(size=1,start=0,end=0);\n";
+
+const ONE_PLACE: &str = "a = intervalVar(size=2,start=3,end=5);\n";
+
+const TWO_PLACES: &str = "x = intervalVar(size=1,start=0..1,end=1..2);\n";
+
+fn file(alloc: Global, name: u8, bytes: &[u8]) -> Result<File, NoMemory> {
     let mut list = List::new(alloc);
     for b in bytes {
         list.push(*b)?;
     }
-    Ok(list)
+    let mut named = List::new(alloc);
+    named.push(name)?;
+    Ok(File {
+        name: named,
+        bytes: list,
+    })
 }
 
-/// A desk with the file `m`, which holds the text, that fails the calls of these numbers.
-fn desk_with(alloc: Global, text: &str, failing: &[u32]) -> Result<MemDesk, NoMemory> {
+/// A desk with the model in the file `m` and the log in the file `l`, that fails the calls of
+/// these numbers.
+fn desk_with(
+    alloc: Global,
+    model: &[u8],
+    log: &[u8],
+    failing: &[u32],
+) -> Result<MemDesk, NoMemory> {
     let mut files = List::new(alloc);
-    files.push(File {
-        name: listed(alloc, b"m")?,
-        bytes: listed(alloc, text.as_bytes())?,
-    })?;
+    files.push(file(alloc, b'm', model)?)?;
+    files.push(file(alloc, b'l', log)?)?;
     let mut numbers = List::new(alloc);
     for n in failing {
         numbers.push(*n)?;
@@ -40,36 +59,60 @@ fn run_words(alloc: Global, words: &[&str], desk: &mut MemDesk) -> Result<Ended,
     Ok(run(alloc, list.as_slice(), desk))
 }
 
-/// Whether a run with one failing call, if any, ends so and prints this.
+/// Whether what `check` printed is the verdict and the count that `solve` did.
+fn agrees(solved: &[u8], checked: &[u8]) -> bool {
+    let Some(told) = checked.strip_prefix(b"accepted ") else {
+        return false;
+    };
+    let Some(told) = told.strip_suffix(b"end\n") else {
+        return false;
+    };
+    solved.starts_with(told)
+}
+
+/// Whether `check` accepts the log of `solve` with the same verdict and count.
+fn is_checked(alloc: Global, text: &str, solved: &MemDesk) -> Result<bool, NoMemory> {
+    let mut desk = desk_with(alloc, text.as_bytes(), solved.log_bytes(), &[])?;
+    let ended = run_words(alloc, &CHECK, &mut desk)?;
+    Ok(ended.status() == 0 && agrees(solved.out(), desk.out()))
+}
+
+/// Whether `solve` ends so and its answer begins and ends so, and its log is accepted.
+fn solves(
+    alloc: Global,
+    text: &str,
+    status: u8,
+    begin: &[u8],
+    end: &[u8],
+) -> Result<bool, NoMemory> {
+    let mut desk = desk_with(alloc, text.as_bytes(), b"", &[])?;
+    let ended = run_words(alloc, &SOLVE, &mut desk)?;
+    if ended.status() != status || !desk.out().starts_with(begin) || !desk.out().ends_with(end) {
+        return Ok(false);
+    }
+    is_checked(alloc, text, &desk)
+}
+
+/// Whether a run over this model and this log ends so and prints this.
 fn prints(
     alloc: Global,
     words: &[&str],
-    text: &str,
-    failing: &[u32],
-    wanted: (u8, &[u8], &[u8]),
+    files: (&str, &str),
+    status: u8,
+    out: &[u8],
+    err: &[u8],
 ) -> Result<bool, NoMemory> {
-    let mut desk = desk_with(alloc, text, failing)?;
+    let (model, log) = files;
+    let mut desk = desk_with(alloc, model.as_bytes(), log.as_bytes(), &[])?;
     let ended = run_words(alloc, words, &mut desk)?;
-    let (status, out, err) = wanted;
     Ok(ended.status() == status && desk.out() == out && desk.err() == err)
-}
-
-/// Whether the model's answer begins and ends so.
-fn solves(alloc: Global, text: &str, begin: &[u8], end: &[u8]) -> Result<bool, NoMemory> {
-    let mut desk = desk_with(alloc, text, &[])?;
-    let ended = run_words(alloc, &["solve", "m"], &mut desk)?;
-    Ok(ended.status() == 0 && desk.out().starts_with(begin) && desk.out().ends_with(end))
 }
 
 #[test]
 fn two_in_a_row(rt: HostRuntime) -> Result<(), Fail> {
-    let alloc = rt.alloc();
-    let is_so = solves(
-        alloc,
-        TWO_IN_A_ROW,
-        b"optimal 2\nnodes ",
-        b"\na 0 1\nb 1 2\nend\n",
-    )?;
+    let begin = b"optimal 2\nnodes ";
+    let end = b"\na 0 1\nb 1 2\nend\n";
+    let is_so = solves(rt.alloc(), TWO_IN_A_ROW, 0, begin, end)?;
     assert!(rt; is_so);
     Ok(())
 }
@@ -77,63 +120,181 @@ fn two_in_a_row(rt: HostRuntime) -> Result<(), Fail> {
 #[test]
 fn answers(rt: HostRuntime) -> Result<(), Fail> {
     let alloc = rt.alloc();
-    let solve = ["solve", "m"];
-    let empty = prints(
-        alloc,
-        &solve,
-        "",
-        &[],
-        (0, b"feasible\nnodes 1\nend\n", b""),
-    )?;
+    let empty = solves(alloc, "", 0, b"feasible\nnodes 1\nend\n", b"")?;
     assert!(rt; empty);
-    let no_room = "a = intervalVar(size=1,start=0,end=0);\n";
-    let none = prints(
-        alloc,
-        &solve,
-        no_room,
-        &[],
-        (10, b"infeasible\nnodes 1\nend\n", b""),
-    )?;
+    let none = solves(alloc, NO_ROOM, 10, b"infeasible\nnodes 1\nend\n", b"")?;
     assert!(rt; none);
-    let one_place = "a = intervalVar(size=2,start=3,end=5);\n";
-    let one = prints(
-        alloc,
-        &solve,
-        one_place,
-        &[],
-        (0, b"feasible\nnodes 1\na 3 5\nend\n", b""),
-    )?;
+    let one = solves(alloc, ONE_PLACE, 0, b"feasible\nnodes 1\na 3 5\nend\n", b"")?;
     assert!(rt; one);
     Ok(())
+}
+
+fn is_usage(alloc: Global, words: &[&str]) -> Result<bool, NoMemory> {
+    let usage = b"usage: schedtool COMMAND ARGUMENTS\n";
+    prints(alloc, words, ("", ""), 2, b"", usage)
 }
 
 #[test]
 fn words_and_faults(rt: HostRuntime) -> Result<(), Fail> {
     let alloc = rt.alloc();
-    let usage = b"usage: schedtool COMMAND ARGUMENTS\n";
-    assert!(rt; prints(alloc, &["solve"], "", &[], (2, b"", usage))?);
-    assert!(rt; prints(alloc, &["check", "m"], "", &[], (2, b"", usage))?);
-    assert!(rt; prints(alloc, &["solve", "missing"], "", &[], (4, b"", b"fault\n"))?);
+    assert!(rt; is_usage(alloc, &["solve", "m"])?);
+    assert!(rt; is_usage(alloc, &["show", "m", "l"])?);
+    assert!(rt; is_usage(alloc, &["check", "m", "l", "l"])?);
+    let missing = prints(alloc, &["solve", "x", "l"], ("", ""), 4, b"", b"fault\n")?;
+    assert!(rt; missing);
+    let no_log = prints(alloc, &["check", "m", "x"], ("", ""), 4, b"", b"fault\n")?;
+    assert!(rt; no_log);
     Ok(())
+}
+
+/// Whether a run with one failing call ends in a fault with a front part of what it prints.
+fn faults(alloc: Global, words: &[&str], log: &str, call: u32) -> Result<bool, NoMemory> {
+    let mut calm = desk_with(alloc, b"", log.as_bytes(), &[])?;
+    let _ = run_words(alloc, words, &mut calm)?;
+    let mut desk = desk_with(alloc, b"", log.as_bytes(), &[call])?;
+    let ended = run_words(alloc, words, &mut desk)?;
+    Ok(ended.status() == 4 && calm.out().starts_with(desk.out()) && desk.out() != calm.out())
 }
 
 #[test]
 fn failing_calls(rt: HostRuntime) -> Result<(), Fail> {
     let alloc = rt.alloc();
-    for call in 0..3u32 {
-        let faulted = prints(alloc, &["solve", "m"], "", &[call], (4, b"", b"fault\n"))?;
-        assert!(rt; faulted);
+    for call in 0..5u32 {
+        let is_so = faults(alloc, &SOLVE, "", call)?;
+        assert!(rt; is_so);
+    }
+    for call in 0..6u32 {
+        let is_so = faults(alloc, &CHECK, "schedlog 1\nv\nend\n", call)?;
+        assert!(rt; is_so);
     }
     Ok(())
 }
 
+/// Whether a search of one node is cut off at its limit, with nothing found.
+fn is_cut_off(alloc: Global) -> Result<bool, Fail> {
+    let model = read_model(alloc, TWO_IN_A_ROW.as_bytes())?;
+    let mut desk = desk_with(alloc, b"", b"", &[])?;
+    match desk.create_log("l") {
+        Err(_) => Ok(false),
+        Ok(()) => match solve(alloc, &model, 1, &mut desk) {
+            Ok(solved) => {
+                Ok(solved.nodes == 1 && matches!(&solved.answer, Answer::Unfinished(None)))
+            }
+            Err(_) => Ok(false),
+        },
+    }
+}
+
 #[test]
 fn node_limit(rt: HostRuntime) -> Result<(), Fail> {
+    let is_so = is_cut_off(rt.alloc())?;
+    assert!(rt; is_so);
+    Ok(())
+}
+
+fn accepts(alloc: Global, model: &str, log: &str, out: &[u8]) -> Result<bool, NoMemory> {
+    prints(alloc, &CHECK, (model, log), 0, out, b"")
+}
+
+fn refuses(alloc: Global, model: &str, log: &str, err: &[u8]) -> Result<bool, NoMemory> {
+    prints(alloc, &CHECK, (model, log), 5, b"", err)
+}
+
+#[test]
+fn closed_logs(rt: HostRuntime) -> Result<(), Fail> {
     let alloc = rt.alloc();
-    let model = read_model(alloc, TWO_IN_A_ROW.as_bytes())?;
-    let solved = solve(alloc, &model, 1)?;
-    let is_open = matches!(&solved.answer, Answer::Unfinished(None));
-    assert!(rt; solved.nodes == 1 && is_open);
+    let whole = "schedlog 1\nf LEAF 0 0\nend\n";
+    let infeasible = b"accepted infeasible\nnodes 1\nend\n";
+    assert!(rt; accepts(alloc, NO_ROOM, whole, infeasible)?);
+    let wrong = "schedlog 1\nf LEAF 1 0\nend\n";
+    assert!(rt; refuses(alloc, NO_ROOM, wrong, b"log refused line 2\n")?);
+    let short = "schedlog 1\nf LEAF 0 0\n";
+    assert!(rt; refuses(alloc, NO_ROOM, short, b"log refused line 3\n")?);
+    Ok(())
+}
+
+#[test]
+fn split_logs(rt: HostRuntime) -> Result<(), Fail> {
+    let alloc = rt.alloc();
+    let whole = "schedlog 1\ns SL 0 0\ns EL 0 1\nv p 0 1\nend\n";
+    let feasible = b"accepted feasible\nnodes 3\nend\n";
+    assert!(rt; accepts(alloc, TWO_PLACES, whole, feasible)?);
+    let wrong = "schedlog 1\ns SL 0 0\ns EL 0 1\nv p 0 2\nend\n";
+    assert!(rt; refuses(alloc, TWO_PLACES, wrong, b"log refused line 4\n")?);
+    let cut_off = "schedlog 1\ns SL 0 0\nend\n";
+    let unfinished = b"accepted unfinished none\nnodes 1\nend\n";
+    assert!(rt; accepts(alloc, TWO_PLACES, cut_off, unfinished)?);
+    Ok(())
+}
+
+/// The n-th small model. The last one has no objective.
+fn small_text(alloc: Global, n: u32) -> Result<String, NoMemory> {
+    let size = 1 + n % 3;
+    let room = 2 + n % 4;
+    let gap = i64::from(n / 4) - 1;
+    let goal = if n < 9 { "minimize(endOf(b));" } else { "" };
+    let text = format!(in alloc;
+        "a = intervalVar(size={size},start=0..3,end=0..{room}); b = intervalVar(size=1..2,start=0..3,end=0..{room}); endBeforeStart(a,b,{gap}); {goal}\n"
+    )?;
+    Ok(text)
+}
+
+fn slot(code: u32) -> Slot {
+    Slot::Present {
+        s: i64::from(code % 4),
+        e: i64::from(code / 4 % 8),
+    }
+}
+
+/// Two intervals that start at 0 to 3 and end at 0 to 7, by a number below 1,024.
+fn placed(alloc: Global, code: u32) -> Result<Assignment, NoMemory> {
+    let mut slots = List::new(alloc);
+    slots.push(slot(code % 32))?;
+    slots.push(slot(code / 32))?;
+    Ok(Assignment {
+        slots,
+        orders: List::new(alloc),
+        segs: List::new(alloc),
+    })
+}
+
+/// The first line of the right answer, by a look at each assignment.
+fn verdict_by_listing(alloc: Global, model: &Model) -> Result<String, NoMemory> {
+    let mut any = false;
+    let mut best: Option<i64> = None;
+    for code in 0..1024u32 {
+        let a = placed(alloc, code)?;
+        if !is_solution(model, &a) {
+            continue;
+        }
+        any = true;
+        if let Some(v) = value(model, &a) {
+            best = Some(best.map_or(v, |b| b.min(v)));
+        }
+    }
+    let line = match best {
+        Some(v) => format!(in alloc; "optimal {v}\n")?,
+        None if any => String::from_str(alloc, "feasible\n")?,
+        None => String::from_str(alloc, "infeasible\n")?,
+    };
+    Ok(line)
+}
+
+fn is_right(alloc: Global, n: u32) -> Result<bool, Fail> {
+    let text = small_text(alloc, n)?;
+    let model = read_model(alloc, text.as_bytes())?;
+    let wanted = verdict_by_listing(alloc, &model)?;
+    let mut desk = desk_with(alloc, text.as_bytes(), b"", &[])?;
+    let _ = run_words(alloc, &SOLVE, &mut desk)?;
+    Ok(desk.out().starts_with(wanted.as_bytes()) && is_checked(alloc, text.as_str(), &desk)?)
+}
+
+#[test]
+fn small_models(rt: HostRuntime) -> Result<(), Fail> {
+    for n in 0..10u32 {
+        let is_so = is_right(rt.alloc(), n)?;
+        assert!(rt; is_so, "at {n}");
+    }
     Ok(())
 }
 
@@ -190,14 +351,17 @@ const READ: [&str; 6] = [
     "a = intervalVar(start=00000000000000000000000000000000001..5,size=1);",
 ];
 
+/// Whether the text is refused, and no log written.
+fn is_refused(alloc: Global, text: &str) -> Result<bool, NoMemory> {
+    let mut desk = desk_with(alloc, text.as_bytes(), b"", &[])?;
+    let ended = run_words(alloc, &SOLVE, &mut desk)?;
+    let told = desk.err() == b"model refused 2 statement 0 at 0\n".as_slice();
+    Ok(ended.status() == 3 && told && desk.out().is_empty() && desk.log_bytes().is_empty())
+}
+
 fn all_refused(alloc: Global, texts: &[&str]) -> Result<bool, NoMemory> {
     for text in texts {
-        let wanted = (
-            3,
-            b"".as_slice(),
-            b"model refused 2 statement 0 at 0\n".as_slice(),
-        );
-        if !prints(alloc, &["solve", "m"], text, &[], wanted)? {
+        if !is_refused(alloc, text)? {
             return Ok(false);
         }
     }
@@ -206,7 +370,7 @@ fn all_refused(alloc: Global, texts: &[&str]) -> Result<bool, NoMemory> {
 
 fn all_read(alloc: Global, texts: &[&str]) -> Result<bool, NoMemory> {
     for text in texts {
-        if !solves(alloc, text, b"feasible\n", b"\na 1 2\nend\n")? {
+        if !solves(alloc, text, 0, b"feasible\n", b"\na 1 2\nend\n")? {
             return Ok(false);
         }
     }

@@ -1,7 +1,7 @@
 use Rattle.std.specs.Prelude.{codes, ◌∷◌, []}
 use Rattle.std.specs.Fmt.{decimal}
 use Rattle.schedtool.proofs.Lines.{told_in_row}
-use Rattle.schedtool.proofs.run.refusal_text.Goals as goal
+use Rattle.schedtool.proofs.report.refusal_text.Goals as goal
 
 pub returns : goal.returns
 returns c = told_in_row (codes "model refused ") (decimal c.args.r.number) (codes " statement ") (decimal c.args.r.statement) (codes " at ") (decimal c.args.r.at) (10 ∷ []) _ _ _ _ _

@@ -1,0 +1,251 @@
+-- The promise of a command, by how it ended.
+use Rattle.std.proofs.Common.{◌≡◌, ◌≤◌, ◌+◌, ℕ, Bool, true, false, Option, Some, None, Ok, Err, refl, sym, ap, subst, ◌∙◌, inl, inr, arith}
+use Rattle.sched_base.specs.State.{State}
+use Rattle.sched_base.specs.Calls.{Rose, appended}
+use Rattle.sched_model.specs.declared.types.Answer.{Answer}
+use Rattle.sched_model.specs.declared.types.Answer.TheVariants as answer
+use Rattle.cpo_text.specs.declared.text.Refusal.{Refusal}
+use Rattle.cpo_elab.specs.Answers.Answer.{Refused}
+use Rattle.textline.specs.Lines.{Bytes}
+use Rattle.logtext.specs.Writing.{AppendedFrom}
+use Rattle.schedtool.specs.declared.ended.Ended.{Ended}
+use Rattle.schedtool.specs.declared.ended.Ended.TheVariants as end
+use Rattle.schedtool.specs.declared.stop.Stop.{Stop}
+use Rattle.schedtool.specs.declared.stop.Stop.TheVariants as stop
+use Rattle.schedtool.specs.AnswerText.{answer_text, check_text}
+use Rattle.schedtool.specs.Command.{Command}
+use Rattle.schedtool.specs.Command.Command.{Solve, Check}
+use Rattle.schedtool.specs.Ended.{is_success}
+use Rattle.schedtool.specs.Told.{Tells, Reports, fault_line, memory_line, refusal_line, log_line, too_long_line}
+use Rattle.schedtool.specs.Runs.{RunPromise, EveryRun, HasFiles, FileDeserves, RefusesModel, LogPromise, HoldsBegunLog, CutShort, AnswerPromise, AcceptsPart, ending_of, SolveEnds, SolvePromise, CheckEnds, CheckPromise}
+use Rattle.schedtool.specs.Runs.CutShort.{before_log, in_log, in_answer}
+use Rattle.schedtool.specs.Runs.RefusesLog.{at_line, too_long}
+use Rattle.schedtool.specs.Tries.{OnlyReads, TriesSolve, TriesCheck, EndsStopped}
+
+-- A line on standard error behind whatever a command has done.
+
+tells_on : (text : Bytes) (old s new : State) → s.err ≡ old.err → old.faults ≤ s.faults → Reports text s new → Tells text old new
+tells_on text old s new err later reports = record {
+  part = subst (λ e. AppendedFrom text e new.err) err reports.tells.part;
+  whole = elim reports.tells.whole [
+    | inl rose ↦ inl (omega (arith, rose, later))
+    | inr is ↦ inr (subst (λ e. new.err ≡ appended text e) err is)
+  ];
+}
+
+-- What every run promises, by its ending.
+
+not_so : (e f : Ended) → is_success f ≡ false → is_success e ≡ true → e ≡ f → ⊥
+not_so e f other won is = let both : true ≡ false = sym won ∙ ap is_success is ∙ other in cc
+
+succeeded : (k : Command) (e : Ended) (old new : State) → is_success e ≡ true → new.faults ≡ old.faults → new.err ≡ old.err → EveryRun (Some k) e old new
+succeeded k e old new won kept err = record {
+  later = subst (λ n. old.faults ≤ n) (sym kept) (omega arith);
+  usage = (λ h. absurd (not_so e end.Usage refl won h), λ h. cc);
+  unopened = λ h. absurd (not_so e end.Usage refl won h);
+  fault = λ h. absurd (not_so e end.Fault refl won h);
+  calm = λ calm there h. not_so e end.Fault refl won h;
+  kept = λ h. (kept, err);
+  quiet = λ other h. let both : true ≡ false = sym won ∙ other in cc;
+  fault_told = λ h. absurd (not_so e end.Fault refl won h);
+  memory_told = λ h. absurd (not_so e end.NoMemory refl won h);
+}
+
+faulted : (k : Command) (old s new : State) → s.err ≡ old.err → old.faults ≤ s.faults → Rose old.faults s.faults → (old.calm ≡ true → HasFiles (Some k) old → ⊥) → Reports fault_line s new → EveryRun (Some k) end.Fault old new
+faulted k old s new err later rose calm reports = record {
+  later = omega (arith, later, reports.later);
+  usage = (λ h. cc, λ h. cc);
+  unopened = λ h. cc;
+  fault = λ h. omega (arith, rose, reports.later);
+  calm = λ is there h. calm is there;
+  kept = λ h. cc;
+  quiet = λ h other. absurd (other refl);
+  fault_told = λ h. tells_on fault_line old s new err later reports;
+  memory_told = λ h. cc;
+}
+
+no_memory : (k : Command) (old s new : State) → s.err ≡ old.err → s.out ≡ old.out → old.faults ≤ s.faults → Reports memory_line s new → EveryRun (Some k) end.NoMemory old new
+no_memory k old s new err out later reports = record {
+  later = omega (arith, later, reports.later);
+  usage = (λ h. cc, λ h. cc);
+  unopened = λ h. cc;
+  fault = λ h. cc;
+  calm = λ is there h. cc;
+  kept = λ h. cc;
+  quiet = λ h other. ap (λ (x : State). x.out) reports.only ∙ out;
+  fault_told = λ h. cc;
+  memory_told = λ h. tells_on memory_line old s new err later reports;
+}
+
+model_refused : (k : Command) (text : Bytes) (old s new : State) → s.out ≡ old.out → old.faults ≤ s.faults → Reports text s new → EveryRun (Some k) end.ModelRefused old new
+model_refused k text old s new out later reports = record {
+  later = omega (arith, later, reports.later);
+  usage = (λ h. cc, λ h. cc);
+  unopened = λ h. cc;
+  fault = λ h. cc;
+  calm = λ is there h. cc;
+  kept = λ h. cc;
+  quiet = λ h other. ap (λ (x : State). x.out) reports.only ∙ out;
+  fault_told = λ h. cc;
+  memory_told = λ h. cc;
+}
+
+log_refused : (k : Command) (text : Bytes) (old s new : State) → s.out ≡ old.out → old.faults ≤ s.faults → Reports text s new → EveryRun (Some k) end.LogRefused old new
+log_refused k text old s new out later reports = record {
+  later = omega (arith, later, reports.later);
+  usage = (λ h. cc, λ h. cc);
+  unopened = λ h. cc;
+  fault = λ h. cc;
+  calm = λ is there h. cc;
+  kept = λ h. cc;
+  quiet = λ h other. ap (λ (x : State). x.out) reports.only ∙ out;
+  fault_told = λ h. cc;
+  memory_told = λ h. cc;
+}
+
+-- What only some of a desk has changed, after the line too.
+
+abbrev pub OnlySolves : State → State → Type 0
+OnlySolves old new = new ≡ record old { model = new.model; out = new.out; err = new.err; logged = new.logged; created = new.created; faults = new.faults }
+
+abbrev pub OnlyChecks : State → State → Type 0
+OnlyChecks old new = new ≡ record old { model = new.model; log = new.log; out = new.out; err = new.err; faults = new.faults }
+
+abbrev pub OnlyRefuses : State → State → Type 0
+OnlyRefuses old new = new ≡ record old { model = new.model; err = new.err; faults = new.faults }
+
+solve_only : (text : Bytes) (old s new : State) → s ≡ record old { model = s.model; out = s.out; logged = s.logged; created = s.created; faults = s.faults } → Reports text s new → OnlySolves old new
+solve_only text old s new only reports =
+    subst (OnlySolves old) (sym (reports.only ∙ ap (λ (x : State). record x { err = new.err; faults = new.faults }) only)) refl
+
+check_only : (text : Bytes) (old s new : State) → s ≡ record old { model = s.model; log = s.log; out = s.out; faults = s.faults } → Reports text s new → OnlyChecks old new
+check_only text old s new only reports =
+    subst (OnlyChecks old) (sym (reports.only ∙ ap (λ (x : State). record x { err = new.err; faults = new.faults }) only)) refl
+
+refused_only : (text : Bytes) (old s new : State) → OnlyReads old s → Reports text s new → OnlyRefuses old new
+refused_only text old s new reads reports =
+    subst (OnlyRefuses old) (sym (reports.only ∙ ap (λ (x : State). record x { err = new.err; faults = new.faults }) reads.only)) refl
+
+cut_told : (name text : Bytes) (old s new : State) → CutShort name old s → Reports text s new → CutShort name old new
+cut_told name text old s new (before_log only) reports =
+    before_log (subst (OnlyRefuses old) (sym (reports.only ∙ ap (λ (x : State). record x { err = new.err; faults = new.faults }) only)) refl)
+cut_told name text old s new (in_log m deserved created holds out) reports =
+    in_log m deserved (ap (λ (x : State). x.created) reports.only ∙ created) (subst (λ b. HoldsBegunLog m old.logged b) (sym (ap (λ (x : State). x.logged) reports.only)) holds)
+    (ap (λ (x : State). x.out) reports.only ∙ out)
+cut_told name text old s new (in_answer m solved deserved answer created log part) reports =
+    in_answer m solved deserved answer (ap (λ (x : State). x.created) reports.only ∙ created) (subst (λ b. LogPromise m solved old.logged b) (sym (ap (λ (x : State). x.logged) reports.only)) log)
+    (subst (λ b. AppendedFrom (answer_text m solved) old.out b) (sym (ap (λ (x : State). x.out) reports.only)) part)
+
+part_told : (model log text : Bytes) (old s new : State) → AcceptsPart model log old s → Reports text s new → AcceptsPart model log old new
+part_told model log text old s new (inl out) reports = inl (ap (λ (x : State). x.out) reports.only ∙ out)
+part_told model log text old s new (inr part) reports = inr (part.0, part.1, part.2, subst (λ b. AppendedFrom (check_text part.0 part.1) old.out b) (sym (ap (λ (x : State). x.out) reports.only)) part.3)
+
+refuses : (name : Bytes) (old s new : State) → OnlyReads old s → (r : Refusal) → FileDeserves old name (Refused r) → Reports (refusal_line r) s new → RefusesModel name old new
+refuses name old s new reads r deserved reports = record {
+  refusal = r;
+  deserved = deserved;
+  told = tells_on (refusal_line r) old s new (ap (λ (x : State). x.err) reads.only) reads.later reports;
+  only = refused_only (refusal_line r) old s new reads reports;
+}
+
+-- `solve`.
+
+never_accepted : (a : Answer) → end.Accepted ≡ ending_of a → ⊥
+never_accepted (answer.Optimal v a) is = cc
+never_accepted (answer.Feasible a) is = cc
+never_accepted answer.Infeasible is = cc
+never_accepted (answer.Unfinished found) is = cc
+
+solve_ends : (model : Bytes) (e : Ended) (old new : State) → is_success e ≡ true → AnswerPromise model e old new → SolveEnds model e old new
+solve_ends model end.Done old new won promise = promise
+solve_ends model end.Infeasible old new won promise = promise
+solve_ends model end.Unfinished old new won promise = promise
+solve_ends model end.Accepted old new won promise = never_accepted promise.solved.answer promise.ending
+solve_ends model end.Usage old new won promise = cc
+solve_ends model end.ModelRefused old new won promise = absurd cc
+solve_ends model end.Fault old new won promise = absurd cc
+solve_ends model end.LogRefused old new won promise = cc
+solve_ends model end.NoMemory old new won promise = absurd cc
+
+pub solved : (model log : Bytes) (e : Ended) (old new : State) → TriesSolve model (Ok e) old new → RunPromise (Some (Solve model log)) e old new
+solved model log e old new tries = record {
+  every = succeeded (Solve model log) e old new tries.tried.1 tries.tried.0 (ap (λ (x : State). x.err) tries.only);
+  its_own = record {
+    only = subst (OnlySolves old) (sym tries.only) refl;
+    ends = solve_ends model e old new tries.tried.1 tries.tried.2;
+  };
+}
+
+solve_no_memory : (model log : Bytes) (old s new : State) → s ≡ record old { model = s.model; out = s.out; logged = s.logged; created = s.created; faults = s.faults } → old.faults ≤ s.faults → s.out ≡ old.out → CutShort model old s
+    → Reports memory_line s new → RunPromise (Some (Solve model log)) end.NoMemory old new
+solve_no_memory model log old s new only later out cut reports = record {
+  every = no_memory (Solve model log) old s new (ap (λ (x : State). x.err) only) out later reports;
+  its_own = record { only = solve_only memory_line old s new only reports; ends = cut_told model memory_line old s new cut reports };
+}
+
+pub solve_stopped : (model log : Bytes) (e : Stop) (ended : Ended) (old s new : State) → TriesSolve model (Err e) old s → EndsStopped e ended s new → RunPromise (Some (Solve model log)) ended old new
+solve_stopped model log stop.Fault ended old s new tries ends = subst (λ x. RunPromise (Some (Solve model log)) x old new) (sym ends.0) (record {
+  every = faulted (Solve model log) old s new (ap (λ (x : State). x.err) tries.only) tries.later tries.tried.0.rose tries.tried.0.calm ends.1;
+  its_own = record { only = solve_only fault_line old s new tries.only ends.1; ends = cut_told model fault_line old s new tries.tried.1 ends.1 };
+})
+solve_stopped model log stop.NoMemory ended old s new tries ends = subst (λ x. RunPromise (Some (Solve model log)) x old new) (sym ends.0)
+    (solve_no_memory model log old s new tries.only tries.later tries.tried.0 tries.tried.1 ends.1)
+solve_stopped model log (stop.ModelRefused r) ended old s new tries (inl ends) =
+    let reads = tries.tried.0 in
+    subst (λ x. RunPromise (Some (Solve model log)) x old new) (sym ends.0) (record {
+      every = model_refused (Solve model log) (refusal_line r) old s new (ap (λ (x : State). x.out) reads.only) reads.later ends.1;
+      its_own = record { only = solve_only (refusal_line r) old s new tries.only ends.1; ends = refuses model old s new reads r tries.tried.2 ends.1 };
+    })
+solve_stopped model log (stop.ModelRefused r) ended old s new tries (inr ends) =
+    let reads = tries.tried.0 in
+    subst (λ x. RunPromise (Some (Solve model log)) x old new) (sym ends.0)
+    (solve_no_memory model log old s new tries.only tries.later (ap (λ (x : State). x.out) reads.only) (before_log (subst (OnlyRefuses old) (sym reads.only) refl)) ends.1)
+solve_stopped model log (stop.LogRefused k) ended old s new tries ends = absurd tries.tried
+solve_stopped model log stop.LogTooLong ended old s new tries ends = absurd tries.tried
+
+-- `check`.
+
+pub checked : (model log : Bytes) (e : Ended) (old new : State) → TriesCheck model log (Ok e) old new → RunPromise (Some (Check model log)) e old new
+checked model log e old new tries = subst (λ x. RunPromise (Some (Check model log)) x old new) (sym tries.tried.1) (record {
+  every = succeeded (Check model log) end.Accepted old new refl tries.tried.0 (ap (λ (x : State). x.err) tries.only);
+  its_own = record { only = subst (OnlyChecks old) (sym tries.only) refl; ends = tries.tried.2 };
+})
+
+check_no_memory : (model log : Bytes) (old s new : State) → s ≡ record old { model = s.model; log = s.log; out = s.out; faults = s.faults } → old.faults ≤ s.faults → s.out ≡ old.out
+    → Reports memory_line s new → RunPromise (Some (Check model log)) end.NoMemory old new
+check_no_memory model log old s new only later out reports = record {
+  every = no_memory (Check model log) old s new (ap (λ (x : State). x.err) only) out later reports;
+  its_own = record { only = check_only memory_line old s new only reports; ends = ap (λ (x : State). x.out) reports.only ∙ out };
+}
+
+pub check_stopped : (model log : Bytes) (e : Stop) (ended : Ended) (old s new : State) → TriesCheck model log (Err e) old s → EndsStopped e ended s new → RunPromise (Some (Check model log)) ended old new
+check_stopped model log stop.Fault ended old s new tries ends = subst (λ x. RunPromise (Some (Check model log)) x old new) (sym ends.0) (record {
+  every = faulted (Check model log) old s new (ap (λ (x : State). x.err) tries.only) tries.later tries.tried.0 (λ calm there. tries.tried.1 calm there.0 there.1) ends.1;
+  its_own = record { only = check_only fault_line old s new tries.only ends.1; ends = part_told model log fault_line old s new tries.tried.2 ends.1 };
+})
+check_stopped model log stop.NoMemory ended old s new tries ends = subst (λ x. RunPromise (Some (Check model log)) x old new) (sym ends.0)
+    (check_no_memory model log old s new tries.only tries.later tries.tried ends.1)
+check_stopped model log (stop.ModelRefused r) ended old s new tries (inl ends) =
+    let reads = tries.tried.0 in
+    subst (λ x. RunPromise (Some (Check model log)) x old new) (sym ends.0) (record {
+      every = model_refused (Check model log) (refusal_line r) old s new (ap (λ (x : State). x.out) reads.only) reads.later ends.1;
+      its_own = record { only = check_only (refusal_line r) old s new tries.only ends.1; ends = refuses model old s new reads r tries.tried.2 ends.1 };
+    })
+check_stopped model log (stop.ModelRefused r) ended old s new tries (inr ends) = subst (λ x. RunPromise (Some (Check model log)) x old new) (sym ends.0)
+    (check_no_memory model log old s new tries.only tries.later (ap (λ (x : State). x.out) tries.tried.0.only) ends.1)
+check_stopped model log (stop.LogRefused k) ended old s new tries (inl ends) = subst (λ x. RunPromise (Some (Check model log)) x old new) (sym ends.0) (record {
+  every = log_refused (Check model log) (log_line k) old s new tries.tried.0 tries.later ends.1;
+  its_own = record {
+    only = check_only (log_line k) old s new tries.only ends.1;
+    ends = at_line tries.tried.1.0 k tries.tried.1.1 tries.tried.1.2 (tells_on (log_line k) old s new (ap (λ (x : State). x.err) tries.only) tries.later ends.1);
+  };
+})
+check_stopped model log (stop.LogRefused k) ended old s new tries (inr ends) = subst (λ x. RunPromise (Some (Check model log)) x old new) (sym ends.0)
+    (check_no_memory model log old s new tries.only tries.later tries.tried.0 ends.1)
+check_stopped model log stop.LogTooLong ended old s new tries ends = subst (λ x. RunPromise (Some (Check model log)) x old new) (sym ends.0) (record {
+  every = log_refused (Check model log) too_long_line old s new tries.tried.0 tries.later ends.1;
+  its_own = record {
+    only = check_only too_long_line old s new tries.only ends.1;
+    ends = too_long tries.tried.1.0 tries.tried.1.1 tries.tried.1.2 (tells_on too_long_line old s new (ap (λ (x : State). x.err) tries.only) tries.later ends.1);
+  };
+})

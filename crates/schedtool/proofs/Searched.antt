@@ -1,0 +1,61 @@
+-- What a search with a log has done, from what its steps did.
+use Rattle.std.proofs.Common.{◌≡◌, ◌≤◌, ◌+◌, ℕ, true, List, [], ◌∷◌, ◌++◌, Option, Some, None, Ok, Err, length, take, refl, sym, ap, subst, ◌∙◌, inr, arith}
+use Rattle.std.proofs.lemmas.List.{take_all}
+use Rattle.std.specs.Prelude.{option_map}
+use Rattle.sched_base.specs.State.{State}
+use Rattle.sched_base.specs.Calls.{Creates, Rose, appended}
+use Rattle.sched_model.specs.declared.types.Solved.{Solved}
+use Rattle.sched_model.specs.Data.{Data}
+use Rattle.kernel.specs.NoExtra.{refutes_none}
+use Rattle.kernel.specs.Refuting.{refutes_with}
+use Rattle.kernel.specs.Steps.{LogState, opening}
+use Rattle.textline.specs.Lines.{Bytes}
+use Rattle.logtext.specs.Logs.{PlainLine, plain_log}
+use Rattle.logtext.specs.Writing.{AppendedFrom}
+use Rattle.solver.specs.declared.search.SolveFault.{SolveFault}
+use Rattle.solver.specs.declared.search.SolveFault.TheVariants as solve
+use Rattle.solver.specs.Solving.{IsSolved, Solves, BeginsLog, CausesStop}
+use Rattle.schedtool.specs.Runs.{LogPromise, HoldsBegunLog}
+use Rattle.schedtool.specs.Stops.{stop_of_search}
+use Rattle.schedtool.specs.Tries.{Searches, BeginsSearch}
+use Rattle.schedtool.proofs.Logged.{last_shown, one_waits, unclosed}
+
+created_empty : (text : Bytes) (before : Option Bytes) → appended text (option_map (λ bs. []) before) ≡ option_map (λ bs. text) before
+created_empty text None = refl
+created_empty text (Some bs) = refl
+
+log_promise : (m : Data) (solved : Solved) (lines : List PlainLine) (state : LogState) (before : Option Bytes) → IsSolved m 100000 lines state solved → LogPromise m solved before (option_map (λ bs. plain_log lines) before)
+log_promise m solved lines state before is = record {
+  lines = lines;
+  state = state;
+  steps = is.log;
+  written = refl;
+  accepted = record { lines = lines; state = state; log = is.log; text = refl; verdict = sym is.verdict; nodes = is.nodes };
+  schedule = last_shown (refutes_with refutes_none) m lines (opening m) state _ is.log.steps refl is.shown;
+  few = subst (λ n. n ≤ 100000) (sym is.nodes) is.few;
+  limited = λ open_one. (
+    is.nodes ∙ is.limited open_one,
+    is.closed,
+    one_waits state.current state.waiting state.found (unclosed solved.answer open_one).0 is.closed (is.verdict ∙ (unclosed solved.answer open_one).1),
+  );
+}
+
+pub searched : (m : Data) (solved : Solved) (s c t : State) (u : Unit {0}) → Creates (Ok u) s c → Solves m 100000 solved c t → Searches m (Ok solved) s t
+searched m solved s c t u creates solves =
+    let text : Bytes = plain_log solves.lines in
+    let is : t ≡ record s { logged = option_map (λ bs. text) s.logged; created = true } =
+    solves.logged
+    ∙ ap (λ (x : State). record x { logged = appended text x.logged }) creates.created
+    ∙ ap (λ l. record s { logged = l; created = true }) (created_empty text s.logged) in
+    subst (Searches m (Ok solved) s) (sym is) (log_promise m solved solves.lines solves.state s.logged solves.is, solves.is.answer, refl)
+
+-- a whole log is a begun one
+whole_part : (text : Bytes) (before after : Option Bytes) → after ≡ option_map (λ bs. text) before → AppendedFrom text (option_map (λ bs. []) before) after
+whole_part text before after is = (
+  length text,
+  omega arith,
+  is ∙ sym (created_empty text before) ∙ ap (λ bs. appended bs (option_map (λ bs. []) before)) (sym (take_all (length text) text (omega arith))),
+)
+
+pub whole_begun : (m : Data) (solved : Solved) (before after : Option Bytes) → LogPromise m solved before after → HoldsBegunLog m before after
+whole_begun m solved before after promise = record { lines = promise.lines; state = promise.state; steps = promise.steps; part = whole_part (plain_log promise.lines) before after promise.written }

@@ -1,0 +1,13 @@
+use Rattle.std.proofs.Common.{◌≡◌, Err, rules, sym, subst}
+use Rattle.schedtool.specs.Stops.{stop_of_check}
+use Rattle.schedtool.specs.Tries.{JudgesFile}
+use Rattle.schedtool.proofs.Checked.{not_accepted}
+use Rattle.schedtool.proofs.checking.judge_file.Goals as goal
+
+pub returns-in_err-checked-clause-judges : goal.returns-in_err-checked-clause-judges
+returns-in_err-checked-clause-judges g c =
+    let old = g.D.Desk.state c.args.desk.now in
+    let after = g.D.Desk.state c.check.new.desk in
+    let is : c.from_residual-in_err-checked.result ≡ Err (stop_of_check c.in_err-checked.field-0.0) = search rules in
+    subst (λ r. JudgesFile c.args.model.now c.args.log.now r old after) (sym is)
+    (not_accepted c.args.model.now c.args.log.now c.in_err-checked.field-0.0 c.in_ok-open_in.field-0 old (g.D.Desk.state c.open_in.new.self) after c.in_ok-open_in.ensures c.in_err-checked.ensures.checks)

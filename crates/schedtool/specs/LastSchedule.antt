@@ -1,0 +1,17 @@
+-- The schedule of the last solution in a log.
+use Rattle.std.specs.Prelude.{List, [], ◌∷◌, Option, Some, None}
+use Rattle.std.specs.Option.{option_or}
+use Rattle.sched_model.specs.declared.types.Assignment.{Assignment}
+use Rattle.kernel.specs.declared.types.Line.{Line}
+use Rattle.kernel.specs.declared.types.Line.TheVariants.{Derive, Fail, Split, Sol}
+
+abbrev pub schedule_in : {W : Type 0} → Line W → Option Assignment
+schedule_in (Derive g w) = None
+schedule_in (Fail w) = None
+schedule_in (Split g) = None
+schedule_in (Sol a) = Some a
+
+-- that of the lines behind the first, or else that of the first
+abbrev pub last_schedule : {W : Type 0} → List (Line W) → Option Assignment
+last_schedule [] = None
+last_schedule (l ∷ ls) = option_or (last_schedule ls) (schedule_in l)

@@ -1,0 +1,67 @@
+ghost use Rattle.std.specs.Prelude.{◌≡◌, true, Some};
+ghost use Rattle.schedtool.specs.Command.Command.{Solve};
+ghost use Rattle.schedtool.specs.Ended.{is_success};
+ghost use Rattle.schedtool.specs.Runs.{RunPromise, ending_of};
+ghost use Rattle.schedtool.specs.Tries.{Searches, TriesSolve};
+
+use crate::answer::answer_bytes;
+use crate::ended::Ended;
+use crate::load::load;
+use crate::report::end_stopped;
+use crate::stop::Stop;
+use sched_base::{Desk, Port};
+use sched_model::{Answer, Model, Solved};
+use solver::solve;
+use std::alloc::Global;
+
+/// How many nodes a search may open.
+const NODES: u64 = 100_000;
+
+fn ending(answer: &Answer) -> Ended
+    ensures is { result ≡ ending_of answer.now }
+    ensures success { is_success result ≡ true }
+{
+    match answer {
+        Answer::Optimal(_, _) => Ended::Done,
+        Answer::Feasible(_) => Ended::Done,
+        Answer::Infeasible => Ended::Infeasible,
+        Answer::Unfinished(_) => Ended::Unfinished,
+    }
+}
+
+/// Solves the model, and writes the log of the search to a new file.
+fn search_logged<D: Desk>(
+    alloc: Global,
+    desk: &mut D,
+    model: &Model,
+    log: &str,
+) -> Result<Solved, Stop>
+    ensures { Searches model.now result (D.state desk.old) (D.state desk.new) }
+{
+    desk.create_log(log)?;
+    let solved = solve(alloc, model, NODES, desk)?;
+    Ok(solved)
+}
+
+/// Solves the model that a file holds with a log of the search, and then prints the answer.
+fn solve_file<D: Desk>(alloc: Global, desk: &mut D, name: &str, log: &str) -> Result<Ended, Stop>
+    ensures { TriesSolve name.now result (D.state desk.old) (D.state desk.new) }
+{
+    let model = load(alloc, desk, name)?;
+    let solved = search_logged(alloc, desk, &model, log)?;
+    let text = answer_bytes(alloc, &model, &solved)?;
+    match desk.write(Port::Out, text.as_slice()) {
+        Ok(()) => Ok(ending(&solved.answer)),
+        Err(_) => Err(Stop::Fault),
+    }
+}
+
+/// Carries out `solve`.
+pub fn run_solve<D: Desk>(alloc: Global, desk: &mut D, model: &str, log: &str) -> Ended
+    ensures { RunPromise (Some (Solve model.now log.now)) result (D.state desk.old) (D.state desk.new) }
+{
+    match solve_file(alloc, desk, model, log) {
+        Ok(ended) => ended,
+        Err(stop) => end_stopped(alloc, desk, stop),
+    }
+}
