@@ -2,17 +2,16 @@
 use Rattle.std.proofs.Common.{ℕ, ◌+◌, ◌-◌, ◌<◌, ◌≤◌, ◌≤ℤ◌, List, length, sym, subst, inl, inr, arith}
 use Rattle.std.proofs.lemmas.Bool.{cases_eq}
 use Rattle.std.proofs.lemmas.Int.{ints}
-use Rattle.thetatree.specs.declared.leaves.TheConstants.{MAX_TASKS}
 use Rattle.thetatree.specs.declared.leaves.Task.{Task}
 use Rattle.thetatree.specs.Leaves.{task_in, IsSmallTask, AreTasks}
 
 -- what is known once the tasks before i were tried
 pub record Tried (ts : List Task) (i : ℕ) : Type 0 where
-  pub few : length ts ≤ MAX_TASKS
+  pub few : length ts ≤ 500
   pub small : (k : ℕ) → k < i → IsSmallTask (task_in ts k)
   pub in_order : (j k : ℕ) → j ≤ k → k < i → (task_in ts j).est ≤ℤ (task_in ts k).est
 
-pub tried_none : (ts : List Task) → length ts ≤ MAX_TASKS → Tried ts 0
+pub tried_none : (ts : List Task) → length ts ≤ 500 → Tried ts 0
 tried_none ts few = record {
   few = few;
   small = λ k none. absurd (omega (arith, none));

@@ -3,7 +3,6 @@ use Rattle.std.specs.Prelude.{◌≡◌, ◌≢◌, ◌⊎◌, ℕ, ◌<◌, ◌
 use Rattle.std.specs.List.{list_any}
 use Rattle.std.specs.Int.{int_min}
 use Rattle.sched_base.specs.declared.ids.TheConstants.{H}
-use Rattle.thetatree.specs.declared.leaves.TheConstants.{MAX_TASKS}
 use Rattle.thetatree.specs.declared.leaves.Task.{Task}
 use Rattle.thetatree.specs.declared.leaves.Colour.{Colour}
 use Rattle.thetatree.specs.declared.leaves.Colour.TheVariants.{Out, White, Gray}
@@ -30,9 +29,9 @@ pub record IsSmallTask (a : Task) : Type 0 where
   pub p_from : pos 0 ≤ℤ a.p
   pub p_to : a.p ≤ℤ (H +ℤ H)
 
--- the tasks that a tree takes: few and small, in the order of their earliest starts
+-- the tasks that a tree takes: at most 500, small, and in the order of their earliest starts
 pub record AreTasks (ts : List Task) : Type 0 where
-  pub few : length ts ≤ MAX_TASKS
+  pub few : length ts ≤ 500
   pub small : (k : ℕ) → k < length ts → IsSmallTask (task_in ts k)
   pub in_order : (j k : ℕ) → j ≤ k → k < length ts → (task_in ts j).est ≤ℤ (task_in ts k).est
 
