@@ -5,6 +5,9 @@
 mod entry;
 mod laws;
 mod reader;
+mod solution;
+mod step;
+mod value;
 mod writer;
 
 pub use entry::{Entry, EntryFault};

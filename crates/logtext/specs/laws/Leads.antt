@@ -1,8 +1,9 @@
 -- Where lists of spelled values end.
-use Rattle.std.specs.Prelude.{◌≡◌, ℕ, ◌+◌, ◌*◌, Bool, true, false, List, [], ◌∷◌, ◌++◌, length}
+use Rattle.std.specs.Prelude.{◌≡◌, ℕ, ◌+◌, ◌*◌, ◌<◌, Bool, true, false, List, [], ◌∷◌, ◌++◌, length}
 use Rattle.std.proofs.Common.{refl, ap, sym, ◌∙◌, append_assoc, arith}
 use Rattle.std.specs.List.{list_all, flat_map}
 use Rattle.textline.specs.Lines.{Bytes}
+use Rattle.logtext.specs.Reads.{NoneStands}
 use Rattle.textline.specs.laws.Lines.{both_true}
 
 -- a reading that tells values in front of words from each other
@@ -35,6 +36,17 @@ counted_told f fit tells (a ∷ us) (b ∷ vs) x y ha hb same e =
     let hb' = both_true (fit b) (list_all fit vs) hb in
     let first = tells a b (flat_map f us ++ x) (flat_map f vs ++ y) ha'.0 hb'.0 (sym (append_assoc (f a) (flat_map f us) x) ∙ e ∙ append_assoc (f b) (flat_map f vs) y) in
     let rest = counted_told f fit tells us vs x y ha'.1 hb'.1 (omega (arith, same)) first.1 in (both a b us vs first.0 rest.0, rest.1)
+
+-- no value stands behind fewer than there are
+pub counted_more : {A : Type 0} → (f : A → List Bytes) (fit : A → Bool) → Tells f fit → (us vs : List A) (words x : List Bytes) → list_all fit us ≡ true → list_all fit vs ≡ true → length us < length vs → NoneStands f fit words → flat_map f us ++ words ≡ flat_map f vs ++ x → ⊥
+counted_more f fit tells [] [] words x ha hb less none e = absurd (omega (arith, less))
+counted_more f fit tells [] (b ∷ vs) words x ha hb less none e = none b (flat_map f vs ++ x) (both_true (fit b) (list_all fit vs) hb).0 (e ∙ append_assoc (f b) (flat_map f vs) x)
+counted_more f fit tells (a ∷ us) [] words x ha hb less none e = absurd (omega (arith, less))
+counted_more f fit tells (a ∷ us) (b ∷ vs) words x ha hb less none e =
+    let ha' = both_true (fit a) (list_all fit us) ha in
+    let hb' = both_true (fit b) (list_all fit vs) hb in
+    let first = tells a b (flat_map f us ++ words) (flat_map f vs ++ x) ha'.0 hb'.0 (sym (append_assoc (f a) (flat_map f us) words) ∙ e ∙ append_assoc (f b) (flat_map f vs) x) in
+    counted_more f fit tells us vs words x ha'.1 hb'.1 (omega (arith, less)) none first.1
 
 -- values up to the first word that begins none
 pub open_told : {A : Type 0} → (f : A → List Bytes) (fit : A → Bool) (begins : ℕ → Bool) → Tells f fit → ((a : A) (x : List Bytes) → begins (lead (f a ++ x)) ≡ true) → (us vs : List A) (x y : List Bytes) → list_all fit us ≡ true → list_all fit vs ≡ true → begins (lead x) ≡ false → begins (lead y) ≡ false → flat_map f us ++ x ≡ flat_map f vs ++ y → (us ≡ vs) × (x ≡ y)

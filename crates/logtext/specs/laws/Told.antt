@@ -65,10 +65,10 @@ slot_told (slot.Present s f) (slot.Present t g) ws vs hx hy e =
     let finish = moment_told f g h.1 k.1 (cc) in (cc, cc)
 slot_told _ _ ws vs hx hy e = absurd (omega (arith, ap tag e))
 
-member_told : Tells (λ x. member_word x ∷ []) is_id
+pub member_told : Tells (λ x. member_word x ∷ []) is_id
 member_told x y ws vs hx hy e = (id_told x y hx hy (cc), cc)
 
-number_told : Tells (λ z. signed_decimal z ∷ []) is_small
+pub number_told : Tells (λ z. signed_decimal z ∷ []) is_small
 number_told x y ws vs hx hy e = (moment_told x y hx hy (cc), cc)
 
 abbrev made_segment : ℤ → ℤ → ℤ → Segment

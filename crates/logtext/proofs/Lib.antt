@@ -1,0 +1,4 @@
+pub mod Values
+pub mod Guesses
+pub mod Fails
+pub mod Witnesses
