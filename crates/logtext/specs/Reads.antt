@@ -92,3 +92,10 @@ counted_ids xs = decimal (length xs) ∷ map member_word xs
 
 abbrev pub counted_segments : List Segment → List Bytes
 counted_segments ss = decimal (length ss) ∷ flat_map segment_words ss
+
+-- the next value was read, or none goes on
+abbrev pub ReadsNext : {A : Type 0} → (A → List Bytes) → (A → Bool) → (List Bytes → Type 0) → List Bytes → List Bytes → Result (Option A) EntryFault → Type 0
+ReadsNext spelled fit GoesOn old new (Ok (Some v)) = IsTrue (fit v) × (old ≡ spelled v ++ new)
+ReadsNext spelled fit GoesOn old new (Ok None) = (new ≡ old) × (GoesOn old → ⊥)
+ReadsNext spelled fit GoesOn old new (Err Bad) = GoesOn old × NoneStands spelled fit old
+ReadsNext spelled fit GoesOn old new (Err NoMemory) = ⊤

@@ -4,6 +4,7 @@
 
 mod entry;
 mod laws;
+mod line;
 mod reader;
 mod solution;
 mod step;
