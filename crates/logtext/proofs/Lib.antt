@@ -5,3 +5,4 @@ pub mod Witnesses
 pub mod Rows
 pub mod Assignments
 pub mod Lines
+pub mod Texts

@@ -1,5 +1,5 @@
 -- What stands in front of words.
-use Rattle.std.specs.Prelude.{◌≡◌, ℕ, ◌==◌, ◌&&◌, ℤ, Bool, List, [], ◌∷◌, ◌++◌, ◌⊎◌, length, map, codes, Option, Some, None, Result, Ok, Err, IsTrue, ⊤}
+use Rattle.std.specs.Prelude.{◌≡◌, ℕ, ◌==◌, ◌&&◌, ℤ, Bool, List, [], ◌∷◌, ◌++◌, ◌⊎◌, ◌<◌, not, length, take, slice_index, map, codes, Option, Some, None, Result, Ok, Err, IsTrue, ⊤}
 use Rattle.std.specs.Fmt.{decimal, signed_decimal}
 use Rattle.std.specs.List.{list_all, flat_map}
 use Rattle.sched_base.specs.declared.ids.Itv.{Itv}
@@ -99,3 +99,8 @@ ReadsNext spelled fit GoesOn old new (Ok (Some v)) = IsTrue (fit v) × (old ≡ 
 ReadsNext spelled fit GoesOn old new (Ok None) = (new ≡ old) × (GoesOn old → ⊥)
 ReadsNext spelled fit GoesOn old new (Err Bad) = GoesOn old × NoneStands spelled fit old
 ReadsNext spelled fit GoesOn old new (Err NoMemory) = ⊤
+
+-- the place of the first line feed
+abbrev pub FindsFeed : Bytes → Option ℕ → Type 0
+FindsFeed bytes (Some k) = (k < length bytes) × (slice_index bytes k ≡ 10) × IsTrue (list_all (λ b. not (b == 10)) (take k bytes))
+FindsFeed bytes None = IsTrue (list_all (λ b. not (b == 10)) bytes)
