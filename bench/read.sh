@@ -1,6 +1,6 @@
 #!/usr/bin/env bash
 # Prints the time and the peak memory of reading large model texts, beside those of the empty one.
-# It wants a built program: (cd crates/schedtool && rt run -- solve ../../examples/two_in_a_row.cpo)
+# It wants a built program: (cd crates/schedtool && rt run -- solve ../../examples/two_in_a_row.cpo two_in_a_row.log)
 set -eu
 top=$(cd "$(dirname "$0")/.." && pwd)
 tool="$top/crates/schedtool/out/schedtool"
@@ -46,7 +46,7 @@ for name in empty spaces brackets semicolons statements names digits; do
 import os, resource, subprocess, sys, time
 tool, path, name = sys.argv[1:]
 begin = time.time()
-ran = subprocess.run([tool, "solve", path], stdout=subprocess.PIPE, stderr=subprocess.PIPE)
+ran = subprocess.run([tool, "solve", path, path + ".log"], stdout=subprocess.PIPE, stderr=subprocess.PIPE)
 seconds = time.time() - begin
 peak = resource.getrusage(resource.RUSAGE_CHILDREN).ru_maxrss
 said = (ran.stdout + ran.stderr).decode().split("\n")[0]
