@@ -1,6 +1,6 @@
 #!/usr/bin/env bash
 # Prints how long it takes to solve a model that opens 99,999 nodes, how large its log is, and how long it takes to
-# check it. It wants a built program: (cd crates/schedtool && rt run -- solve ../../examples/two_in_a_row.cpo)
+# check it. It wants a built program: (cd crates/schedtool && rt run -- solve ../../examples/two_in_a_row.cpo two_in_a_row.log)
 # Each time is the best of five runs.
 set -eu
 top=$(cd "$(dirname "$0")/.." && pwd)
