@@ -16,15 +16,9 @@ use Rattle.textline.specs.Lines.{Bytes}
 use Rattle.textline.specs.laws.Lines.{both_true, true_both}
 use Rattle.logtext.specs.Spelling.{witness_words}
 use Rattle.logtext.specs.Reads.{NoneStands, Reads, Takes, are_so_many, count_words, moment_words, number_words, leaf_words, extra_words}
-use Rattle.logtext.specs.laws.Leads.{tag}
+use Rattle.logtext.specs.laws.Leads.{tag, behind, head_is}
 use Rattle.logtext.specs.laws.Told.{count_told, numbers_told}
 use Rattle.logtext.specs.laws.Entries.{AreTold, all_small, few_is_count}
-
-behind : (v w : Bytes) (x y : List Bytes) → v ∷ x ≡ w ∷ y → x ≡ y
-behind v w x y e = cc
-
-head_is : (v w : Bytes) (x y : List Bytes) → v ∷ x ≡ w ∷ y → v ≡ w
-head_is v w x y e = cc
 
 pub no_count : {W : Type 0} (numbers : W → List ℤ) (valid : W → Bool) → AreTold numbers valid → (old : List Bytes) → NoneStands count_words is_count old → NoneStands (extra_words numbers) valid old
 no_count numbers valid laws old none v rest fit e = none (length (numbers v)) (map signed_decimal (numbers v) ++ rest) (few_is_count (length (numbers v)) (laws.few v fit)) e

@@ -17,6 +17,12 @@ tag ([] ∷ ws) = 0
 tag ((a ∷ []) ∷ ws) = a
 tag ((a ∷ b ∷ w) ∷ ws) = a * 256 + b
 
+pub behind : (v w : Bytes) (x y : List Bytes) → v ∷ x ≡ w ∷ y → x ≡ y
+behind v w x y e = cc
+
+pub head_is : (v w : Bytes) (x y : List Bytes) → v ∷ x ≡ w ∷ y → v ≡ w
+head_is v w x y e = cc
+
 both : {A : Type 0} → (a b : A) (us vs : List A) → a ≡ b → us ≡ vs → a ∷ us ≡ b ∷ vs
 both a b us vs e f = cc
 
