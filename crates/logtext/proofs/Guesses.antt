@@ -1,13 +1,11 @@
 -- Words that begin as a guess and are none.
-use Rattle.std.proofs.Common.{◌≡◌, ℕ, ℤ, true, List, [], ◌∷◌, ◌++◌, sym, ◌∙◌, ap, subst, arith}
+use Rattle.std.proofs.Common.{◌≡◌, List, ◌∷◌, sym, ◌∙◌, ap, arith}
 use Rattle.std.specs.Prelude.{codes}
-use Rattle.sched_base.specs.declared.ids.Itv.{Itv}
-use Rattle.region.specs.declared.types.Guess.{Guess}
-use Rattle.region.specs.declared.types.Guess.TheVariants.{Present, Absent, StartLe, StartGe, EndLe, EndGe}
-use Rattle.kernel.specs.Fit.{is_id, is_fit_guess}
+use Rattle.region.specs.declared.types.Guess.TheVariants.{StartLe, StartGe, EndLe, EndGe}
+use Rattle.kernel.specs.Fit.{is_fit_guess}
 use Rattle.textline.specs.Lines.{Bytes}
 use Rattle.logtext.specs.Spelling.{guess_words}
-use Rattle.logtext.specs.Reads.{NoneStands, id_words, bound_words, is_fit_bound}
+use Rattle.logtext.specs.Reads.{NoneStands, bound_words, is_fit_bound}
 use Rattle.logtext.specs.laws.Leads.{tag, behind}
 
 pub no_start_le : (old ws : List Bytes) → old ≡ codes "SL" ∷ ws → NoneStands bound_words is_fit_bound ws → NoneStands guess_words is_fit_guess old

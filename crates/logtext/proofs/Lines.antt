@@ -1,25 +1,21 @@
 -- Words that begin as a line and are none.
-use Rattle.std.proofs.Common.{◌≡◌, Bool, true, IsTrue, ℤ, List, [], ◌∷◌, ◌++◌, ◌&&◌, sym, ◌∙◌, ap, subst, refl, Err, arith}
+use Rattle.std.proofs.Common.{◌≡◌, Bool, true, IsTrue, ℤ, List, [], ◌∷◌, ◌++◌, sym, ◌∙◌, ap, Err, arith}
 use Rattle.std.specs.Prelude.{codes}
 use Rattle.std.proofs.lemmas.List.{append-nil}
-use Rattle.sched_model.specs.declared.types.Assignment.{Assignment}
 use Rattle.region.specs.declared.types.Guess.{Guess}
 use Rattle.kernel.specs.declared.types.Witness.{Witness}
 use Rattle.kernel.specs.declared.types.Line.{Line}
-use Rattle.kernel.specs.declared.types.Line.TheVariants.{Derive, Fail, Split, Sol}
-use Rattle.kernel.specs.Fit.{is_fit, is_fit_guess, is_fit_witness, is_fit_assignment}
+use Rattle.kernel.specs.declared.types.Line.TheVariants.{Derive, Fail, Split}
+use Rattle.kernel.specs.Fit.{is_fit, is_fit_guess, is_fit_witness}
 use Rattle.textline.specs.Lines.{Bytes}
 use Rattle.textline.specs.laws.Lines.{both_true}
-use Rattle.logtext.specs.declared.entry.Entry.{Entry}
-use Rattle.logtext.specs.declared.entry.Entry.TheVariants.{Head, Step, Finish}
 use Rattle.logtext.specs.declared.entry.EntryFault.{EntryFault}
 use Rattle.logtext.specs.declared.entry.EntryFault.TheVariants.{Bad, NoMemory}
-use Rattle.logtext.specs.Spelling.{guess_words, witness_words, assignment_words, line_words}
-use Rattle.logtext.specs.Entries.{entry_words, is_fit_entry}
+use Rattle.logtext.specs.Spelling.{guess_words, witness_words, line_words}
 use Rattle.logtext.specs.Reads.{NoneStands, Reads, ReadsWhole}
 use Rattle.logtext.specs.laws.Leads.{tag, behind}
 use Rattle.logtext.specs.laws.Told.{guess_told}
-use Rattle.logtext.specs.laws.Entries.{AreTold, witness_told, letter}
+use Rattle.logtext.specs.laws.Entries.{AreTold, witness_told}
 
 abbrev pub NoneWhole : {A : Type 0} → (A → List Bytes) → (A → Bool) → List Bytes → Type 0
 NoneWhole {A} spelled fit words = (v : A) → IsTrue (fit v) → words ≡ spelled v → ⊥

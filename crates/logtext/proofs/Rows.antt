@@ -1,22 +1,17 @@
 -- Lists with a count in front, and lists that go on.
-use Rattle.std.proofs.Common.{◌≡◌, ◌⊎◌, inl, inr, ℕ, ◌+◌, ◌<◌, ◌≤◌, Bool, true, false, IsTrue, List, [], ◌∷◌, ◌++◌, ◌&&◌, ◌==◌, length, map, sym, ◌∙◌, ap, subst, refl, arith, Result, Ok, Err, Option, Some, None, append_assoc, length-append}
-use Rattle.std.specs.Prelude.{codes}
-use Rattle.std.specs.Fmt.{decimal, signed_decimal}
+use Rattle.std.proofs.Common.{◌≡◌, ℕ, Bool, true, List, ◌∷◌, ◌++◌, ◌&&◌, ◌==◌, length, sym, ◌∙◌, ap, Result, Ok, Err}
+use Rattle.std.specs.Fmt.{decimal}
 use Rattle.std.specs.List.{list_all, flat_map}
-use Rattle.std.proofs.lemmas.List.{append-nil}
 use Rattle.std.proofs.lemmas.List.Concat.{flat_map_single}
 use Rattle.sched_base.specs.declared.ids.Itv.{Itv}
 use Rattle.sched_model.specs.declared.types.Segment.{Segment}
-use Rattle.sched_model.specs.declared.types.Slot.{Slot}
-use Rattle.sched_model.specs.declared.types.Slot.TheVariants as slot
-use Rattle.kernel.specs.Fit.{is_count, is_id, is_fit_segment, is_fit_order, are_fit_segments, is_fit_slot}
+use Rattle.kernel.specs.Fit.{is_count, is_id, is_fit_segment, is_fit_order, are_fit_segments}
 use Rattle.textline.specs.Lines.{Bytes}
-use Rattle.textline.specs.Words.{TakesThis}
 use Rattle.textline.specs.laws.Lines.{both_true, true_both}
 use Rattle.logtext.specs.declared.entry.EntryFault.{EntryFault}
 use Rattle.logtext.specs.declared.entry.EntryFault.TheVariants.{Bad, NoMemory}
-use Rattle.logtext.specs.Spelling.{slot_words, order_words, segment_words, segments_words, member_word}
-use Rattle.logtext.specs.Reads.{NoneStands, Reads, ReadsRow, ReadsNext, BeginsWith, BeginsSlot, are_so_many, count_words, id_words, ids_words, rows_words, counted_ids, counted_segments}
+use Rattle.logtext.specs.Spelling.{segment_words, member_word}
+use Rattle.logtext.specs.Reads.{Reads, ReadsRow, ReadsNext, are_so_many, id_words, ids_words, rows_words, counted_ids, counted_segments}
 use Rattle.logtext.specs.laws.Leads.{Tells, open_stuck, behind, head_is}
 use Rattle.logtext.specs.laws.Told.{count_told}
 use Rattle.logtext.proofs.Values.{same_length, length_same}

@@ -1,6 +1,6 @@
 -- Where lists of spelled values end.
-use Rattle.std.specs.Prelude.{◌≡◌, ℕ, ◌+◌, ◌*◌, ◌<◌, Bool, true, false, List, [], ◌∷◌, ◌++◌, length}
-use Rattle.std.proofs.Common.{refl, ap, sym, ◌∙◌, append_assoc, arith, subst}
+use Rattle.std.specs.Prelude.{◌≡◌, ℕ, ◌+◌, ◌*◌, ◌<◌, Bool, true, List, [], ◌∷◌, ◌++◌, length}
+use Rattle.std.proofs.Common.{refl, sym, ◌∙◌, append_assoc, arith, subst}
 use Rattle.std.specs.List.{list_all, flat_map}
 use Rattle.textline.specs.Lines.{Bytes}
 use Rattle.logtext.specs.Reads.{NoneStands}
