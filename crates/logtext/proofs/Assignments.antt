@@ -1,5 +1,5 @@
 -- Words that are no assignment.
-use Rattle.std.proofs.Common.{◌≡◌, Bool, true, IsTrue, List, [], ◌∷◌, ◌++◌, ◌&&◌, sym, ◌∙◌, ap, subst, refl, Err}
+use Rattle.std.proofs.Common.{◌≡◌, true, IsTrue, List, [], ◌++◌, sym, ◌∙◌, Err}
 use Rattle.std.specs.Prelude.{codes}
 use Rattle.std.specs.List.{list_all, flat_map}
 use Rattle.std.proofs.lemmas.List.{append-nil}
@@ -9,7 +9,6 @@ use Rattle.sched_model.specs.declared.types.Segment.{Segment}
 use Rattle.sched_model.specs.declared.types.Slot.{Slot}
 use Rattle.kernel.specs.Fit.{is_fit_slot, is_fit_order, are_fit_segments, is_fit_assignment}
 use Rattle.textline.specs.Lines.{Bytes}
-use Rattle.textline.specs.laws.Lines.{true_both}
 use Rattle.logtext.specs.declared.entry.EntryFault.{EntryFault}
 use Rattle.logtext.specs.declared.entry.EntryFault.TheVariants.{Bad, NoMemory}
 use Rattle.logtext.specs.Spelling.{slot_words, order_words, segments_words, assignment_words}

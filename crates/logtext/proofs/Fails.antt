@@ -1,5 +1,5 @@
 -- A fault that is handed on.
-use Rattle.std.proofs.Common.{Bool, List, Err, IsTrue, ◌≡◌, Result}
+use Rattle.std.proofs.Common.{Bool, List, Err}
 use Rattle.textline.specs.Lines.{Bytes}
 use Rattle.logtext.specs.declared.entry.EntryFault.{EntryFault}
 use Rattle.logtext.specs.declared.entry.EntryFault.TheVariants.{Bad, NoMemory}

@@ -1,31 +1,20 @@
 -- Lists with a count in front, and lists that go on.
-use Rattle.std.proofs.Common.{◌≡◌, ◌⊎◌, inl, inr, ℕ, ◌+◌, ◌<◌, ◌≤◌, Bool, true, false, IsTrue, List, [], ◌∷◌, ◌++◌, ◌&&◌, ◌==◌, length, map, sym, ◌∙◌, ap, subst, refl, arith, Result, Ok, Err, Option, Some, None, append_assoc, length-append}
-use Rattle.std.specs.Prelude.{codes}
-use Rattle.std.specs.Fmt.{decimal, signed_decimal}
+use Rattle.std.proofs.Common.{◌≡◌, ℕ, Bool, true, List, ◌∷◌, ◌++◌, ◌&&◌, ◌==◌, length, sym, ◌∙◌, ap, Result, Ok, Err}
+use Rattle.std.specs.Fmt.{decimal}
 use Rattle.std.specs.List.{list_all, flat_map}
-use Rattle.std.proofs.lemmas.List.{append-nil}
 use Rattle.std.proofs.lemmas.List.Concat.{flat_map_single}
 use Rattle.sched_base.specs.declared.ids.Itv.{Itv}
 use Rattle.sched_model.specs.declared.types.Segment.{Segment}
-use Rattle.sched_model.specs.declared.types.Slot.{Slot}
-use Rattle.sched_model.specs.declared.types.Slot.TheVariants as slot
-use Rattle.kernel.specs.Fit.{is_count, is_id, is_fit_segment, is_fit_order, are_fit_segments, is_fit_slot}
+use Rattle.kernel.specs.Fit.{is_count, is_id, is_fit_segment, is_fit_order, are_fit_segments}
 use Rattle.textline.specs.Lines.{Bytes}
-use Rattle.textline.specs.Words.{TakesThis}
 use Rattle.textline.specs.laws.Lines.{both_true, true_both}
 use Rattle.logtext.specs.declared.entry.EntryFault.{EntryFault}
 use Rattle.logtext.specs.declared.entry.EntryFault.TheVariants.{Bad, NoMemory}
-use Rattle.logtext.specs.Spelling.{slot_words, order_words, segment_words, segments_words, member_word}
-use Rattle.logtext.specs.Reads.{NoneStands, Reads, ReadsRow, ReadsNext, BeginsWith, BeginsSlot, are_so_many, count_words, id_words, ids_words, rows_words, counted_ids, counted_segments}
-use Rattle.logtext.specs.laws.Leads.{Tells, open_stuck}
+use Rattle.logtext.specs.Spelling.{segment_words, member_word}
+use Rattle.logtext.specs.Reads.{Reads, ReadsRow, ReadsNext, are_so_many, id_words, ids_words, rows_words, counted_ids, counted_segments}
+use Rattle.logtext.specs.laws.Leads.{Tells, open_stuck, behind, head_is}
 use Rattle.logtext.specs.laws.Told.{count_told}
 use Rattle.logtext.proofs.Values.{same_length, length_same}
-
-behind : (v w : Bytes) (x y : List Bytes) → v ∷ x ≡ w ∷ y → x ≡ y
-behind v w x y e = cc
-
-head_is : (v w : Bytes) (x y : List Bytes) → v ∷ x ≡ w ∷ y → v ≡ w
-head_is v w x y e = cc
 
 abbrev counted : {A : Type 0} → (A → List Bytes) → List A → List Bytes
 counted f vs = decimal (length vs) ∷ flat_map f vs
@@ -57,19 +46,6 @@ order_read old ws new n r count is reads =
 
 pub function_read : (old ws new : List Bytes) (n : ℕ) (r : Result (List Segment) EntryFault) → is_count n ≡ true → old ≡ decimal n ∷ ws → Reads rows_words (are_so_many n is_fit_segment) ws new r → Reads counted_segments are_fit_segments old new r
 function_read old ws new n r count is reads = counted_reads segment_words is_fit_segment old ws new n r count is reads
-
--- behind a letter
-pub next_fails : {A : Type 0} (w : Bytes) (f g : A → List Bytes) (fit : A → Bool) (old ws after new : List Bytes) (r : EntryFault) → old ≡ w ∷ ws → ((v : A) → g v ≡ w ∷ f v) → Reads f fit ws after (Err r) → ReadsNext g fit (BeginsWith w) old new (Err r)
-next_fails w f g fit old ws after new Bad is same none = ((ws, is), λ v rest ok e. none v rest ok (behind _ _ _ _ (sym is ∙ e ∙ ap (λ vs. vs ++ rest) (same v))))
-next_fails w f g fit old ws after new NoMemory is same none = tt
-
--- words were taken
-pub shorter : (old front new : List Bytes) → old ≡ front ++ new → 0 < length front → length new < length old
-shorter old front new is some = omega (arith, some, ap length is, length-append front new)
-
-pub some_slot : (s : Slot) → 0 < length (slot_words s)
-some_slot slot.Absent = omega arith
-some_slot (slot.Present s e) = omega arith
 
 -- a row that comes to a fault
 pub row_fails : {A : Type 0} (f : A → List Bytes) (fit : A → Bool) (GoesOn : List Bytes → Type 0) → Tells f fit → ((a : A) (x : List Bytes) → GoesOn (f a ++ x)) → (us : List A) (old words after new : List Bytes) (r : EntryFault) → list_all fit us ≡ true → old ≡ flat_map f us ++ words

@@ -1,5 +1,5 @@
 -- The text of a line.
-use Rattle.std.proofs.Common.{◌≡◌, ℕ, zero, suc, ◌+◌, ◌-◌, ◌<◌, ◌≤◌, ℤ, Bool, true, false, not, IsTrue, List, [], ◌∷◌, ◌++◌, ◌&&◌, ◌==◌, length, take, drop, get_or, sym, ◌∙◌, ap, subst, refl, arith, Option, Some, None, Result, Ok, Err, length-drop}
+use Rattle.std.proofs.Common.{◌≡◌, ℕ, zero, suc, ◌+◌, ◌-◌, ◌<◌, ◌≤◌, ℤ, Bool, true, false, not, IsTrue, List, [], ◌∷◌, ◌++◌, ◌==◌, length, take, drop, get_or, sym, ◌∙◌, ap, subst, refl, arith, Option, Some, None, Err}
 use Rattle.std.specs.List.{list_all}
 use Rattle.std.proofs.lemmas.Bool.Decides.{nat_tests}
 use Rattle.memchr.specs.Find.{IsFirstByte, is_byte}
@@ -71,10 +71,13 @@ pub open_front : (rest : Bytes) → list_all no_feed (take line_limit rest) ≡ 
 open_front rest none short = record { open_line = ap (list_all no_feed) (sym (take_whole rest line_limit (omega (arith, short)))) ∙ none; short = short }
 
 pub long_front : {W : Type 0} (numbers : W → List ℤ) (valid : W → Bool) (rest : Bytes) → list_all no_feed (take line_limit rest) ≡ true → line_limit ≤ length rest → (HasNoWholeLine rest → ⊥) × BeginsWithNone numbers valid rest
-long_front numbers valid rest none long = (λ open_text. absurd (omega (arith, long, open_text.short)), λ e n within spells.
-    let short : n ≤ line_limit = omega (arith, spells.short, take_length rest n within) in
-    let plain = front_none rest n line_limit short none in
-    let feed = ap (list_all no_feed) spells.text_is ∙ text_has_feed numbers e in cc)
+long_front numbers valid rest none long = (
+  λ open_text. absurd (omega (arith, long, open_text.short)),
+  λ e n within spells.
+      let short : n ≤ line_limit = omega (arith, spells.short, take_length rest n within) in
+      let plain = front_none rest n line_limit short none in
+      let feed = ap (list_all no_feed) spells.text_is ∙ text_has_feed numbers e in cc,
+)
 
 -- the line with its feed
 whole_line : (rest : Bytes) (end : ℕ) → end < length rest → get_or rest end 0 ≡ 10 → take (suc end) rest ≡ line (words_of (take end rest))
@@ -95,13 +98,16 @@ feed_at (x ∷ xs) (suc k) h is none = feed_at xs k (omega (arith, h)) is (both_
 
 pub unspelled_front : {W : Type 0} (numbers : W → List ℤ) (valid : W → Bool) → AreTold numbers valid → (rest : Bytes) (end : ℕ) → end < length rest → get_or rest end 0 ≡ 10 → list_all no_feed (take end rest) ≡ true → NoneWhole (entry_words numbers) (is_fit_entry valid) (words_of (take end rest))
     → (HasNoWholeLine rest → ⊥) × BeginsWithNone numbers valid rest
-unspelled_front numbers valid laws rest end within is plain none = (λ open_text. feed_at rest end within is open_text.open_line, λ e n less spells.
-    let spelled = has_words numbers e in
-    let read = first_of (take end rest) in
-    let same : line (spelled.first ∷ spelled.rest) ++ drop n rest ≡ line (read.0 ∷ read.1) ++ drop (suc end) rest =
-          ap (λ t. t ++ drop n rest) (sym (spells.text_is ∙ spelled.text)) ∙ take_and_drop rest n ∙ sym (take_and_drop rest (suc end)) ∙ ap (λ t. t ++ drop (suc end) rest) (whole_line rest end within is ∙ ap line read.2) in
-    let told = line_told spelled.first spelled.rest read.0 read.1 (drop n rest) (drop (suc end) rest) (ap are_words (sym spelled.words) ∙ entry_plain numbers valid laws e spells.fit) (ap are_words (sym read.2) ∙ words_are_words (take end rest) plain) same in
-    none e spells.fit (read.2 ∙ sym told.0 ∙ sym spelled.words))
+unspelled_front numbers valid laws rest end within is plain none = (
+  λ open_text. feed_at rest end within is open_text.open_line,
+  λ e n less spells.
+      let spelled = has_words numbers e in
+      let read = first_of (take end rest) in
+      let same : line (spelled.first ∷ spelled.rest) ++ drop n rest ≡ line (read.0 ∷ read.1) ++ drop (suc end) rest =
+      ap (λ t. t ++ drop n rest) (sym (spells.text_is ∙ spelled.text)) ∙ take_and_drop rest n ∙ sym (take_and_drop rest (suc end)) ∙ ap (λ t. t ++ drop (suc end) rest) (whole_line rest end within is ∙ ap line read.2) in
+      let told = line_told spelled.first spelled.rest read.0 read.1 (drop n rest) (drop (suc end) rest) (ap are_words (sym spelled.words) ∙ entry_plain numbers valid laws e spells.fit) (ap are_words (sym read.2) ∙ words_are_words (take end rest) plain) same in
+      none e spells.fit (read.2 ∙ sym told.0 ∙ sym spelled.words),
+)
 
 -- what stands in a front stands in the whole
 front_at : (xs : Bytes) (n k : ℕ) → k < length (take n xs) → (k < n) × (k < length xs) × (get_or (take n xs) k 0 ≡ get_or xs k 0) × (take k (take n xs) ≡ take k xs)
@@ -141,16 +147,3 @@ line_here numbers valid rest end e feed fit words =
 pub front_fails : {W : Type 0} (numbers : W → List ℤ) (valid : W → Bool) → AreTold numbers valid → (rest : Bytes) (end : ℕ) (words : List Bytes) (r : EntryFault) → HasFeed rest end → words ≡ words_of (take end rest) → ReadsWhole (entry_words numbers) (is_fit_entry valid) words (Err r) → ReadsEntry numbers valid rest 0 (Err r)
 front_fails numbers valid laws rest end words Bad feed same none = unspelled_front numbers valid laws rest end feed.within feed.is feed.plain (λ e fit is. none e fit (same ∙ is))
 front_fails numbers valid laws rest end words NoMemory feed same none = tt
-
--- from the front of what stands behind a place
-pub moved : {W : Type 0} (numbers : W → List ℤ) (valid : W → Bool) (bytes : Bytes) (from to : ℕ) (e : Entry W) → from ≤ length bytes → IsLineAt numbers valid (drop from bytes) 0 to e → IsLineAt numbers valid bytes from (from + to) e
-moved numbers valid bytes from to e inside here =
-    let count : to - 0 ≡ from + to - from = omega arith in record {
-      further = omega (arith, here.further);
-      within = omega (arith, here.within, length-drop from bytes, inside);
-      spells = subst (λ n. Spells numbers valid (take n (drop from bytes)) e) count here.spells;
-    }
-
-pub moved_fault : {W : Type 0} (numbers : W → List ℤ) (valid : W → Bool) (bytes : Bytes) (from : ℕ) (r : EntryFault) → ReadsEntry numbers valid (drop from bytes) 0 (Err r) → ReadsEntry numbers valid bytes from (Err r)
-moved_fault numbers valid bytes from Bad fault = fault
-moved_fault numbers valid bytes from NoMemory fault = tt

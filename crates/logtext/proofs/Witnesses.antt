@@ -1,30 +1,21 @@
 -- Words that begin as a witness and are none.
-use Rattle.std.proofs.Common.{◌≡◌, ℕ, ◌^◌, ◌<◌, ℤ, Bool, true, IsTrue, List, [], ◌∷◌, ◌++◌, ◌&&◌, ◌==◌, length, map, sym, ◌∙◌, ap, subst, refl, arith, Err, Option, Some, None, IfSome, IfNone}
+use Rattle.std.proofs.Common.{◌≡◌, ℕ, ℤ, Bool, true, IsTrue, List, ◌∷◌, ◌++◌, ◌==◌, length, map, sym, ◌∙◌, ap, subst, arith, Option, Some, None, IfSome, IfNone}
 use Rattle.std.specs.Prelude.{codes}
 use Rattle.std.specs.Fmt.{decimal, signed_decimal}
-use Rattle.std.specs.List.{list_all, flat_map}
-use Rattle.std.proofs.lemmas.Bool.Decides.{nat_tests}
+use Rattle.std.specs.List.{list_all}
 use Rattle.std.proofs.lemmas.List.Concat.{flat_map_single}
 use Rattle.sched_model.specs.Valid.{is_small}
-use Rattle.refute_basic.specs.declared.witness.BasicWitness.{BasicWitness}
 use Rattle.refute_basic.specs.declared.witness.BasicWitness.TheVariants.{Leaf}
-use Rattle.kernel.specs.declared.types.Witness.{Witness}
 use Rattle.kernel.specs.declared.types.Witness.TheVariants.{Basic, Extra}
 use Rattle.kernel.specs.Fit.{is_count, is_fit_basic, is_fit_witness}
 use Rattle.logtext.proofs.Values.{same_length, length_same}
 use Rattle.textline.specs.Lines.{Bytes}
 use Rattle.textline.specs.laws.Lines.{both_true, true_both}
 use Rattle.logtext.specs.Spelling.{witness_words}
-use Rattle.logtext.specs.Reads.{NoneStands, Reads, Takes, are_so_many, count_words, moment_words, number_words, leaf_words, extra_words}
-use Rattle.logtext.specs.laws.Leads.{tag}
+use Rattle.logtext.specs.Reads.{NoneStands, are_so_many, count_words, number_words, leaf_words, extra_words}
+use Rattle.logtext.specs.laws.Leads.{tag, behind, head_is}
 use Rattle.logtext.specs.laws.Told.{count_told, numbers_told}
 use Rattle.logtext.specs.laws.Entries.{AreTold, all_small, few_is_count}
-
-behind : (v w : Bytes) (x y : List Bytes) → v ∷ x ≡ w ∷ y → x ≡ y
-behind v w x y e = cc
-
-head_is : (v w : Bytes) (x y : List Bytes) → v ∷ x ≡ w ∷ y → v ≡ w
-head_is v w x y e = cc
 
 pub no_count : {W : Type 0} (numbers : W → List ℤ) (valid : W → Bool) → AreTold numbers valid → (old : List Bytes) → NoneStands count_words is_count old → NoneStands (extra_words numbers) valid old
 no_count numbers valid laws old none v rest fit e = none (length (numbers v)) (map signed_decimal (numbers v) ++ rest) (few_is_count (length (numbers v)) (laws.few v fit)) e

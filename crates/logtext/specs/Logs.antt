@@ -1,5 +1,5 @@
 -- Logs: lines that a log may hold, that step one after another from the opening state of a model.
-use Rattle.std.specs.Prelude.{◌≡◌, ℕ, ℤ, Bool, List, All}
+use Rattle.std.specs.Prelude.{ℤ, Bool, List, All}
 use Rattle.sched_model.specs.Data.{Data}
 use Rattle.kernel.specs.declared.types.Line.{Line}
 use Rattle.kernel.specs.declared.no_extra.NoWitness.{NoWitness}

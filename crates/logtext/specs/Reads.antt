@@ -6,7 +6,7 @@ use Rattle.sched_base.specs.declared.ids.Itv.{Itv}
 use Rattle.sched_model.specs.Valid.{is_small}
 use Rattle.refute_basic.specs.declared.witness.BasicWitness.{BasicWitness}
 use Rattle.refute_basic.specs.declared.witness.BasicWitness.TheVariants.{Leaf}
-use Rattle.kernel.specs.Fit.{is_id, is_count}
+use Rattle.kernel.specs.Fit.{is_id}
 use Rattle.sched_model.specs.declared.types.Segment.{Segment}
 use Rattle.textline.specs.Lines.{Bytes}
 use Rattle.logtext.specs.Spelling.{member_word, segment_words}

@@ -1,13 +1,12 @@
 -- No spelling of a line is the front of another's, and each tells its line.
-use Rattle.std.specs.Prelude.{◌≡◌, ℕ, zero, suc, ◌&&◌, ◌^◌, ◌<◌, ℤ, Bool, true, IsTrue, List, [], ◌∷◌, ◌++◌, length, map, codes, All}
-use Rattle.std.proofs.Common.{refl, ap, sym, ◌∙◌, append_assoc, arith, get_or}
+use Rattle.std.specs.Prelude.{◌≡◌, ℕ, zero, suc, ◌^◌, ◌<◌, ℤ, Bool, true, IsTrue, List, [], ◌∷◌, ◌++◌, length, map, codes}
+use Rattle.std.proofs.Common.{refl, ap, sym, ◌∙◌, arith}
 use Rattle.std.proofs.lemmas.List.{append-nil}
 use Rattle.std.proofs.lemmas.Bool.Decides.{nat_tests}
 use Rattle.std.specs.List.{list_all}
 use Rattle.std.specs.Fmt.{decimal, signed_decimal}
 use Rattle.sched_model.specs.Valid.{is_small}
 use Rattle.region.specs.Spelled.{AreSmall}
-use Rattle.refute_basic.specs.declared.witness.BasicWitness.{BasicWitness}
 use Rattle.refute_basic.specs.declared.witness.BasicWitness.TheVariants.{Leaf}
 use Rattle.kernel.specs.declared.types.Witness.{Witness}
 use Rattle.kernel.specs.declared.types.Witness.TheVariants.{Basic, Extra}
@@ -21,7 +20,7 @@ use Rattle.logtext.specs.declared.entry.Entry.{Entry}
 use Rattle.logtext.specs.declared.entry.Entry.TheVariants.{Head, Step, Finish}
 use Rattle.logtext.specs.Spelling.{guess_words, basic_words, witness_words, assignment_words, line_words}
 use Rattle.logtext.specs.Entries.{entry_text, entry_words, is_fit_entry}
-use Rattle.logtext.specs.laws.Leads.{Tells, tag}
+use Rattle.logtext.specs.laws.Leads.{Tells, tag, behind}
 use Rattle.logtext.specs.laws.Told.{count_told, numbers_told, guess_told, assignment_told}
 use Rattle.logtext.specs.laws.Plain.{count_word, moment_word, first_and, front_and, each_plain, guess_plain, assignment_plain}
 
@@ -52,9 +51,6 @@ witness_told numbers valid laws (Extra a) (Extra b) x y ha hb e =
     let same = numbers_told (numbers a) (numbers b) x y (all_small (numbers a) (laws.small a ha)) (all_small (numbers b) (laws.small b hb)) count (cc) in (ap Extra (laws.apart a b ha hb same.0), same.1)
 witness_told numbers valid laws (Basic (Leaf k u)) (Extra b) x y ha hb e = absurd (omega (arith, ap tag e))
 witness_told numbers valid laws (Extra a) (Basic (Leaf k u)) x y ha hb e = absurd (omega (arith, ap tag e))
-
-behind : (v w : Bytes) (x y : List Bytes) → v ∷ x ≡ w ∷ y → x ≡ y
-behind v w x y e = cc
 
 pub line_words_told : {W : Type 0} → (numbers : W → List ℤ) (valid : W → Bool) → AreTold numbers valid → (a b : Line W) → is_fit valid a ≡ true → is_fit valid b ≡ true → line_words numbers a ≡ line_words numbers b → a ≡ b
 line_words_told numbers valid laws (Derive g v) (Derive h w) ha hb e =

@@ -1,6 +1,6 @@
 -- Where lists of spelled values end.
-use Rattle.std.specs.Prelude.{◌≡◌, ℕ, ◌+◌, ◌*◌, ◌<◌, Bool, true, false, List, [], ◌∷◌, ◌++◌, length}
-use Rattle.std.proofs.Common.{refl, ap, sym, ◌∙◌, append_assoc, arith, subst}
+use Rattle.std.specs.Prelude.{◌≡◌, ℕ, ◌+◌, ◌*◌, ◌<◌, Bool, true, List, [], ◌∷◌, ◌++◌, length}
+use Rattle.std.proofs.Common.{refl, sym, ◌∙◌, append_assoc, arith, subst}
 use Rattle.std.specs.List.{list_all, flat_map}
 use Rattle.textline.specs.Lines.{Bytes}
 use Rattle.logtext.specs.Reads.{NoneStands}
@@ -16,6 +16,12 @@ tag [] = 0
 tag ([] ∷ ws) = 0
 tag ((a ∷ []) ∷ ws) = a
 tag ((a ∷ b ∷ w) ∷ ws) = a * 256 + b
+
+pub behind : (v w : Bytes) (x y : List Bytes) → v ∷ x ≡ w ∷ y → x ≡ y
+behind v w x y e = cc
+
+pub head_is : (v w : Bytes) (x y : List Bytes) → v ∷ x ≡ w ∷ y → v ≡ w
+head_is v w x y e = cc
 
 both : {A : Type 0} → (a b : A) (us vs : List A) → a ≡ b → us ≡ vs → a ∷ us ≡ b ∷ vs
 both a b us vs e f = cc

@@ -1,6 +1,6 @@
 -- Whatever a log spells are words.
-use Rattle.std.specs.Prelude.{◌≡◌, ℕ, ◌&&◌, ◌^◌, ◌<◌, ℤ, Bool, true, List, [], ◌∷◌, ◌++◌, length, map, codes}
-use Rattle.std.proofs.Common.{refl, ap, sym, ◌∙◌, arith}
+use Rattle.std.specs.Prelude.{◌≡◌, ℕ, ◌&&◌, ℤ, Bool, true, List, [], ◌∷◌, ◌++◌, length, map, codes}
+use Rattle.std.proofs.Common.{refl, ◌∙◌, arith}
 use Rattle.std.proofs.lemmas.Bool.Decides.{nat_tests}
 use Rattle.std.proofs.lemmas.List.Folds.{list_all-append}
 use Rattle.std.specs.List.{list_all, flat_map}
