@@ -4,7 +4,11 @@
 
 mod entry;
 mod laws;
+mod line;
 mod reader;
+mod solution;
+mod step;
+mod value;
 mod writer;
 
 pub use entry::{Entry, EntryFault};

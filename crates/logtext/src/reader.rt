@@ -1,19 +1,173 @@
-ghost use Rattle.std.specs.Prelude.{◌≤◌, length};
+ghost use Rattle.std.specs.Prelude.{◌≡◌, ◌≤◌, length, take};
+ghost use Rattle.logtext.specs.Entries.{line_limit};
 ghost use Rattle.logtext.specs.Reading.{ReadsEntry};
+ghost use Rattle.logtext.specs.Reads.{FindsFeed};
 
 use crate::entry::{Entry, EntryFault};
-use region::Refuter;
+use crate::line::read_words;
+use memchr::memchr;
+use region::{Numbers, Refuter};
 use std::alloc::Global;
+use textline::Words;
+
+/// The most bytes of a line, its line feed counted.
+const LINE_LIMIT: usize = 16_777_216;
+
+/// The bytes in which the next line's line feed has to stand.
+fn nearest(rest: &[u8]) -> &[u8]
+    ensures { result.now ≡ take line_limit rest.now }
+{
+    if rest.len() <= LINE_LIMIT {
+        return rest;
+    }
+    let (near, _) = rest.split_at(LINE_LIMIT);
+    near
+}
+
+/// The place of the first line feed.
+fn find_feed(bytes: &[u8]) -> Option<usize>
+    ensures { FindsFeed bytes.now result }
+{
+    memchr(b'\n', bytes)
+}
+
+/// Reads the line at the front of some bytes, and tells how many it has.
+fn read_front<W: Numbers>(
+    alloc: Global,
+    rest: &[u8],
+) -> Result<Option<(Entry<W>, usize)>, EntryFault>
+    ensures { ReadsEntry W.numbers W.is_valid rest.now 0 result }
+{
+    let Some(end) = find_feed(nearest(rest)) else {
+        if rest.len() < LINE_LIMIT {
+            return Ok(None);
+        }
+        return Err(EntryFault::Bad);
+    };
+    let (line, _) = rest.split_at(end);
+    let mut words = Words::of(line);
+    match read_words(alloc, &mut words) {
+        Ok(entry) => Ok(Some((entry, end + 1))),
+        Err(fault) => Err(fault),
+    }
+}
 
 /// Reads the line that begins at `from`, and tells the place behind its line feed. None where the
 /// bytes from there hold no line feed and are not yet too long for a line.
 pub fn read_entry<X: Refuter>(
-    _alloc: Global,
+    alloc: Global,
     bytes: &[u8],
     from: usize,
 ) -> Result<Option<(Entry<X::Witness>, usize)>, EntryFault>
     requires { from ≤ length bytes.now }
     ensures { ReadsEntry X.Witness.numbers X.Witness.is_valid bytes.now from result }
 {
-    Err(EntryFault::NoMemory)
+    let (_, rest) = bytes.split_at(from);
+    match read_front(alloc, rest) {
+        Ok(Some((entry, len))) => Ok(Some((entry, from + len))),
+        Ok(None) => Ok(None),
+        Err(fault) => Err(fault),
+    }
+}
+
+#[cfg(test)]
+mod tests {
+    use super::*;
+    use kernel::Line;
+    use refute_basic::{Basic, BasicWitness};
+    use region::Guess;
+    use sched_base::Itv;
+    use std::test::Fail;
+
+    type Read = Result<Option<(Entry<BasicWitness>, usize)>, EntryFault>;
+
+    fn read(alloc: Global, text: &[u8]) -> Read {
+        read_entry::<Basic>(alloc, text, 0)
+    }
+
+    /// Whether each text is read as one line.
+    fn are_read(alloc: Global, texts: &[&[u8]]) -> bool {
+        for text in texts {
+            match read(alloc, text) {
+                Ok(Some((_, to))) => {
+                    if to != text.len() {
+                        return false;
+                    }
+                }
+                _ => return false,
+            }
+        }
+        true
+    }
+
+    /// Whether each text is refused.
+    fn are_refused(alloc: Global, texts: &[&[u8]]) -> bool {
+        for text in texts {
+            match read(alloc, text) {
+                Err(EntryFault::Bad) => {}
+                _ => return false,
+            }
+        }
+        true
+    }
+
+    fn is_open(alloc: Global, text: &[u8]) -> bool {
+        matches!(read(alloc, text), Ok(None))
+    }
+
+    /// Whether a text splits by this guess.
+    fn splits_by(alloc: Global, text: &[u8], g: Guess) -> bool {
+        match read(alloc, text) {
+            Ok(Some((Entry::Step(Line::Split(h)), _))) => g == h,
+            _ => false,
+        }
+    }
+
+    #[test]
+    fn reads_lines(rt: HostRuntime) -> Result<(), Fail> {
+        let texts: [&[u8]; 8] = [
+            b"schedlog 1\n",
+            b"d P 0 LEAF 1 4294967295\n",
+            b"f EXTRA 3 5 0 7\n",
+            b"s SL 4294967295 -4611686018427387904\n",
+            b"s EG 0 4611686018427387904\n",
+            b"v\n",
+            b"v a p 0 1 o 2 1 0 o 0 g 1 0 4611686018427387904 -1\n",
+            b"end\n",
+        ];
+        assert!(rt; are_read(rt.alloc(), &texts));
+        assert!(rt;
+            splits_by(
+                rt.alloc(),
+                texts[3],
+                Guess::StartLe(Itv(4294967295), -4611686018427387904)
+            )
+        );
+        assert!(rt; is_open(rt.alloc(), b"end"));
+        Ok(())
+    }
+
+    #[test]
+    fn refuses_other_spellings(rt: HostRuntime) -> Result<(), Fail> {
+        let texts: [&[u8]; 16] = [
+            b"\n",
+            b"schedlog 01\n",
+            b"schedlog 2\n",
+            b"end \n",
+            b"end\r\n",
+            b"end of it\n",
+            b"x\n",
+            b"f LEAF 00 0\n",
+            b"f EXTRA 3 5 0\n",
+            b"f EXTRA 4294967295 5\n",
+            b"s P +1\n",
+            b"s  P 1\n",
+            b"s P 1 \n",
+            b"s P 4294967296\n",
+            b"s EL 0 4611686018427387905\n",
+            b"s EL 0 -0\n",
+        ];
+        assert!(rt; are_refused(rt.alloc(), &texts));
+        Ok(())
+    }
 }

@@ -2,7 +2,7 @@ ghost use Rattle.std.specs.Prelude.{◌≡◌, ◌==◌};
 ghost use Rattle.std.specs.Option.{option_copied};
 ghost use Rattle.std.specs.List.{position};
 ghost use Rattle.textline.specs.Lines.{words_of};
-ghost use Rattle.textline.specs.Words.{TakesWord, TakesThis};
+ghost use Rattle.textline.specs.Words.{TakesWord, TakesThis, SaysDone};
 
 use std::marker::Model;
 
@@ -57,6 +57,16 @@ impl<'a> Words<'a> {
         }
     }
 
+    /// Whether no word is left.
+    pub fn is_done(&self) -> bool
+        ensures { SaysDone self.now result }
+    {
+        match self.rest {
+            None => true,
+            Some(_) => false,
+        }
+    }
+
     /// Whether the next word is this one; then it is taken.
     pub fn take(&mut self, word: &[u8]) -> bool
         ensures { TakesThis word.now self.old self.new result }
@@ -69,5 +79,22 @@ impl<'a> Words<'a> {
         }
         self.rest = before;
         false
+    }
+}
+
+#[cfg(test)]
+mod tests {
+    use super::*;
+    use std::test::Fail;
+
+    #[test]
+    fn takes_words(rt: HostRuntime) -> Result<(), Fail> {
+        let mut words = Words::of(b"s  end");
+        assert!(rt; !words.take(b"end"));
+        assert!(rt; words.take(b"s"));
+        assert_eq!(rt; words.next(), Some(b"".as_slice()));
+        assert_eq!(rt; words.next(), Some(b"end".as_slice()));
+        assert!(rt; words.is_done());
+        Ok(())
     }
 }

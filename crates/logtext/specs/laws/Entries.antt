@@ -21,7 +21,7 @@ use Rattle.logtext.specs.declared.entry.Entry.{Entry}
 use Rattle.logtext.specs.declared.entry.Entry.TheVariants.{Head, Step, Finish}
 use Rattle.logtext.specs.Spelling.{guess_words, basic_words, witness_words, assignment_words, line_words}
 use Rattle.logtext.specs.Entries.{entry_text, entry_words, is_fit_entry}
-use Rattle.logtext.specs.laws.Leads.{Tells, tag}
+use Rattle.logtext.specs.laws.Leads.{Tells, tag, behind}
 use Rattle.logtext.specs.laws.Told.{count_told, numbers_told, guess_told, assignment_told}
 use Rattle.logtext.specs.laws.Plain.{count_word, moment_word, first_and, front_and, each_plain, guess_plain, assignment_plain}
 
@@ -53,9 +53,6 @@ witness_told numbers valid laws (Extra a) (Extra b) x y ha hb e =
 witness_told numbers valid laws (Basic (Leaf k u)) (Extra b) x y ha hb e = absurd (omega (arith, ap tag e))
 witness_told numbers valid laws (Extra a) (Basic (Leaf k u)) x y ha hb e = absurd (omega (arith, ap tag e))
 
-behind : (v w : Bytes) (x y : List Bytes) → v ∷ x ≡ w ∷ y → x ≡ y
-behind v w x y e = cc
-
 pub line_words_told : {W : Type 0} → (numbers : W → List ℤ) (valid : W → Bool) → AreTold numbers valid → (a b : Line W) → is_fit valid a ≡ true → is_fit valid b ≡ true → line_words numbers a ≡ line_words numbers b → a ≡ b
 line_words_told numbers valid laws (Derive g v) (Derive h w) ha hb e =
     let fa = both_true (is_fit_guess g) (is_fit_witness valid v) ha in
@@ -71,7 +68,7 @@ line_words_told numbers valid laws (Sol a) (Sol b) ha hb e = ap Sol (assignment_
 line_words_told numbers valid laws _ _ ha hb e = absurd (omega (arith, ap tag e))
 
 -- a line that steps begins with one letter
-letter : {W : Type 0} → (numbers : W → List ℤ) (l : Line W) → tag (line_words numbers l) < 256
+pub letter : {W : Type 0} → (numbers : W → List ℤ) (l : Line W) → tag (line_words numbers l) < 256
 letter numbers (Derive g w) = omega arith
 letter numbers (Fail w) = omega arith
 letter numbers (Split g) = omega arith
