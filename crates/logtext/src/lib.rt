@@ -4,7 +4,11 @@
 
 mod entry;
 mod laws;
+mod line;
 mod reader;
+mod solution;
+mod step;
+mod value;
 mod words;
 mod writer;
 #[cfg(test)]

@@ -1,10 +1,11 @@
 -- The first word of a text.
-use Rattle.std.proofs.Common.{◌≡◌, ℕ, ◌+◌, ◌<◌, ◌≤◌, Bool, true, false, cond, [], ◌∷◌, length, take, drop, Some, None, nat_lt, arith, eqb, refl}
+use Rattle.std.proofs.Common.{◌≡◌, ℕ, ◌+◌, ◌<◌, ◌≤◌, Bool, true, false, cond, [], ◌∷◌, length, take, drop, Some, None, nat_lt, arith, eqb, refl, sym, ◌∙◌}
 use Rattle.std.specs.List.{position, position_or_len}
 use Rattle.std.proofs.lemmas.List.Sums.{fails_before_first}
 use Rattle.std.proofs.lemmas.List.Splits.{slice_split_none, slice_split_first}
 use Rattle.std.proofs.lemmas.Bool.Decides.{nat_tests}
 use Rattle.textline.specs.Lines.{Bytes, words_of}
+use Rattle.textline.specs.laws.Lines.{first_of}
 
 is_past : (p : ℕ → Bool) (xs : Bytes) → position p xs ≡ None → length xs ≤ position_or_len p xs
 is_past p xs none = past (nat_lt (position_or_len p xs) (length xs)) refl none
@@ -25,3 +26,6 @@ one_word xs none = slice_split_none (λ b. eqb b 32) xs (λ k d within. fails_be
 
 pub first_word : (xs : Bytes) (at : ℕ) → position (λ b. eqb b 32) xs ≡ Some at → (at < length xs) × (words_of xs ≡ take at xs ∷ words_of (drop (at + 1) xs))
 first_word xs at some = let there = is_at (λ b. eqb b 32) xs at some in (there.1, rw there.0 (slice_split_first (λ b. eqb b 32) xs 0 (omega (arith, there.0, there.1))))
+
+pub some_word : (bytes : Bytes) → words_of bytes ≡ [] → ⊥
+some_word bytes none = let first = first_of bytes in let same = sym first.2 ∙ none in cc

@@ -2,7 +2,7 @@ ghost use Rattle.std.specs.Prelude.{◌≡◌, ◌==◌};
 ghost use Rattle.std.specs.Option.{option_copied};
 ghost use Rattle.std.specs.List.{position};
 ghost use Rattle.textline.specs.Lines.{words_of};
-ghost use Rattle.textline.specs.Words.{TakesWord, TakesThis};
+ghost use Rattle.textline.specs.Words.{TakesWord, TakesThis, SaysDone};
 
 use std::marker::Model;
 
@@ -54,6 +54,16 @@ impl<'a> Words<'a> {
                 self.rest = Some(behind);
                 Some(word)
             }
+        }
+    }
+
+    /// Whether no word is left.
+    pub fn is_done(&self) -> bool
+        ensures { SaysDone self.now result }
+    {
+        match self.rest {
+            None => true,
+            Some(_) => false,
         }
     }
 

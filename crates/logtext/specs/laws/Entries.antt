@@ -71,7 +71,7 @@ line_words_told numbers valid laws (Sol a) (Sol b) ha hb e = ap Sol (assignment_
 line_words_told numbers valid laws _ _ ha hb e = absurd (omega (arith, ap tag e))
 
 -- a line that steps begins with one letter
-letter : {W : Type 0} → (numbers : W → List ℤ) (l : Line W) → tag (line_words numbers l) < 256
+pub letter : {W : Type 0} → (numbers : W → List ℤ) (l : Line W) → tag (line_words numbers l) < 256
 letter numbers (Derive g w) = omega arith
 letter numbers (Fail w) = omega arith
 letter numbers (Split g) = omega arith

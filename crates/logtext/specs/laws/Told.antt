@@ -1,6 +1,6 @@
 -- Words tell the value that they spell.
 use Rattle.std.specs.Prelude.{◌≡◌, ℕ, ◌==◌, ◌||◌, ◌&&◌, ◌^◌, ◌<◌, ◌≤◌, ℤ, pos, Bool, true, false, IsTrue, List, [], ◌∷◌, ◌++◌, length, map, codes, nat_lt}
-use Rattle.std.proofs.Common.{refl, ap, sym, ◌∙◌, append_assoc, arith}
+use Rattle.std.proofs.Common.{inl, inr, refl, ap, sym, ◌∙◌, append_assoc, arith}
 use Rattle.std.proofs.lemmas.Int.{ints}
 use Rattle.std.proofs.lemmas.List.{append-nil}
 use Rattle.std.proofs.lemmas.Bool.Decides.{nat_tests}
@@ -21,7 +21,8 @@ use Rattle.kernel.specs.Fit.{is_count, is_id, is_fit_guess, is_fit_slot, is_fit_
 use Rattle.textline.specs.Lines.{Bytes}
 use Rattle.textline.specs.laws.Lines.{both_true}
 use Rattle.logtext.specs.Spelling.{guess_words, slot_words, member_word, order_words, segment_words, segments_words, assignment_words}
-use Rattle.logtext.specs.laws.Leads.{Tells, lead, tag, counted_told, open_told}
+use Rattle.logtext.specs.Reads.{BeginsWith, BeginsSlot, counted_ids, counted_segments}
+use Rattle.logtext.specs.laws.Leads.{Tells, tag, counted_told, open_told}
 
 pub three_true : (p q r : Bool) → (p && q && r) ≡ true → (p ≡ true) × (q ≡ true) × (r ≡ true)
 three_true true true r h = (refl, refl, h)
@@ -65,10 +66,10 @@ slot_told (slot.Present s f) (slot.Present t g) ws vs hx hy e =
     let finish = moment_told f g h.1 k.1 (cc) in (cc, cc)
 slot_told _ _ ws vs hx hy e = absurd (omega (arith, ap tag e))
 
-member_told : Tells (λ x. member_word x ∷ []) is_id
+pub member_told : Tells (λ x. member_word x ∷ []) is_id
 member_told x y ws vs hx hy e = (id_told x y hx hy (cc), cc)
 
-number_told : Tells (λ z. signed_decimal z ∷ []) is_small
+pub number_told : Tells (λ z. signed_decimal z ∷ []) is_small
 number_told x y ws vs hx hy e = (moment_told x y hx hy (cc), cc)
 
 abbrev made_segment : ℤ → ℤ → ℤ → Segment
@@ -106,23 +107,40 @@ segments_told xs ys ws vs hx hy e =
     let k = both_true (is_count (length ys)) (list_all is_fit_segment ys) hy in
     let same = count_told (length xs) (length ys) h.0 k.0 (cc) in counted_told segment_words is_fit_segment segment_told xs ys ws vs h.1 k.1 same (cc)
 
--- the letters of slots, of orders and of segments
+-- what may stand behind slots and behind orders
 
-abbrev pub slot_begins : ℕ → Bool
-slot_begins b = b == 97 || b == 112
+pub slot_starts : (s : Slot) (x : List Bytes) → BeginsSlot (slot_words s ++ x)
+slot_starts slot.Absent x = inl (x, refl)
+slot_starts (slot.Present s e) x = inr (signed_decimal s ∷ signed_decimal e ∷ x, refl)
 
-pub slot_starts : (s : Slot) (x : List Bytes) → slot_begins (lead (slot_words s ++ x)) ≡ true
-slot_starts slot.Absent x = refl
-slot_starts (slot.Present s e) x = refl
+begins : (w : Bytes) (words : List Bytes) → BeginsWith w words → tag words ≡ tag (w ∷ [])
+begins w words on = ap tag on.1 ∙ same_tag w on.0
+  where
+    same_tag : (w : Bytes) (rest : List Bytes) → tag (w ∷ rest) ≡ tag (w ∷ [])
+    same_tag [] rest = refl
+    same_tag (a ∷ []) rest = refl
+    same_tag (a ∷ b ∷ w) rest = refl
 
-pub behind_slots : (xss : List (List Itv)) (sss : List (List Segment)) → slot_begins (lead (flat_map order_words xss ++ flat_map segments_words sss)) ≡ false
-behind_slots [] [] = refl
-behind_slots [] (ss ∷ sss) = refl
-behind_slots (xs ∷ xss) sss = refl
+pub behind_slots : (xss : List (List Itv)) (sss : List (List Segment)) → BeginsSlot (flat_map order_words xss ++ flat_map segments_words sss) → ⊥
+behind_slots [] [] (inl on) = absurd (omega (arith, begins _ _ on))
+behind_slots [] [] (inr on) = absurd (omega (arith, begins _ _ on))
+behind_slots [] (ss ∷ sss) (inl on) = absurd (omega (arith, begins _ _ on))
+behind_slots [] (ss ∷ sss) (inr on) = absurd (omega (arith, begins _ _ on))
+behind_slots (xs ∷ xss) sss (inl on) = absurd (omega (arith, begins _ _ on))
+behind_slots (xs ∷ xss) sss (inr on) = absurd (omega (arith, begins _ _ on))
 
-pub behind_orders : (sss : List (List Segment)) → (lead (flat_map segments_words sss) == 111) ≡ false
-behind_orders [] = refl
-behind_orders (ss ∷ sss) = refl
+pub behind_orders : (sss : List (List Segment)) → BeginsWith (codes "o") (flat_map segments_words sss) → ⊥
+behind_orders [] on = absurd (omega (arith, begins _ _ on))
+behind_orders (ss ∷ sss) on = absurd (omega (arith, begins _ _ on))
+
+pub order_starts : (xs : List Itv) (x : List Bytes) → BeginsWith (codes "o") (order_words xs ++ x)
+order_starts xs x = (counted_ids xs ++ x, refl)
+
+pub function_starts : (ss : List Segment) (x : List Bytes) → BeginsWith (codes "g") (segments_words ss ++ x)
+function_starts ss x = (counted_segments ss ++ x, refl)
+
+pub behind_functions : BeginsWith (codes "g") [] → ⊥
+behind_functions on = absurd (omega (arith, begins _ _ on))
 
 abbrev made_assignment : List Slot → List (List Itv) → List (List Segment) → Assignment
 made_assignment s o g = record { slots = s; orders = o; segs = g }
@@ -135,7 +153,7 @@ pub assignment_told : (a b : Assignment) → is_fit_assignment a ≡ true → is
 assignment_told a b ha hb e =
     let fa = three_true (list_all is_fit_slot a.slots) (list_all is_fit_order a.orders) (list_all are_fit_segments a.segs) ha in
     let fb = three_true (list_all is_fit_slot b.slots) (list_all is_fit_order b.orders) (list_all are_fit_segments b.segs) hb in
-    let s = open_told slot_words is_fit_slot slot_begins slot_told slot_starts a.slots b.slots _ _ fa.0 fb.0 (behind_slots a.orders a.segs) (behind_slots b.orders b.segs) e in
-    let o = open_told order_words is_fit_order (λ n. n == 111) order_told (λ xs x. refl) a.orders b.orders _ _ fa.1 fb.1 (behind_orders a.segs) (behind_orders b.segs) s.1 in
-    let g = open_told segments_words are_fit_segments (λ n. n == 103) segments_told (λ xs x. refl) a.segs b.segs [] [] fa.2 fb.2 refl refl (append-nil (flat_map segments_words a.segs) ∙ o.1 ∙ sym (append-nil (flat_map segments_words b.segs))) in
+    let s = open_told slot_words is_fit_slot BeginsSlot slot_told slot_starts a.slots b.slots _ _ fa.0 fb.0 (behind_slots a.orders a.segs) (behind_slots b.orders b.segs) e in
+    let o = open_told order_words is_fit_order (BeginsWith (codes "o")) order_told order_starts a.orders b.orders _ _ fa.1 fb.1 (behind_orders a.segs) (behind_orders b.segs) s.1 in
+    let g = open_told segments_words are_fit_segments (BeginsWith (codes "g")) segments_told function_starts a.segs b.segs [] [] fa.2 fb.2 behind_functions behind_functions (append-nil (flat_map segments_words a.segs) ∙ o.1 ∙ sym (append-nil (flat_map segments_words b.segs))) in
     assignment_of a b s.0 o.0 g.0
