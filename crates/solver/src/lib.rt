@@ -5,5 +5,7 @@ mod answer;
 mod branch;
 mod line;
 mod search;
+#[cfg(test)]
+mod tests;
 
 pub use search::{SolveFault, solve};
