@@ -1,7 +1,7 @@
 #!/usr/bin/env bash
 # Prints how long it takes to solve a model that opens 99,999 nodes, how large its log is, and how long it takes to
 # check it. It wants a built program: (cd crates/schedtool && rt run -- solve ../../examples/two_in_a_row.cpo two_in_a_row.log)
-# Each time is the best of three runs.
+# Each time is the best of five runs.
 set -eu
 top=$(cd "$(dirname "$0")/.." && pwd)
 tool="$top/crates/schedtool/out/schedtool"
@@ -27,7 +27,7 @@ tool, model, log = sys.argv[1:]
 
 def timed(word):
     best, said = None, ""
-    for _ in range(3):
+    for _ in range(5):
         begin = time.perf_counter()
         ran = subprocess.run([tool, word, model, log], stdout=subprocess.PIPE, stderr=subprocess.PIPE)
         seconds = time.perf_counter() - begin
@@ -42,10 +42,10 @@ with open(log, "rb") as text:
     lines = sum(piece.count(b"\n") for piece in iter(lambda: text.read(1 << 20), b""))
 check = timed("check")
 rows = [
-    ("seconds to solve", f"{solve:.3f}"),
+    ("seconds to solve", f"{solve:.4f}"),
     ("bytes of the log", f"{size:,}"),
     ("lines of the log", f"{lines:,}"),
-    ("seconds to check", f"{check:.3f}"),
+    ("seconds to check", f"{check:.4f}"),
     ("lines checked a second", f"{lines / check:,.0f}"),
     ("bytes checked a second", f"{size / check:,.0f}"),
     ("check over solve", f"{check / solve:.2f}"),

@@ -91,12 +91,11 @@ goes_on {a} {b} {u} {r} {held} {mid} {kept} {s} {t} {v} first second =
     }
 
 -- what was held was written, and the text is held, or written too
-pub flushed_holds : {text held found mid kept : Bytes} {u : Unit {0}} {s t : State} → found ≡ held → Gathers [] (Ok u) found mid s t → kept ≡ mid ++ text → Gathers text (Ok tt) held kept s t
-flushed_holds {text} {held} {found} {mid} {kept} {u} {s} {t} same flushed is = subst (λ (bs : Bytes). Gathers text (Ok tt) bs kept s t) same (goes_on flushed (holds is))
+pub flushed_holds : {text held mid kept : Bytes} {u : Unit {0}} {s t : State} → Gathers [] (Ok u) held mid s t → kept ≡ mid ++ text → Gathers text (Ok tt) held kept s t
+flushed_holds flushed is = goes_on flushed (holds is)
 
-pub flushed_passes : {r : Answer} {text held found mid kept : Bytes} {u : Unit {0}} {s t v : State} → found ≡ held → Gathers [] (Ok u) found mid s t → mid ≡ [] → kept ≡ mid → Writes port.Log text r t v → Gathers text r held kept s v
-flushed_passes {r} {text} {held} {found} {mid} {kept} {u} {s} {t} {v} same flushed none is wrote =
-    subst (λ (bs : Bytes). Gathers text r bs kept s v) same (goes_on flushed (rw (is, none) (passes wrote)))
+pub flushed_passes : {r : Answer} {text held mid kept : Bytes} {u : Unit {0}} {s t v : State} → Gathers [] (Ok u) held mid s t → mid ≡ [] → kept ≡ mid → Writes port.Log text r t v → Gathers text r held kept s v
+flushed_passes flushed none is wrote = goes_on flushed (rw (is, none) (passes wrote))
 
 pub goes_on_as : {a b : Bytes} (c : Bytes) {u : Unit {0}} {r : Answer} {held mid kept : Bytes} {s t v : State} → b ≡ c → Gathers a (Ok u) held mid s t → Gathers b r mid kept t v → Gathers (a ++ c) r held kept s v
 goes_on_as {a} {b} c {u} {r} {held} {mid} {kept} {s} {t} {v} same first second = subst (λ bs. Gathers (a ++ bs) r held kept s v) same (goes_on first second)
