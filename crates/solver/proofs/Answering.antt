@@ -1,5 +1,5 @@
 -- The answer says what the log has shown.
-use Rattle.std.proofs.Common.{◌≡◌, ℕ, ◌≤◌, ℤ, Bool, true, false, List, [], ◌∷◌, Option, Some, None, refl, sym, ap, subst, ◌∙◌}
+use Rattle.std.proofs.Common.{◌≡◌, ℕ, ℤ, Bool, true, false, List, [], ◌∷◌, Option, Some, None, refl, sym, ap, subst, ◌∙◌}
 use Rattle.std.specs.Prelude.{option_map, option_to_list, ◌++◌, if◌then◌else◌}
 use Rattle.sched_base.specs.State.{State}
 use Rattle.sched_base.specs.Calls.{appended}
@@ -7,17 +7,15 @@ use Rattle.sched_model.specs.declared.types.Assignment.{Assignment}
 use Rattle.sched_model.specs.declared.types.Objective.{Objective}
 use Rattle.sched_model.specs.declared.types.Solved.{Solved}
 use Rattle.sched_model.specs.Data.{Data}
-use Rattle.sched_model.specs.Solution.{objective_of}
 use Rattle.sched_model.specs.Words.{is_empty}
 use Rattle.region.specs.Cells.{Region}
 use Rattle.kernel.specs.declared.types.Found.{Found}
-use Rattle.kernel.specs.declared.types.Verdict.{Verdict}
-use Rattle.kernel.specs.declared.types.Verdict.TheVariants.{Optimal, Feasible, Infeasible, Unclosed}
-use Rattle.kernel.specs.Promises.{Ready, IsFound, Means, IfFound}
+use Rattle.kernel.specs.declared.types.Verdict.TheVariants.{Unclosed}
+use Rattle.kernel.specs.Promises.{IsFound, Means, IfFound}
 use Rattle.kernel.specs.Steps.{LogState, open_regions, best_of, closed_verdict, best_verdict, verdict_of}
 use Rattle.logtext.specs.Logs.{PlainLine, IsPlainLog, plain_log}
 use Rattle.solver.specs.Answers.{IsAnswer, verdict_in, shown_in, is_unfinished, IfFound as IfValued}
-use Rattle.solver.specs.Solving.{IsSolved, Solves}
+use Rattle.solver.specs.Solving.{Solves}
 use Rattle.solver.specs.Searching.{IsBetween, IsEnded, valued, best_answer, closed_answer, answer_from}
 
 -- what has no value has no objective

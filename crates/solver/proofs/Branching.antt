@@ -1,14 +1,13 @@
 -- A cut splits what is open of an interval.
-use Rattle.std.proofs.Common.{w64, SFits, to_z, of_z, ◌≡◌, ℕ, zero, suc, ◌+◌, ◌/◌, ◌<◌, ℤ, pos, negsuc, ◌+ℤ◌, Bool, true, ◌&&◌, List, [], ◌∷◌, length, refl, sym, ap, subst, ◌∙◌, arith, get_or}
-use Rattle.std.specs.Prelude.{int_le, int_lt, ◌≤ℤ◌, ◌<ℤ◌, nat_lt, IsTrue, not}
+use Rattle.std.proofs.Common.{w64, SFits, to_z, of_z, ◌≡◌, ℕ, zero, suc, ◌<◌, ℤ, pos, negsuc, ◌+ℤ◌, true, ◌&&◌, List, [], ◌∷◌, length, refl, sym, ap, subst, ◌∙◌, arith, get_or}
+use Rattle.std.specs.Prelude.{int_le, int_lt, ◌≤ℤ◌, ◌<ℤ◌, nat_lt}
 use Rattle.std.specs.Int.{int_div_euclid}
 use Rattle.std.specs.Ordering.{int_eq}
 use Rattle.std.proofs.lemmas.Int.{ints, to_z-of_z}
-use Rattle.std.proofs.lemmas.Bool.{ltb-true}
 use Rattle.std.proofs.lemmas.Bool.Decides.{nat_tests}
 use Rattle.sched_base.specs.declared.ids.Itv.{Itv}
 use Rattle.sched_model.specs.declared.types.IntervalDef.{IntervalDef}
-use Rattle.sched_model.specs.Words.{placewise, ◌implies◌}
+use Rattle.sched_model.specs.Words.{placewise}
 use Rattle.sched_model.specs.Valid.{is_moment}
 use Rattle.sched_model.specs.Data.{Data}
 use Rattle.region.specs.declared.types.Bounds.{Bounds}
@@ -16,7 +15,7 @@ use Rattle.region.specs.declared.types.Guess.{Guess}
 use Rattle.region.specs.declared.types.Guess.TheVariants.{Present, StartLe, EndLe}
 use Rattle.region.specs.declared.types.Presence.TheVariants as presence
 use Rattle.region.specs.Cells.{Region, unknown, bounds_of, is_fixed, says_present}
-use Rattle.region.specs.Guesses.{subject, is_open_at, is_ready_at, admits, splits}
+use Rattle.region.specs.Guesses.{subject, is_open_at, is_ready_at, splits}
 use Rattle.region.specs.Looks.{IsRegionOf, is_narrowed}
 use Rattle.region.specs.laws.Lists.{both_true, true_both}
 use Rattle.solver.specs.Searching.{IsMiddle, IsCut, Cuts, is_ordered}

@@ -1,6 +1,6 @@
 -- The lines of the search are lines that a log may hold.
-use Rattle.std.proofs.Common.{◌≡◌, ℕ, zero, suc, ◌+◌, ◌*◌, ◌<◌, ◌≤◌, ◌^◌, ℤ, pos, negsuc, neg_ℤ, Bool, true, false, ◌&&◌, List, [], ◌∷◌, ◌++◌, length, Some, None, refl, sym, ap, subst, ◌∙◌, arith, length-append, append-nil, get_or}
-use Rattle.std.specs.Prelude.{IsTrue, map, flat_map, codes, nat_le, nat_lt, int_le, int_lt}
+use Rattle.std.proofs.Common.{◌≡◌, ℕ, zero, suc, ◌+◌, ◌*◌, ◌<◌, ◌≤◌, ◌^◌, ℤ, pos, negsuc, Bool, true, false, ◌&&◌, List, [], ◌∷◌, ◌++◌, length, refl, sym, ap, subst, arith, length-append, append-nil, get_or}
+use Rattle.std.specs.Prelude.{flat_map, nat_le, nat_lt, int_le, int_lt}
 use Rattle.std.specs.Fmt.{decimal, signed_decimal}
 use Rattle.std.specs.Int.Signed.{mag}
 use Rattle.std.specs.List.{list_all}
@@ -9,12 +9,10 @@ use Rattle.std.proofs.lemmas.Bool.{ltb-true, leb-true}
 use Rattle.std.proofs.lemmas.Bool.Decides.{nat_tests}
 use Rattle.std.proofs.lemmas.Fmt.{length-decimal-le, length_signed_le}
 use Rattle.std.proofs.lemmas.List.Concat.{flat_map-cons}
-use Rattle.sched_base.specs.declared.ids.Itv.{Itv}
 use Rattle.sched_model.specs.declared.types.IntervalDef.{IntervalDef}
 use Rattle.sched_model.specs.declared.types.Slot.{Slot}
 use Rattle.sched_model.specs.declared.types.Slot.TheVariants as slot
-use Rattle.sched_model.specs.declared.types.Assignment.{Assignment}
-use Rattle.sched_model.specs.Words.{placewise, is_between, is_empty}
+use Rattle.sched_model.specs.Words.{placewise, is_between}
 use Rattle.sched_model.specs.Data.{Data}
 use Rattle.sched_model.specs.Domain.{fits_def, is_in_domain}
 use Rattle.sched_model.specs.Sentences.{holds}
@@ -26,18 +24,18 @@ use Rattle.region.specs.declared.types.Guess.TheVariants.{Present, Absent, Start
 use Rattle.region.specs.Cells.{Region, unknown, bounds_of, settled_slots}
 use Rattle.region.specs.Guesses.{subject, is_open_at, admits, splits, is_ready_at}
 use Rattle.region.specs.Looks.{Seen, IsRegionOf, is_narrowed}
-use Rattle.region.specs.laws.Lists.{both_true, true_both, placewise-length, placewise-at}
+use Rattle.region.specs.laws.Lists.{both_true, true_both, placewise-length}
 use Rattle.refute_basic.specs.declared.witness.BasicWitness.{BasicWitness}
 use Rattle.refute_basic.specs.declared.witness.BasicWitness.TheVariants.{Leaf}
 use Rattle.refute_basic.specs.Basic.{refutes, row_of}
 use Rattle.refute_basic.specs.Witness.{is_valid as is_valid_basic, is_number}
 use Rattle.refute_basic.specs.Leaf.{settled_assignment}
-use Rattle.kernel.specs.declared.types.Line.TheVariants.{Derive, Fail, Split, Sol}
-use Rattle.kernel.specs.declared.types.Witness.TheVariants.{Basic, Extra}
+use Rattle.kernel.specs.declared.types.Line.TheVariants.{Fail, Split, Sol}
+use Rattle.kernel.specs.declared.types.Witness.TheVariants.{Basic}
 use Rattle.kernel.specs.NoExtra.{numbers_of, is_valid}
-use Rattle.kernel.specs.Fit.{is_count, is_id, is_fit, is_fit_guess, is_fit_basic, is_fit_slot}
+use Rattle.kernel.specs.Fit.{is_count, is_id, is_fit, is_fit_guess, is_fit_slot}
 use Rattle.textline.specs.Lines.{Bytes, line}
-use Rattle.logtext.specs.Spelling.{line_words, guess_words, basic_words, slot_words, assignment_words}
+use Rattle.logtext.specs.Spelling.{line_words, guess_words, slot_words, assignment_words}
 use Rattle.logtext.specs.Logs.{PlainLine, IsLine}
 
 -- words of at most 20 bytes

@@ -1,6 +1,6 @@
 -- The line of a node steps, and what it leaves.
-use Rattle.std.proofs.Common.{◌≡◌, ℕ, ◌+◌, ℤ, Bool, true, false, ◌&&◌, List, [], ◌∷◌, Option, Some, None, Result, Ok, Err, refl, sym, ap, subst, ◌∙◌, true≢false}
-use Rattle.std.specs.Prelude.{IsTrue, IsOk, IfSome, IfNone, is_some, option_map, if◌then◌else◌}
+use Rattle.std.proofs.Common.{◌≡◌, ℕ, ◌+◌, ℤ, Bool, true, false, ◌&&◌, List, [], ◌∷◌, Option, Some, None, Ok, refl, sym, ap, subst, ◌∙◌, true≢false}
+use Rattle.std.specs.Prelude.{IsOk, is_some, option_map, if◌then◌else◌}
 use Rattle.sched_model.specs.declared.types.Assignment.{Assignment}
 use Rattle.sched_model.specs.declared.types.Objective.{Objective}
 use Rattle.sched_model.specs.Words.{passes_if_any}
@@ -12,10 +12,8 @@ use Rattle.region.specs.declared.types.Guess.{Guess}
 use Rattle.region.specs.Cells.{Region, is_settled, allows}
 use Rattle.region.specs.Guesses.{splits}
 use Rattle.region.specs.Looks.{Seen, IsRegionOf}
-use Rattle.region.specs.laws.Lists.{both_true, true_both}
-use Rattle.refute_basic.specs.declared.witness.BasicWitness.{BasicWitness}
+use Rattle.region.specs.laws.Lists.{true_both}
 use Rattle.refute_basic.specs.Basic.{refutes}
-use Rattle.refute_basic.specs.Leaf.{settled_assignment, Solves}
 use Rattle.kernel.specs.declared.types.Found.{Found}
 use Rattle.kernel.specs.declared.types.StepFault.{StepFault}
 use Rattle.kernel.specs.declared.types.StepFault.TheVariants.{NotRefuted, NotSplitting, NotSolution}
@@ -23,7 +21,7 @@ use Rattle.kernel.specs.declared.types.Line.TheVariants.{Derive, Fail, Split, So
 use Rattle.kernel.specs.declared.types.Witness.TheVariants.{Basic, Extra}
 use Rattle.kernel.specs.Agenda.{first_in}
 use Rattle.kernel.specs.Promises.{Ready, IfFound, IsFound}
-use Rattle.kernel.specs.Steps.{LogState, Outcome, unless, best_of, is_wanted, left_after, found_in}
+use Rattle.kernel.specs.Steps.{LogState, unless, best_of, is_wanted, found_in}
 use Rattle.kernel.specs.NoExtra.{numbers_of, is_valid}
 use Rattle.logtext.specs.Logs.{PlainLine, IsLine}
 use Rattle.solver.specs.Searching.{IsBetween, IsNext, IsLeafLine, closes, plain_step}

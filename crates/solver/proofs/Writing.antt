@@ -1,6 +1,6 @@
 -- What a call of the writer adds to the log.
-use Rattle.std.proofs.Common.{◌≡◌, ℕ, ◌+◌, ◌-◌, ◌<◌, ◌≤◌, ◌^◌, true, List, [], ◌∷◌, ◌++◌, length, take, drop, Option, Some, None, Result, Ok, Err, refl, sym, ap, subst, ◌∙◌, arith, append_assoc, append-nil, length-append, length-drop, length-take}
-use Rattle.std.specs.Prelude.{IsOk, OnOk, All, option_map, flat_map}
+use Rattle.std.proofs.Common.{◌≡◌, ℕ, ◌+◌, ◌≤◌, true, List, [], ◌∷◌, ◌++◌, length, take, drop, Option, Some, None, Result, Ok, Err, refl, sym, ap, subst, ◌∙◌, arith, append_assoc, append-nil, length-append, length-drop, length-take}
+use Rattle.std.specs.Prelude.{IsOk}
 use Rattle.std.specs.Result.{IsErrAnd}
 use Rattle.std.proofs.Math.Seq.{take-append-add, drop-append-add}
 use Rattle.std.proofs.lemmas.Grind.{flat_map-append}
@@ -8,18 +8,18 @@ use Rattle.std.proofs.lemmas.List.{take-append-drop, take-append-le}
 use Rattle.std.proofs.lemmas.List.Elements.{All-nil, All-push}
 use Rattle.sched_base.specs.declared.desk.Failed.{Failed}
 use Rattle.sched_base.specs.State.{State}
-use Rattle.sched_base.specs.Calls.{Counted, Rose, appended}
+use Rattle.sched_base.specs.Calls.{Rose, appended}
 use Rattle.sched_model.specs.declared.types.Solved.{Solved}
 use Rattle.sched_model.specs.Data.{Data}
 use Rattle.kernel.specs.NoExtra.{numbers_of, is_valid, refutes_none}
 use Rattle.kernel.specs.Refuting.{refutes_with}
-use Rattle.kernel.specs.Steps.{LogState, Outcome, Steps, done, more, opening, step}
+use Rattle.kernel.specs.Steps.{LogState, Outcome, Steps, done, more, opening}
 use Rattle.textline.specs.Lines.{Bytes}
 use Rattle.logtext.specs.Spelling.{head_text, end_text}
 use Rattle.logtext.specs.Logs.{PlainLine, IsLine, IsPlainLog, plain_text, plain_lines, plain_log}
 use Rattle.logtext.specs.Writing.{Gathers}
 use Rattle.solver.specs.declared.search.SolveFault.{SolveFault}
-use Rattle.solver.specs.declared.search.SolveFault.TheVariants.{Fault, NoMemory}
+use Rattle.solver.specs.declared.search.SolveFault.TheVariants.{Fault}
 use Rattle.solver.specs.Solving.{BeginsLog, CausesStop, Gives}
 use Rattle.solver.specs.Searching.{IsWritten, GoesOn, front_text, plain_step}
 
@@ -227,10 +227,10 @@ end_failed m s held kept start old new f gathers w =
     (record { lines = w.lines; state = s; log = w.log; part = (cut.count, cut.within, cut.logged); only = cut.only; later = cut.later }, (cut.rose, cut.calm))
 
 -- a fault that is handed on
-pub stops : {T : Type 0} (m : Data) (r : Result T SolveFault) (fault : SolveFault) (s : LogState) (held : Bytes) (start now : State) → IsErrAnd r (λ f. f ≡ fault) → BeginsLog m start now × CausesStop fault start now → GoesOn m r s held start now
-stops m (Ok x) fault s held start now is h = absurd is
-stops m (Err f) fault s held start now is h = subst (λ k. BeginsLog m start now × CausesStop k start now) (sym is) h
+pub stops : {T : Type 0} (m : Data) (r : Result T SolveFault) (why : SolveFault) (s : LogState) (held : Bytes) (start now : State) → IsErrAnd r (λ f. f ≡ why) → BeginsLog m start now × CausesStop why start now → GoesOn m r s held start now
+stops m (Ok x) why s held start now is h = absurd is
+stops m (Err f) why s held start now is h = subst (λ k. BeginsLog m start now × CausesStop k start now) (sym is) h
 
-pub stops_solve : (m : Data) (limit : ℕ) (r : Result Solved SolveFault) (fault : SolveFault) (start now : State) → IsErrAnd r (λ f. f ≡ fault) → BeginsLog m start now × CausesStop fault start now → Gives m limit r start now
-stops_solve m limit (Ok x) fault start now is h = absurd is
-stops_solve m limit (Err f) fault start now is h = subst (λ k. BeginsLog m start now × CausesStop k start now) (sym is) h
+pub stops_solve : (m : Data) (limit : ℕ) (r : Result Solved SolveFault) (why : SolveFault) (start now : State) → IsErrAnd r (λ f. f ≡ why) → BeginsLog m start now × CausesStop why start now → Gives m limit r start now
+stops_solve m limit (Ok x) why start now is h = absurd is
+stops_solve m limit (Err f) why start now is h = subst (λ k. BeginsLog m start now × CausesStop k start now) (sym is) h

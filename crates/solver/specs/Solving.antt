@@ -1,5 +1,5 @@
 -- What solving a model gives, and what it does to the desk.
-use Rattle.std.specs.Prelude.{◌≡◌, ℕ, ◌≤◌, true, List, Option, None, Result, Ok, Err, option_map, ⊤}
+use Rattle.std.specs.Prelude.{◌≡◌, ℕ, ◌≤◌, true, List, None, Result, Ok, Err, option_map, ⊤}
 use Rattle.sched_base.specs.State.{State}
 use Rattle.sched_base.specs.Calls.{Rose, appended}
 use Rattle.sched_model.specs.declared.types.Solved.{Solved}

@@ -1,4 +1,4 @@
-use Rattle.std.proofs.Common.{sym, rules}
+use Rattle.std.proofs.Common.{rules}
 use Rattle.refute_basic.specs.laws.NoLeaf.{tested}
 use Rattle.refute_basic.proofs.find.find_leaf.Goals as goal
 

@@ -1,4 +1,4 @@
-use Rattle.std.proofs.Common.{sym, rules, arith}
+use Rattle.std.proofs.Common.{rules}
 use Rattle.refute_basic.proofs.Slots.{hold_next}
 use Rattle.refute_basic.proofs.find.first_failing.Goals as goal
 

@@ -1,4 +1,3 @@
-use Rattle.std.proofs.Common.{rules}
 use Rattle.solver.specs.declared.search.SolveFault.TheVariants.{Fault, NoMemory}
 use Rattle.solver.proofs.Stepping.{after_next}
 use Rattle.solver.proofs.Writing.{line_written, line_failed, line_kept, stops}
