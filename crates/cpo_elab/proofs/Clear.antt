@@ -1,7 +1,7 @@
 -- A statement that deserves no number passes each test.
 use Rattle.std.proofs.Common.{◌≡◌, ℕ, Bool, true, false, List, [], ◌∷◌, None, refl}
 use Rattle.sched_model.specs.Data.{Data}
-use Rattle.cpo_text.specs.declared.tree.Statement.{Statement}
+use Rattle.cpo_elab.specs.declared.small.Statement.{Statement}
 use Rattle.cpo_elab.specs.Judged.{is_misspelt, has_large_literal, defines_again, uses_unknown, has_reversed, has_negative, passes_limit, aims_again, first_of, number_in}
 
 pub record Clear (m : Data) (k : ℕ) (s : Statement) : Type 0 where

@@ -3,7 +3,7 @@ use Rattle.std.proofs.Common.{◌≡◌, ℕ, ◌+◌, ◌<◌, false, None, not
 use Rattle.std.proofs.lemmas.Bool.Decides.{nat_tests}
 use Rattle.sched_model.specs.Data.{Data}
 use Rattle.sched_model.specs.Valid.{is_within_limits}
-use Rattle.cpo_text.specs.declared.tree.Statement.{Statement}
+use Rattle.cpo_elab.specs.declared.small.Statement.{Statement}
 use Rattle.cpo_elab.specs.Elaborated.{after}
 use Rattle.cpo_elab.specs.Judged.{is_wide, statement_limit, number_in}
 use Rattle.cpo_elab.proofs.Truth.{none_of_three}

@@ -1,5 +1,5 @@
 -- The statements of a text have names of the language and literals within the bound.
-use Rattle.std.proofs.Common.{◌≡◌, ℕ, zero, suc, ◌+◌, Bool, true, false, not, ◌&&◌, ◌||◌, if◌then◌else◌, List, [], ◌∷◌, ◌++◌, map, take, drop, codes, nat_lt, nat_le, Option, Some, None, refl, sym, ap, subst, ◌∙◌, arith}
+use Rattle.std.proofs.Common.{◌≡◌, ℕ, zero, suc, ◌+◌, Bool, true, false, not, ◌&&◌, ◌||◌, if◌then◌else◌, List, [], ◌∷◌, ◌++◌, map, take, drop, codes, nat_lt, nat_le, Option, option_map, Some, None, refl, sym, ap, subst, ◌∙◌, arith}
 use Rattle.std.specs.List.{list_all, list_any}
 use Rattle.std.proofs.lemmas.List.Folds.{list_all-append}
 use Rattle.std.proofs.lemmas.Bool.Decides.{nat_tests}
@@ -18,13 +18,19 @@ use Rattle.cpo_text.specs.declared.tree.Ivarg.TheVariants.{Start, End, Size}
 use Rattle.cpo_text.specs.declared.tree.Definition.TheVariants.{IntervalVar}
 use Rattle.cpo_text.specs.declared.tree.Temporal.TheVariants.{EndBeforeStart}
 use Rattle.cpo_text.specs.declared.tree.Constrained.TheVariants.{Between}
+use Rattle.cpo_text.specs.declared.tree.Sense.TheVariants.{Minimize, Maximize}
 use Rattle.cpo_text.specs.declared.tree.Statement.{Statement}
 use Rattle.cpo_text.specs.declared.tree.Statement.TheVariants.{Empty, Define, Constrain, Aim}
 use Rattle.cpo_text.specs.declared.text.Form.{Form}
 use Rattle.cpo_text.specs.declared.text.Form.TheVariants.{Tree as Parsed, Number}
 use Rattle.cpo_text.specs.declared.text.Reading.{Reading}
 use Rattle.cpo_elab.specs.Judged.{is_spelt, is_above_limit, is_large_int, is_large_if_any, is_large_range, range_in}
-use Rattle.cpo_elab.specs.Laws.{is_spelt_form, TextsAreSpelt}
+use Rattle.cpo_elab.specs.declared.small.Logic.{Logic as SmallLogic}
+use Rattle.cpo_elab.specs.declared.small.Logic.TheVariants as logic
+use Rattle.cpo_elab.specs.declared.small.Sense.TheVariants as sense
+use Rattle.cpo_elab.specs.declared.small.Statement.TheVariants as statement
+use Rattle.cpo_elab.specs.Small.{small_logic}
+use Rattle.cpo_elab.specs.Laws.{is_spelt_small, is_spelt_form, TextsAreSpelt}
 use Rattle.cpo_elab.proofs.Truth.{both, joined, neither, not_false}
 
 -- a word whose name is one of the language, and whose number is within the bound
@@ -155,17 +161,26 @@ spelt_and_small true true here small = cc
 spelt_and_small true false here small = refl
 spelt_and_small false q here small = cc
 
+small_aim : (o : Option SmallLogic) → is_spelt_small (option_map (λ x. statement.Aim sense.Minimize x) o) ≡ true
+small_aim None = refl
+small_aim (Some (logic.EndOf a)) = refl
+
+delay_fine : (a b : List ℕ) (z : Option Int) → list_all is_fine (spelling (Constrain (Between EndBeforeStart a b z))) ≡ true → is_large_if_any z ≡ false
+delay_fine a b None all = refl
+delay_fine a b (Some z) all =
+    let first = both (is_spelt a) (is_spelt b && list_all is_fine ((int_words z ++ sign (codes ")") ∷ []) ++ sign (codes ";") ∷ [])) all in
+    let second = both (is_spelt b) (list_all is_fine ((int_words z ++ sign (codes ")") ∷ []) ++ sign (codes ";") ∷ [])) first.1 in
+    int_fine z (front (int_words z) _ (front (int_words z ++ sign (codes ")") ∷ []) _ second.1))
+
 statement_fine : (s : Statement) → list_all is_fine (spelling s) ≡ true → is_spelt_form (Parsed s) ≡ true
 statement_fine Empty all = refl
 statement_fine (Define n (IntervalVar args)) all =
     let parts = both (is_spelt n) (list_all is_fine ((commas (map ivarg_words args) ++ sign (codes ")") ∷ []) ++ sign (codes ";") ∷ [])) all in
     spelt_and_small (is_spelt n) _ parts.0 (ivargs_fine args (front (commas (map ivarg_words args)) _ (front (commas (map ivarg_words args) ++ sign (codes ")") ∷ []) _ parts.1)))
-statement_fine (Constrain (Between EndBeforeStart a b None)) all = refl
-statement_fine (Constrain (Between EndBeforeStart a b (Some z))) all =
-    let first = both (is_spelt a) (is_spelt b && list_all is_fine ((int_words z ++ sign (codes ")") ∷ []) ++ sign (codes ";") ∷ [])) all in
-    let second = both (is_spelt b) (list_all is_fine ((int_words z ++ sign (codes ")") ∷ []) ++ sign (codes ";") ∷ [])) first.1 in
-    not_false _ (int_fine z (front (int_words z) _ (front (int_words z ++ sign (codes ")") ∷ []) _ second.1)))
-statement_fine (Aim s e) all = refl
+statement_fine (Constrain (Between EndBeforeStart a b z)) all = not_false _ (delay_fine a b z all)
+statement_fine (Constrain c) all = refl
+statement_fine (Aim Minimize e) all = small_aim (small_logic e)
+statement_fine (Aim Maximize e) all = refl
 
 form_fine : (ws : List Word) (f : Form) → HasForm ws f → list_all is_told ws ≡ true → is_spelt_form f ≡ true
 form_fine ws (Parsed s) has told = statement_fine s (subst (λ x. list_all is_fine x ≡ true) has.1.spelt (all_fine ws told has.2))

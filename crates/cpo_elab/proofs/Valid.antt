@@ -9,17 +9,17 @@ use Rattle.sched_model.specs.Valid as valid
 use Rattle.sched_model.specs.Valid.{IsValid, is_within_limits, is_name, are_names, all_names, is_interval_def, is_constraint, is_itv}
 use Rattle.cpo_text.specs.declared.tree.Int.{Int}
 use Rattle.cpo_text.specs.declared.tree.Ivarg.{Ivarg}
-use Rattle.cpo_text.specs.declared.tree.Definition.{Definition}
-use Rattle.cpo_text.specs.declared.tree.Definition.TheVariants.{IntervalVar}
-use Rattle.cpo_text.specs.declared.tree.Temporal.{Temporal}
-use Rattle.cpo_text.specs.declared.tree.Temporal.TheVariants.{EndBeforeStart}
-use Rattle.cpo_text.specs.declared.tree.Constrained.{Constrained}
-use Rattle.cpo_text.specs.declared.tree.Constrained.TheVariants.{Between}
-use Rattle.cpo_text.specs.declared.tree.Sense.{Sense}
-use Rattle.cpo_text.specs.declared.tree.Logic.{Logic}
-use Rattle.cpo_text.specs.declared.tree.Logic.TheVariants.{EndOf}
-use Rattle.cpo_text.specs.declared.tree.Statement.{Statement}
-use Rattle.cpo_text.specs.declared.tree.Statement.TheVariants.{Define, Constrain, Aim}
+use Rattle.cpo_elab.specs.declared.small.Definition.{Definition}
+use Rattle.cpo_elab.specs.declared.small.Definition.TheVariants.{IntervalVar}
+use Rattle.cpo_elab.specs.declared.small.Temporal.{Temporal}
+use Rattle.cpo_elab.specs.declared.small.Temporal.TheVariants.{EndBeforeStart}
+use Rattle.cpo_elab.specs.declared.small.Constrained.{Constrained}
+use Rattle.cpo_elab.specs.declared.small.Constrained.TheVariants.{Between}
+use Rattle.cpo_elab.specs.declared.small.Sense.{Sense}
+use Rattle.cpo_elab.specs.declared.small.Logic.{Logic}
+use Rattle.cpo_elab.specs.declared.small.Logic.TheVariants.{EndOf}
+use Rattle.cpo_elab.specs.declared.small.Statement.{Statement}
+use Rattle.cpo_elab.specs.declared.small.Statement.TheVariants.{Define, Constrain, Aim}
 use Rattle.cpo_elab.specs.Named.{is_defined}
 use Rattle.cpo_elab.specs.Elaborated.{plain_interval, interval_of, constraint_of, expr_of, sense_of}
 use Rattle.cpo_elab.specs.Judged.{is_spelt, is_long, is_outside, is_wide, bounds_in, args_in, statement_limit, has_large_delay, number_in}

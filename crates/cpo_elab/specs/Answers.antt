@@ -7,6 +7,8 @@ use Rattle.cpo_text.specs.declared.text.Reading.{Reading}
 use Rattle.cpo_text.specs.declared.text.Refusal.{Refusal}
 use Rattle.cpo_text.specs.declared.text.ReadFault.{ReadFault}
 use Rattle.cpo_text.specs.declared.text.ReadFault.TheVariants as fault
+use Rattle.cpo_elab.specs.declared.small.Statement.{Statement}
+use Rattle.cpo_elab.specs.Small.{small_of}
 use Rattle.cpo_elab.specs.Judged.{number_in}
 use Rattle.cpo_elab.specs.Elaborated.{after}
 
@@ -18,12 +20,21 @@ pub data Answer : Type 0 where
 abbrev pub refusal : ℕ → ℕ → ℕ → Answer
 refusal n k at = Refused (record { number = n; statement = k; at = at })
 
+-- a statement that isn't served yet deserves 2, as if the grammar had no such form
+abbrev pub number_of_small : Data → ℕ → Option Statement → Option ℕ
+number_of_small m k None = Some 2
+number_of_small m k (Some s) = number_in m k s
+
 abbrev pub number_at : Data → ℕ → Form → Option ℕ
-number_at m k (Parsed s) = number_in m k s
+number_at m k (Parsed s) = number_of_small m k (small_of s)
 number_at m k (Number n) = Some n
 
+abbrev pub after_small : Data → Option Statement → Data
+after_small m None = m
+after_small m (Some s) = after m s
+
 abbrev pub after_form : Data → Form → Data
-after_form m (Parsed s) = after m s
+after_form m (Parsed s) = after_small m (small_of s)
 after_form m (Number n) = m
 
 abbrev pub refused_or : Option ℕ → ℕ → ℕ → Answer → Answer

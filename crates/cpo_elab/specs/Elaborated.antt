@@ -13,17 +13,17 @@ use Rattle.cpo_text.specs.declared.tree.Int.{Int}
 use Rattle.cpo_text.specs.declared.tree.Range.{Range}
 use Rattle.cpo_text.specs.declared.tree.Ivarg.{Ivarg}
 use Rattle.cpo_text.specs.declared.tree.Ivarg.TheVariants.{Start, End, Size}
-use Rattle.cpo_text.specs.declared.tree.Definition.{Definition}
-use Rattle.cpo_text.specs.declared.tree.Definition.TheVariants.{IntervalVar}
-use Rattle.cpo_text.specs.declared.tree.Temporal.TheVariants.{EndBeforeStart}
-use Rattle.cpo_text.specs.declared.tree.Constrained.{Constrained}
-use Rattle.cpo_text.specs.declared.tree.Constrained.TheVariants.{Between}
-use Rattle.cpo_text.specs.declared.tree.Sense.{Sense}
-use Rattle.cpo_text.specs.declared.tree.Sense.TheVariants.{Minimize}
-use Rattle.cpo_text.specs.declared.tree.Logic.{Logic}
-use Rattle.cpo_text.specs.declared.tree.Logic.TheVariants.{EndOf}
-use Rattle.cpo_text.specs.declared.tree.Statement.{Statement}
-use Rattle.cpo_text.specs.declared.tree.Statement.TheVariants.{Empty, Define, Constrain, Aim}
+use Rattle.cpo_elab.specs.declared.small.Definition.{Definition}
+use Rattle.cpo_elab.specs.declared.small.Definition.TheVariants.{IntervalVar}
+use Rattle.cpo_elab.specs.declared.small.Temporal.TheVariants.{EndBeforeStart}
+use Rattle.cpo_elab.specs.declared.small.Constrained.{Constrained}
+use Rattle.cpo_elab.specs.declared.small.Constrained.TheVariants.{Between}
+use Rattle.cpo_elab.specs.declared.small.Sense.{Sense}
+use Rattle.cpo_elab.specs.declared.small.Sense.TheVariants.{Minimize}
+use Rattle.cpo_elab.specs.declared.small.Logic.{Logic}
+use Rattle.cpo_elab.specs.declared.small.Logic.TheVariants.{EndOf}
+use Rattle.cpo_elab.specs.declared.small.Statement.{Statement}
+use Rattle.cpo_elab.specs.declared.small.Statement.TheVariants.{Empty, Define, Constrain, Aim}
 use Rattle.cpo_elab.specs.Named.{itv_of}
 
 -- the value of a number; one above the bound on literals has none, and its statement deserves a refusal

@@ -8,12 +8,12 @@ use Rattle.cpo_text.specs.declared.tree.Int.{Int}
 use Rattle.cpo_text.specs.declared.tree.Range.{Range}
 use Rattle.cpo_text.specs.declared.tree.Ivarg.{Ivarg}
 use Rattle.cpo_text.specs.declared.tree.Ivarg.TheVariants.{Start, End, Size}
-use Rattle.cpo_text.specs.declared.tree.Definition.{Definition}
-use Rattle.cpo_text.specs.declared.tree.Definition.TheVariants.{IntervalVar}
-use Rattle.cpo_text.specs.declared.tree.Constrained.{Constrained}
-use Rattle.cpo_text.specs.declared.tree.Constrained.TheVariants.{Between}
-use Rattle.cpo_text.specs.declared.tree.Statement.{Statement}
-use Rattle.cpo_text.specs.declared.tree.Statement.TheVariants.{Define, Constrain, Aim}
+use Rattle.cpo_elab.specs.declared.small.Definition.{Definition}
+use Rattle.cpo_elab.specs.declared.small.Definition.TheVariants.{IntervalVar}
+use Rattle.cpo_elab.specs.declared.small.Constrained.{Constrained}
+use Rattle.cpo_elab.specs.declared.small.Constrained.TheVariants.{Between}
+use Rattle.cpo_elab.specs.declared.small.Statement.{Statement}
+use Rattle.cpo_elab.specs.declared.small.Statement.TheVariants.{Define, Constrain, Aim}
 use Rattle.cpo_elab.specs.Named.{is_defined, definition_names, uses_of}
 use Rattle.cpo_elab.specs.Elaborated.{range_of, after}
 

@@ -1,5 +1,5 @@
 -- Laws of what a text deserves.
-use Rattle.std.specs.Prelude.{◌≡◌, ℕ, ◌≤◌, Bool, true, not, ◌&&◌, List, length, take, IsTrue}
+use Rattle.std.specs.Prelude.{◌≡◌, ℕ, ◌≤◌, Bool, true, not, ◌&&◌, List, length, take, Option, Some, None, IsTrue}
 use Rattle.std.specs.List.{list_all}
 use Rattle.sched_model.specs.Data.{Data, empty_model}
 use Rattle.cpo_text.specs.Tokens.{Token, HasTokens}
@@ -9,6 +9,8 @@ use Rattle.cpo_text.specs.declared.text.Form.{Form}
 use Rattle.cpo_text.specs.declared.text.Form.TheVariants.{Tree as Parsed, Number}
 use Rattle.cpo_text.specs.declared.text.Reading.{Reading}
 use Rattle.cpo_text.specs.declared.text.Tree.{Tree}
+use Rattle.cpo_elab.specs.declared.small.Statement.{Statement}
+use Rattle.cpo_elab.specs.Small.{small_of}
 use Rattle.cpo_elab.specs.Judged.{is_misspelt, has_large_literal}
 use Rattle.cpo_elab.specs.Answers.{Answer, judged}
 use Rattle.cpo_elab.specs.Answers.Answer.{Refused, Accepted}
@@ -48,9 +50,13 @@ OnlyWordsCount = (text other : List ℕ) (ts us : List Token) (c d : Bool) (a b 
     → length text ≤ text_limit → length other ≤ text_limit → HasTokens text ts c → HasTokens other us d → words_of ts ≡ words_of us
     → Deserves text a → Deserves other b → SameButOffset a b
 
--- a form whose defined name is a name of the language, and whose literals are within the bound
+-- a form whose defined name is a name of the language, and whose literals are within the bound, where it is served
+abbrev pub is_spelt_small : Option Statement → Bool
+is_spelt_small None = true
+is_spelt_small (Some s) = not (is_misspelt s) && not (has_large_literal s)
+
 abbrev pub is_spelt_form : Form → Bool
-is_spelt_form (Parsed s) = not (is_misspelt s) && not (has_large_literal s)
+is_spelt_form (Parsed s) = is_spelt_small (small_of s)
 is_spelt_form (Number n) = true
 
 -- the tests that stand in front of the others, for 2 and 3, say nothing of a text: its own reading has told these numbers

@@ -1,3 +1,4 @@
+pub mod Small
 pub mod Named
 pub mod Elaborated
 pub mod Judged

@@ -4,12 +4,12 @@ use Rattle.std.specs.Str.{bytes_eq}
 use Rattle.sched_base.specs.declared.ids.Itv.{Itv}
 use Rattle.sched_model.specs.Data.{Data}
 use Rattle.sched_model.specs.Valid.{all_names}
-use Rattle.cpo_text.specs.declared.tree.Constrained.{Constrained}
-use Rattle.cpo_text.specs.declared.tree.Constrained.TheVariants.{Between}
-use Rattle.cpo_text.specs.declared.tree.Logic.{Logic}
-use Rattle.cpo_text.specs.declared.tree.Logic.TheVariants.{EndOf}
-use Rattle.cpo_text.specs.declared.tree.Statement.{Statement}
-use Rattle.cpo_text.specs.declared.tree.Statement.TheVariants.{Empty, Define, Constrain, Aim}
+use Rattle.cpo_elab.specs.declared.small.Constrained.{Constrained}
+use Rattle.cpo_elab.specs.declared.small.Constrained.TheVariants.{Between}
+use Rattle.cpo_elab.specs.declared.small.Logic.{Logic}
+use Rattle.cpo_elab.specs.declared.small.Logic.TheVariants.{EndOf}
+use Rattle.cpo_elab.specs.declared.small.Statement.{Statement}
+use Rattle.cpo_elab.specs.declared.small.Statement.TheVariants.{Empty, Define, Constrain, Aim}
 
 -- the number of a name among some names
 abbrev pub place_of : List ℕ → List (List ℕ) → Option ℕ

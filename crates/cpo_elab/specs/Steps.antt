@@ -8,8 +8,9 @@ use Rattle.cpo_text.specs.declared.text.ReadFault.{ReadFault}
 use Rattle.cpo_text.specs.declared.text.ReadFault.TheVariants as fault
 use Rattle.cpo_text.specs.declared.tree.Ivarg.{Ivarg}
 use Rattle.cpo_elab.specs.Named.{number_of}
-use Rattle.cpo_elab.specs.Elaborated.{interval_of}
-use Rattle.cpo_elab.specs.Judged.{bounds_in, is_outside, statement_limit}
+use Rattle.cpo_elab.specs.declared.small.Statement.{Statement}
+use Rattle.cpo_elab.specs.Elaborated.{interval_of, after}
+use Rattle.cpo_elab.specs.Judged.{bounds_in, is_outside, statement_limit, number_in}
 use Rattle.cpo_elab.specs.Answers.{number_at, after_form}
 
 -- the model of the statements read so far, and how many there are
@@ -32,6 +33,12 @@ next_number e x = number_at e.model (e.statements + 1) x.form
 
 abbrev pub next_state : State → Reading → State
 next_state e x = record { model = after_form e.model x.form; statements = e.statements + 1 }
+
+-- one statement more of those that are served, or its refusal
+abbrev pub TakesSmall : State → Statement → ℕ → Result State ReadFault → Type 0
+TakesSmall e s at (Ok next) = (number_in e.model (e.statements + 1) s ≡ None) × (next ≡ record { model = after e.model s; statements = e.statements + 1 })
+TakesSmall e s at (Err (fault.Refused r)) = (number_in e.model (e.statements + 1) s ≡ Some r.number) × (r ≡ record { number = r.number; statement = e.statements + 1; at = at })
+TakesSmall e s at (Err fault.NoMemory) = ⊤
 
 -- one statement more, or its refusal
 abbrev pub Takes : State → Reading → Result State ReadFault → Type 0

@@ -6,15 +6,14 @@ ghost use Rattle.cpo_text.specs.declared.text.ReadFault.TheVariants as fault;
 ghost use Rattle.cpo_elab.specs.Named.{number_of, is_defined, itv_of};
 ghost use Rattle.cpo_elab.specs.Elaborated.{interval_of, constraint_of, expr_of, sense_of, after};
 ghost use Rattle.cpo_elab.specs.Judged.{bounds_in, is_outside, is_large_if_any, defines_again, uses_unknown, passes_limit, aims_again, has_large_delay, statement_limit, number_in};
-ghost use Rattle.cpo_elab.specs.Steps.{first_state, CanDefine, Takes};
+ghost use Rattle.cpo_elab.specs.Steps.{first_state, CanDefine, TakesSmall, Takes};
 
 use crate::interval::{int_or_zero, interval_of};
 use crate::judge::{args_in, has_large_literal, has_negative, has_reversed, is_misspelt, is_wide};
 use crate::names::Names;
 use crate::number;
-use cpo_text::{
-    Constrained, Form, Ivarg, Logic, ReadFault, Reading, Refusal, Sense, Statement, Temporal,
-};
+use crate::small::{Constrained, Logic, Sense, Statement, Temporal, small_of};
+use cpo_text::{Form, Ivarg, ReadFault, Reading, Refusal};
 use sched_base::{Itv, NoMemory};
 use sched_model::{Constraint, End, Expr, Model, Objective, Sense as Aimed};
 use std::alloc::Global;
@@ -272,6 +271,17 @@ impl Elaborator {
         }
     }
 
+    /// Takes the next statement, where it is one that is served.
+    fn take_small(self, alloc: Global, s: &Statement, at: u64) -> Result<Elaborator, ReadFault>
+        ensures { TakesSmall self s.now at result }
+    {
+        let statement = self.next();
+        match self.number_in(s) {
+            Some(number) => Err(refused(number, statement, at)),
+            None => Ok(self.with(alloc, s)?),
+        }
+    }
+
     /// Takes the next statement of a text.
     pub fn take(self, alloc: Global, reading: &Reading) -> Result<Elaborator, ReadFault>
         ensures { Takes self reading.now result }
@@ -280,9 +290,9 @@ impl Elaborator {
         let at = reading.at;
         match &reading.form {
             Form::Number(number) => Err(refused(*number, statement, at)),
-            Form::Tree(s) => match self.number_in(s) {
-                Some(number) => Err(refused(number, statement, at)),
-                None => Ok(self.with(alloc, s)?),
+            Form::Tree(s) => match small_of(alloc, s)? {
+                None => Err(refused(number::OUTSIDE_GRAMMAR, statement, at)),
+                Some(s) => self.take_small(alloc, &s, at),
             },
         }
     }

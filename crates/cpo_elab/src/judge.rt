@@ -5,7 +5,8 @@ ghost use Rattle.cpo_text.specs.Tokens.{is_letter, is_name_byte};
 ghost use Rattle.cpo_elab.specs.Elaborated.{int_of, range_of};
 ghost use Rattle.cpo_elab.specs.Judged.{is_spelt, is_misspelt, is_large_int, is_large_if_any, is_large_range, has_large_literal, is_reversed, has_reversed, is_negative_size, has_negative, is_outside, is_wide, range_in, bounds_in, args_in};
 
-use cpo_text::{Constrained, Definition, Int, Ivarg, Range, Statement};
+use crate::small::{Constrained, Definition, Statement};
+use cpo_text::{Int, Ivarg, Range};
 use sched_base::H;
 
 /// The bound on literals.

@@ -8,6 +8,7 @@ mod judge;
 mod laws;
 mod names;
 mod number;
+mod small;
 #[cfg(test)]
 mod tests;
 mod whole;

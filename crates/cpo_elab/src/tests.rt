@@ -1,6 +1,7 @@
 use crate::{ReadFault, Refusal, Tree, elaborate, read_model};
 use cpo_text::{
-    Constrained, Definition, Form, Int, Ivarg, Logic, Range, Reading, Sense, Statement, Temporal,
+    Constrained, Definition, Form, Int, Ivarg, Logic, Measure, Range, Reading, Sense, Statement,
+    Temporal,
 };
 use sched_base::{List, NoMemory, at};
 use sched_model::{Constraint, End, Expr, Itv};
@@ -43,7 +44,10 @@ fn before(alloc: Global, a: &[u8], b: &[u8], delay: Option<Int>) -> Result<State
 }
 
 fn aim(alloc: Global, a: &[u8]) -> Result<Statement, NoMemory> {
-    Ok(Statement::Aim(Sense::Minimize, Logic::EndOf(name(alloc, a)?)))
+    Ok(Statement::Aim(
+        Sense::Minimize,
+        Logic::Measured(Measure::EndOf, name(alloc, a)?, None),
+    ))
 }
 
 /// A text of some statements, the k-th of which stands at 10 k.

@@ -4,19 +4,15 @@ use Rattle.std.specs.Prelude.{codes}
 use Rattle.std.specs.List.{list_all}
 use Rattle.cpo_text.specs.Words.{Word, size_word, commas, round}
 use Rattle.cpo_text.specs.Words.Word.{sign}
-use Rattle.cpo_text.specs.Spelling.{int_words, minus_words, int_items, to_words, range_words, name_words, ivarg_words, ivarg_sort, are_distinct, definition_words, logic_words, spelling, is_formed}
-use Rattle.cpo_text.specs.Rules.{behind, size_at, signed_at, int_at, int_behind, range_at, given_at, ivarg_of, ivarg_at, has_sort, ivargs_more, ivargs_at, interval_at, definition_at, between_at, enclosed_at, logic_at, aim_at, called_at, body_at, statement_at}
+use Rattle.cpo_text.specs.Spelling.{int_words, minus_words, int_items, to_words, range_words, name_words, ivarg_words, ivarg_sort, are_distinct, definition_words}
+use Rattle.cpo_text.specs.Rules.{behind, size_at, signed_at, int_at, int_behind, range_at, given_at, ivarg_of, ivarg_at, has_sort, ivargs_more, ivargs_at, interval_at, definition_at, between_at}
 use Rattle.cpo_text.specs.declared.tree.Int.{Int}
 use Rattle.cpo_text.specs.declared.tree.Range.{Range}
 use Rattle.cpo_text.specs.declared.tree.Ivarg.{Ivarg}
 use Rattle.cpo_text.specs.declared.tree.Ivarg.TheVariants.{Start, End, Size}
 use Rattle.cpo_text.specs.declared.tree.Definition.TheVariants.{IntervalVar}
-use Rattle.cpo_text.specs.declared.tree.Temporal.TheVariants.{EndBeforeStart}
+use Rattle.cpo_text.specs.declared.tree.Temporal.{Temporal}
 use Rattle.cpo_text.specs.declared.tree.Constrained.TheVariants.{Between}
-use Rattle.cpo_text.specs.declared.tree.Sense.TheVariants.{Minimize}
-use Rattle.cpo_text.specs.declared.tree.Logic.TheVariants.{EndOf}
-use Rattle.cpo_text.specs.declared.tree.Statement.{Statement}
-use Rattle.cpo_text.specs.declared.tree.Statement.TheVariants.{Empty, Define, Constrain, Aim}
 use Rattle.cpo_text.proofs.Binds.{behind_again}
 use Rattle.cpo_text.proofs.Takes.{behind_words, ivarg_long}
 use Rattle.cpo_text.proofs.Spelt.{sorts, args_words}
@@ -136,42 +132,14 @@ interval_again (a ∷ more) rest distinct =
     let words : (args_words (a ∷ more) ++ sign (codes ")") ∷ []) ++ rest ≡ args_words (a ∷ more) ++ close = append_assoc (args_words (a ∷ more)) (sign (codes ")") ∷ []) rest in
     rw (words, no_close a more close, ivargs_again a more close distinct (record { comma = refl; range = refl })) refl
 
-definition_again : (args : List Ivarg) (rest : List Word) → are_distinct (sorts args) ≡ true → definition_at (definition_words (IntervalVar args) ++ rest) ≡ Some (IntervalVar args, rest)
+pub definition_again : (args : List Ivarg) (rest : List Word) → are_distinct (sorts args) ≡ true → definition_at (definition_words (IntervalVar args) ++ rest) ≡ Some (IntervalVar args, rest)
 unfolding definition_at
 definition_again args rest distinct = interval_again args rest distinct
 
-between_again : (a b : List ℕ) (z : Option Int) (rest : List Word)
-    → between_at EndBeforeStart (round (commas (name_words a ∷ name_words b ∷ int_items z)) ++ rest) ≡ Some (Between EndBeforeStart a b z, rest)
+pub between_again : (t : Temporal) (a b : List ℕ) (z : Option Int) (rest : List Word)
+    → between_at t (round (commas (name_words a ∷ name_words b ∷ int_items z)) ++ rest) ≡ Some (Between t a b z, rest)
 unfolding between_at
-between_again a b None rest = rw (int_behind_again (codes ",") None (sign (codes ")") ∷ rest) refl) refl
-between_again a b (Some i) rest =
+between_again t a b None rest = rw (int_behind_again (codes ",") None (sign (codes ")") ∷ rest) refl) refl
+between_again t a b (Some i) rest =
     let words : (int_words i ++ sign (codes ")") ∷ []) ++ rest ≡ int_words i ++ sign (codes ")") ∷ rest = append_assoc (int_words i) (sign (codes ")") ∷ []) rest in
     rw (words, int_behind_again (codes ",") (Some i) (sign (codes ")") ∷ rest) refl) refl
-
-logic_again : (a : List ℕ) (rest : List Word) → logic_at (logic_words (EndOf a) ++ rest) ≡ Some (EndOf a, rest)
-unfolding logic_at enclosed_at
-logic_again a rest = refl
-
-aim_again : (a : List ℕ) (rest : List Word) → aim_at Minimize (round (logic_words (EndOf a)) ++ rest) ≡ Some (Aim Minimize (EndOf a), rest)
-unfolding aim_at
-aim_again a rest = rw (logic_again a (sign (codes ")") ∷ rest)) refl
-
-called_between : (a b : List ℕ) (z : Option Int) (rest : List Word)
-    → called_at (codes "endBeforeStart") (round (commas (name_words a ∷ name_words b ∷ int_items z)) ++ rest) ≡ Some (Constrain (Between EndBeforeStart a b z), rest)
-unfolding called_at
-called_between a b z rest = rw (between_again a b z rest) refl
-
-called_aim : (a : List ℕ) (rest : List Word) → called_at (codes "minimize") (round (logic_words (EndOf a)) ++ rest) ≡ Some (Aim Minimize (EndOf a), rest)
-unfolding called_at
-called_aim a rest = aim_again a rest
-
-pub statement_again : (s : Statement) (rest : List Word) → is_formed s ≡ true → statement_at (spelling s ++ rest) ≡ Some (s, rest)
-unfolding statement_at body_at
-statement_again Empty rest formed = refl
-statement_again (Define n (IntervalVar args)) rest formed =
-    let words : (definition_words (IntervalVar args) ++ sign (codes ";") ∷ []) ++ rest ≡ definition_words (IntervalVar args) ++ sign (codes ";") ∷ rest = append_assoc (definition_words (IntervalVar args)) (sign (codes ";") ∷ []) rest in
-    rw (words, definition_again args (sign (codes ";") ∷ rest) formed) refl
-statement_again (Constrain (Between EndBeforeStart a b z)) rest formed =
-    let words = append_assoc (round (commas (name_words a ∷ name_words b ∷ int_items z))) (sign (codes ";") ∷ []) rest in
-    rw (words, called_between a b z (sign (codes ";") ∷ rest)) refl
-statement_again (Aim Minimize (EndOf a)) rest formed = rw (called_aim a (sign (codes ";") ∷ rest)) refl

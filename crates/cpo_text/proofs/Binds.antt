@@ -40,7 +40,7 @@ bytes_same xs ys h = (bytes_eq-Decides xs ys).0 h
 pub bytes_self : (xs : List ℕ) → bytes_eq xs xs ≡ true
 bytes_self xs = (bytes_eq-Decides xs xs).1 refl
 
-sign_same : (s : List ℕ) (w : Word) → is_sign s w ≡ true → w ≡ sign s
+pub sign_same : (s : List ℕ) (w : Word) → is_sign s w ≡ true → w ≡ sign s
 sign_same s (name b) h = cc
 sign_same s (number n) h = cc
 sign_same s large h = cc

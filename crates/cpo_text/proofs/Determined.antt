@@ -1,5 +1,5 @@
 -- A text has one list of pieces, and so one list of tokens or one bad byte; each run of tokens has one reading.
-use Rattle.std.proofs.Common.{◌≡◌, ◌⊎◌, inl, inr, ℕ, ◌+◌, ◌<◌, Bool, List, [], ◌∷◌, length, drop, Option, Some, None, refl, sym, ap, ◌∙◌, arith, length-drop, append-nil}
+use Rattle.std.proofs.Common.{◌≡◌, ◌⊎◌, inl, inr, ℕ, ◌+◌, ◌*◌, ◌<◌, Bool, List, [], ◌∷◌, length, drop, Option, Some, None, refl, sym, ap, ◌∙◌, arith, length-drop, append-nil}
 use Rattle.std.proofs.lemmas.List.{drop-drop}
 use Rattle.cpo_text.specs.declared.piece.Piece.{Piece}
 use Rattle.cpo_text.specs.declared.tree.Statement.{Statement}
@@ -10,14 +10,14 @@ use Rattle.cpo_text.specs.Words.{Word}
 use Rattle.cpo_text.specs.Tokens.{Token, tokens_of, ArePieces, HasTokens, HasBadByte, has_comment}
 use Rattle.cpo_text.specs.Runs.{words_of, early}
 use Rattle.cpo_text.specs.Spelling.{IsStatement, spelling}
-use Rattle.cpo_text.specs.Rules.{statement_at}
+use Rattle.cpo_text.specs.Statements.{statement_at}
 use Rattle.cpo_text.specs.Lexing.{pieces, rest, tokens_from}
 use Rattle.cpo_text.specs.Reads.{IsGrammatical, DeservesNumber, HasForm}
 use Rattle.cpo_text.specs.Laws.{PiecesAreDetermined, TokensAreDetermined, BadByteIsDetermined, EveryTextHasTokensOrBadByte, NotBoth, StatementsAreDetermined, GrammarIsDecided, ReadingsAreDetermined}
 use Rattle.cpo_text.proofs.Binds.{some_same, some_pair, both}
 use Rattle.cpo_text.proofs.Walks.{pieces_are, pieces_only, none_at_end}
-use Rattle.cpo_text.proofs.Spelt.{statement_takes}
-use Rattle.cpo_text.proofs.Again.{statement_again}
+use Rattle.cpo_text.proofs.Spells.{statement_takes}
+use Rattle.cpo_text.proofs.Rereads.{statement_again}
 use Rattle.cpo_text.proofs.Answered.{has_tokens, has_bad_byte}
 
 pub pieces_determined : PiecesAreDetermined
@@ -65,16 +65,22 @@ not_both text ts us b at x y =
     let within = y.within in
     omega (arith, size, length-drop at text)
 
-read_again : (ws : List Word) (s : Statement) → IsStatement ws s → statement_at ws ≡ Some (s, [])
-read_again ws s is = ap statement_at (is.spelt ∙ sym (append-nil (spelling s))) ∙ statement_again s [] is.formed
+-- fuel for some words
+abbrev fuel_of : List Word → ℕ
+fuel_of ws = 20 * length ws + 11
+
+read_again : (ws : List Word) (s : Statement) → IsStatement ws s → statement_at (fuel_of ws) ws ≡ Some (s, [])
+read_again ws s is =
+    let size = ap length is.spelt in
+    ap (statement_at (fuel_of ws)) (is.spelt ∙ sym (append-nil (spelling s))) ∙ statement_again (fuel_of ws) s [] is.formed (omega arith)
 
 pub statements_determined : StatementsAreDetermined
 statements_determined ws s t a b = (some_pair s t [] [] (sym (read_again ws s a) ∙ read_again ws t b)).0
 
 -- what the reader takes whole is a statement, and what it doesn't is none
 
-read_whole : (ws : List Word) (s : Statement) → statement_at ws ≡ Some (s, []) → IsStatement ws s
-read_whole ws s h = let t = statement_takes ws s [] h in record { formed = t.0; spelt = t.1 ∙ append-nil (spelling s) }
+read_whole : (f : ℕ) (ws : List Word) (s : Statement) → statement_at f ws ≡ Some (s, []) → IsStatement ws s
+read_whole f ws s h = let t = statement_takes f ws s [] h in record { formed = t.0; spelt = t.1 ∙ append-nil (spelling s) }
 
 no_rest : (s t : Statement) (w : Word) (r : List Word) → ◌≡◌ {A = Option (Statement × List Word)} (Some (s, w ∷ r)) (Some (t, [])) → ⊥
 no_rest s t w r h = let e = (some_pair s t (w ∷ r) [] h).1 in cc
@@ -83,11 +89,11 @@ no_tree : (t : Statement) → ◌≡◌ {A = Option (Statement × List Word)} No
 no_tree t h = cc
 
 pub grammar_decided : GrammarIsDecided
-grammar_decided ws = decided (statement_at ws) refl
+grammar_decided ws = decided (statement_at (fuel_of ws) ws) refl
   where
-    decided : (o : Option (Statement × List Word)) → statement_at ws ≡ o → IsGrammatical ws ⊎ (IsGrammatical ws → ⊥)
+    decided : (o : Option (Statement × List Word)) → statement_at (fuel_of ws) ws ≡ o → IsGrammatical ws ⊎ (IsGrammatical ws → ⊥)
     decided None none = inr (λ is. no_tree is.0 (sym none ∙ read_again ws is.0 is.1))
-    decided (Some (s, [])) whole = inl (s, read_whole ws s whole)
+    decided (Some (s, [])) whole = inl (s, read_whole (fuel_of ws) ws s whole)
     decided (Some (s, w ∷ r)) more = inr (λ is. no_rest s is.0 w r (sym more ∙ read_again ws is.0 is.1))
 
 -- a number of its own, where the words are early none

@@ -1,10 +1,10 @@
 -- What a statement's words deserve, and readings run by run.
-use Rattle.std.proofs.Common.{◌≡◌, inl, inr, ℕ, zero, suc, ◌+◌, ◌<◌, Bool, true, false, List, [], ◌∷◌, ◌++◌, length, take, Option, Some, None, refl, sym, ap, subst, ◌∙◌, append_assoc, append-nil, length-append}
+use Rattle.std.proofs.Common.{◌≡◌, inl, inr, ℕ, zero, suc, ◌+◌, ◌<◌, ◌≤◌, Bool, true, false, List, [], ◌∷◌, ◌++◌, length, take, Option, Some, None, refl, sym, ap, subst, ◌∙◌, arith, append_assoc, append-nil, length-append}
 use Rattle.cpo_text.specs.Words.{Word}
 use Rattle.cpo_text.specs.Tokens.{Token}
 use Rattle.cpo_text.specs.Runs.{runs, words_of, early, has_large}
 use Rattle.cpo_text.specs.Surveys.{first_run, after_run, unsurveyed, surveyed, early_of}
-use Rattle.cpo_text.specs.Rules.{statement_at}
+use Rattle.cpo_text.specs.Statements.{enough, statement_at}
 use Rattle.cpo_text.specs.Reads.{DeservesNumber, HasForm, AreReadings, told_limit, told}
 use Rattle.cpo_text.specs.declared.survey.Survey.{Survey}
 use Rattle.cpo_text.specs.declared.tree.Statement.{Statement}
@@ -25,16 +25,17 @@ large_is ts s b is h = sym (large_survey ts) ∙ ap (λ (x : Survey). x.large) (
 pub early_number : (ts : List Token) (s : Survey) (n : ℕ) → s ≡ surveyed unsurveyed ts → Some n ≡ early_of s → DeservesNumber (run_words ts) n
 early_number ts s n is h = inl (early_is ts s (Some n) is h)
 
-pub outside_number : (ts : List Token) (s : Survey) → s ≡ surveyed unsurveyed ts → None ≡ early_of s → statement_at (words_of ts) ≡ None → DeservesNumber (run_words ts) 2
-outside_number ts s is h none = inr (early_is ts s None is h, inl (refl, no_statement ts none))
+pub outside_number : (ts : List Token) (s : Survey) → s ≡ surveyed unsurveyed ts → None ≡ early_of s → length ts ≤ 16777216 → statement_at enough (words_of ts) ≡ None → DeservesNumber (run_words ts) 2
+unfolding enough
+outside_number ts s is h short none = inr (early_is ts s None is h, inl (refl, no_statement 335544340 ts (omega arith) none))
 
-pub large_number : (ts : List Token) (s : Survey) (x : Statement) (rest : List Word) → s ≡ surveyed unsurveyed ts → None ≡ early_of s → statement_at (words_of ts) ≡ Some (x, rest) → s.large ≡ true
+pub large_number : (ts : List Token) (s : Survey) (x : Statement) (rest : List Word) → s ≡ surveyed unsurveyed ts → None ≡ early_of s → statement_at enough (words_of ts) ≡ Some (x, rest) → s.large ≡ true
     → DeservesNumber (run_words ts) 3
-large_number ts s x rest is h read large = inr (early_is ts s None is h, inr (refl, (x, read_statement ts x rest read), large_is ts s true is large))
+large_number ts s x rest is h read large = inr (early_is ts s None is h, inr (refl, (x, read_statement enough ts x rest read), large_is ts s true is large))
 
-pub parsed : (ts : List Token) (s : Survey) (x : Statement) (rest : List Word) → s ≡ surveyed unsurveyed ts → None ≡ early_of s → statement_at (words_of ts) ≡ Some (x, rest) → s.large ≡ false
+pub parsed : (ts : List Token) (s : Survey) (x : Statement) (rest : List Word) → s ≡ surveyed unsurveyed ts → None ≡ early_of s → statement_at enough (words_of ts) ≡ Some (x, rest) → s.large ≡ false
     → HasForm (run_words ts) (Parsed x)
-parsed ts s x rest is h read small = (early_is ts s None is h, read_statement ts x rest read, large_is ts s false is small)
+parsed ts s x rest is h read small = (early_is ts s None is h, read_statement enough ts x rest read, large_is ts s false is small)
 
 -- one run and its reading
 

@@ -7,6 +7,7 @@ pub mod Walks
 pub mod Steps
 pub mod Scans
 pub mod Binds
+pub mod Ones
 pub mod Takes
 pub mod Ivargs
 pub mod Spelt
@@ -17,3 +18,14 @@ pub mod Forms
 pub mod Answered
 pub mod Determined
 pub mod Pieces
+pub mod Nodes
+pub mod Took
+pub mod Turns
+pub mod Openings
+pub mod Takings
+pub mod Ends
+pub mod Climbs
+pub mod Owns
+pub mod Spells
+pub mod Rereads
+pub mod Shorts

@@ -4,22 +4,17 @@ use Rattle.std.specs.Prelude.{codes, bytes_eq}
 use Rattle.std.specs.List.{list_all}
 use Rattle.cpo_text.specs.Words.{Word, commas, round}
 use Rattle.cpo_text.specs.Words.Word.{name, sign}
-use Rattle.cpo_text.specs.Spelling.{int_words, int_items, name_words, ivarg_words, ivarg_sort, are_distinct, definition_words, temporal_word, constraint_words, logic_words, sense_word, statement_body, spelling, is_formed}
-use Rattle.cpo_text.specs.Rules.{Found, bound, behind, if_behind, name_at, int_behind, ivarg_at, has_sort, ivargs_more, ivargs_at, interval_at, definition_at, between_at, enclosed_at, logic_at, aim_at, called_at, body_at, statement_at}
+use Rattle.cpo_text.specs.Spelling.{int_words, int_items, name_words, ivarg_words, ivarg_sort, are_distinct, definition_words, temporal_word, constraint_words, statement_body, is_formed}
+use Rattle.cpo_text.specs.Rules.{Found, bound, behind, if_behind, name_at, int_behind, ivarg_at, has_sort, ivargs_more, ivargs_at, interval_at, definition_at, between_at}
 use Rattle.cpo_text.specs.declared.tree.Int.{Int}
 use Rattle.cpo_text.specs.declared.tree.Ivarg.{Ivarg}
 use Rattle.cpo_text.specs.declared.tree.Definition.{Definition}
 use Rattle.cpo_text.specs.declared.tree.Definition.TheVariants.{IntervalVar}
 use Rattle.cpo_text.specs.declared.tree.Temporal.{Temporal}
-use Rattle.cpo_text.specs.declared.tree.Temporal.TheVariants.{EndBeforeStart}
 use Rattle.cpo_text.specs.declared.tree.Constrained.{Constrained}
 use Rattle.cpo_text.specs.declared.tree.Constrained.TheVariants.{Between}
-use Rattle.cpo_text.specs.declared.tree.Sense.{Sense}
-use Rattle.cpo_text.specs.declared.tree.Sense.TheVariants.{Minimize}
-use Rattle.cpo_text.specs.declared.tree.Logic.{Logic}
-use Rattle.cpo_text.specs.declared.tree.Logic.TheVariants.{EndOf}
 use Rattle.cpo_text.specs.declared.tree.Statement.{Statement}
-use Rattle.cpo_text.specs.declared.tree.Statement.TheVariants.{Empty, Define, Constrain, Aim}
+use Rattle.cpo_text.specs.declared.tree.Statement.TheVariants.{Define}
 use Rattle.cpo_text.proofs.Binds.{both, bound_parts, need_parts, some_pair, bytes_same, behind_takes, name_takes}
 use Rattle.cpo_text.proofs.Takes.{behind_words, int_behind_takes, ivarg_takes}
 
@@ -145,20 +140,10 @@ interval_takes word ws d rest h =
           distinct = l.distinct refl;
         }
 
--- a name in round brackets
-enclosed_takes : (ws : List Word) (a : List ℕ) (rest : List Word) → enclosed_at ws ≡ Some (a, rest) → ws ≡ round (name a ∷ []) ++ rest
-unfolding enclosed_at
-enclosed_takes ws a rest h =
-    let p = need_parts (behind (codes "(") ws) _ a rest h in
-    let q = bound_parts (name_at p.words) _ a rest p.then in
-    let r = need_parts (behind (codes ")") q.words) _ a rest q.then in
-    let e = some_pair q.tree a r.words rest r.then in
-    behind_takes (codes "(") ws p.words p.first ∙ ap (λ xs. sign (codes "(") ∷ xs) (name_takes p.words q.tree q.words q.first ∙ both (λ x xs. name x ∷ xs) e.0 (behind_takes (codes ")") q.words r.words r.first ∙ ap (λ xs. sign (codes ")") ∷ xs) e.1))
-
 abbrev pub IsSpelt : Statement → List Word → List Word → Type 0
 IsSpelt s ws rest = (is_formed s ≡ true) × (ws ≡ statement_body s ++ rest)
 
-define_takes : (n : List ℕ) (ws : List Word) (d : Definition) (rest : List Word) → definition_at ws ≡ Some (d, rest) → IsSpelt (Define n d) (name n ∷ sign (codes "=") ∷ ws) rest
+pub define_takes : (n : List ℕ) (ws : List Word) (d : Definition) (rest : List Word) → definition_at ws ≡ Some (d, rest) → IsSpelt (Define n d) (name n ∷ sign (codes "=") ∷ ws) rest
 unfolding definition_at
 define_takes n ws d rest h =
     let p = bound_parts (name_at ws) _ d rest h in
@@ -176,7 +161,7 @@ delayed : (a b : List ℕ) (z : Option Int) (rest : List Word)
 delayed a b None rest = refl
 delayed a b (Some i) rest = ap (λ xs. sign (codes "(") ∷ name a ∷ sign (codes ",") ∷ name b ∷ sign (codes ",") ∷ xs) (sym (append_assoc (int_words i) (sign (codes ")") ∷ []) rest))
 
-between_takes : (t : Temporal) (ws : List Word) (c : Constrained) (rest : List Word) → between_at t ws ≡ Some (c, rest) → name (temporal_word t) ∷ ws ≡ constraint_words c ++ rest
+pub between_takes : (t : Temporal) (ws : List Word) (c : Constrained) (rest : List Word) → between_at t ws ≡ Some (c, rest) → name (temporal_word t) ∷ ws ≡ constraint_words c ++ rest
 unfolding between_at
 between_takes t ws c rest h =
     let p = need_parts (behind (codes "(") ws) _ c rest h in
@@ -193,78 +178,3 @@ between_takes t ws c rest h =
     ∙ ap (λ xs. behind_words (codes ",") z.tree ++ xs) (behind_takes (codes ")") z.words r.words r.first ∙ ap (λ xs. sign (codes ")") ∷ xs) e.1)))))
     ∙ delayed a.tree b.tree z.tree rest)
     ∙ ap (λ x. constraint_words x ++ rest) e.0
-
-logic_takes : (ws : List Word) (e : Logic) (rest : List Word) → logic_at ws ≡ Some (e, rest) → ws ≡ logic_words e ++ rest
-unfolding logic_at
-logic_takes ws e rest h =
-    let p = bound_parts (name_at ws) _ e rest h in
-    by_word p.tree p.words (name_takes ws p.tree p.words p.first) (bytes_eq p.tree (codes "endOf")) refl p.then
-  where
-    by_word : (w : List ℕ) (r : List Word) → ws ≡ name w ∷ r → (t : Bool) → bytes_eq w (codes "endOf") ≡ t → cond t (bound (enclosed_at r) (λ a r2. Some (EndOf a, r2))) None ≡ Some (e, rest) → ws ≡ logic_words e ++ rest
-    by_word w r begun true is h =
-        let p = bound_parts (enclosed_at r) _ e rest h in
-        let same = some_pair (EndOf p.tree) e p.words rest p.then in
-        begun ∙ both (λ x xs. name x ∷ xs) (bytes_same w (codes "endOf") is) (enclosed_takes r p.tree p.words p.first) ∙ both (λ x xs. logic_words x ++ xs) same.0 same.1
-    by_word w r begun false is h = cc
-
-aim_takes : (s : Sense) (ws : List Word) (x : Statement) (rest : List Word) → aim_at s ws ≡ Some (x, rest) → IsSpelt x (name (sense_word s) ∷ ws) rest
-unfolding aim_at
-aim_takes s ws x rest h =
-    let p = need_parts (behind (codes "(") ws) _ x rest h in
-    let q = bound_parts (logic_at p.words) _ x rest p.then in
-    let r = need_parts (behind (codes ")") q.words) _ x rest q.then in
-    let e = some_pair (Aim s q.tree) x r.words rest r.then in
-    let words : ws ≡ round (logic_words q.tree) ++ rest =
-    behind_takes (codes "(") ws p.words p.first ∙ ap (λ xs. sign (codes "(") ∷ xs) (logic_takes p.words q.tree q.words q.first
-    ∙ ap (λ xs. logic_words q.tree ++ xs) (behind_takes (codes ")") q.words r.words r.first ∙ ap (λ xs. sign (codes ")") ∷ xs) e.1)
-    ∙ sym (append_assoc (logic_words q.tree) (sign (codes ")") ∷ []) rest)) in
-    subst (λ y. IsSpelt y (name (sense_word s) ∷ ws) rest) e.0 (refl, ap (λ xs. name (sense_word s) ∷ xs) words)
-
-called_takes : (n : List ℕ) (ws : List Word) (x : Statement) (rest : List Word) → called_at n ws ≡ Some (x, rest) → IsSpelt x (name n ∷ ws) rest
-unfolding called_at
-called_takes n ws x rest h = by_word (bytes_eq n (codes "endBeforeStart")) refl (bytes_eq n (codes "minimize")) refl h
-  where
-    by_word : (s : Bool) → bytes_eq n (codes "endBeforeStart") ≡ s → (t : Bool) → bytes_eq n (codes "minimize") ≡ t
-        → cond s (bound (between_at EndBeforeStart ws) (λ c r. Some (Constrain c, r))) (cond t (aim_at Minimize ws) None) ≡ Some (x, rest) → IsSpelt x (name n ∷ ws) rest
-    by_word true is t e h =
-        let p = bound_parts (between_at EndBeforeStart ws) _ x rest h in
-        let same = some_pair (Constrain p.tree) x p.words rest p.then in
-        subst (λ y. IsSpelt y (name n ∷ ws) rest) same.0
-        (refl, ap (λ y. name y ∷ ws) (bytes_same n (codes "endBeforeStart") is) ∙ between_takes EndBeforeStart ws p.tree p.words p.first ∙ ap (λ xs. constraint_words p.tree ++ xs) same.1)
-    by_word false is true e h = subst (λ y. IsSpelt x (name y ∷ ws) rest) (sym (bytes_same n (codes "minimize") e)) (aim_takes Minimize ws x rest h)
-    by_word false is false e h = cc
-
-body_takes : (ws : List Word) (x : Statement) (rest : List Word) → body_at ws ≡ Some (x, rest) → IsSpelt x ws rest
-unfolding body_at
-body_takes ws x rest h =
-    let p = bound_parts (name_at ws) _ x rest h in
-    subst (λ ys. IsSpelt x ys rest) (sym (name_takes ws p.tree p.words p.first)) (by_equals p.tree p.words (behind (codes "=") p.words) refl p.then)
-  where
-    by_equals : (n : List ℕ) (r : List Word) (o : Option (List Word)) → behind (codes "=") r ≡ o
-        → if_behind o (λ r2. bound (definition_at r2) (λ d r3. Some (Define n d, r3))) (called_at n r) ≡ Some (x, rest) → IsSpelt x (name n ∷ r) rest
-    by_equals n r None is h = called_takes n r x rest h
-    by_equals n r (Some r2) is h =
-        let p = bound_parts (definition_at r2) _ x rest h in
-        let same = some_pair (Define n p.tree) x p.words rest p.then in
-        let d = define_takes n r2 p.tree p.words p.first in
-        subst (λ y. IsSpelt y (name n ∷ r) rest) same.0 (d.0, ap (λ xs. name n ∷ xs) (behind_takes (codes "=") r r2 is) ∙ d.1 ∙ ap (λ xs. statement_body (Define n p.tree) ++ xs) same.1)
-
-abbrev pub IsSpeltWhole : Statement → List Word → List Word → Type 0
-IsSpeltWhole s ws rest = (is_formed s ≡ true) × (ws ≡ spelling s ++ rest)
-
-pub statement_takes : (ws : List Word) (x : Statement) (rest : List Word) → statement_at ws ≡ Some (x, rest) → IsSpeltWhole x ws rest
-unfolding statement_at
-statement_takes ws x rest h = by_end (behind (codes ";") ws) refl h
-  where
-    by_end : (o : Option (List Word)) → behind (codes ";") ws ≡ o
-        → if_behind o (λ r. Some (Empty, r)) (bound (body_at ws) (λ s r. if_behind (behind (codes ";") r) (λ r2. Some (s, r2)) None)) ≡ Some (x, rest) → IsSpeltWhole x ws rest
-    by_end (Some r) is h =
-        let same = some_pair Empty x r rest h in
-        subst (λ y. IsSpeltWhole y ws rest) same.0 (refl, behind_takes (codes ";") ws r is ∙ ap (λ xs. sign (codes ";") ∷ xs) same.1)
-    by_end None is h =
-        let p = bound_parts (body_at ws) _ x rest h in
-        let q = need_parts (behind (codes ";") p.words) _ x rest p.then in
-        let same = some_pair p.tree x q.words rest q.then in
-        let b = body_takes ws p.tree p.words p.first in
-        subst (λ y. IsSpeltWhole y ws rest) same.0
-        (b.0, b.1 ∙ ap (λ xs. statement_body p.tree ++ xs) (behind_takes (codes ";") p.words q.words q.first ∙ ap (λ xs. sign (codes ";") ∷ xs) same.1) ∙ sym (append_assoc (statement_body p.tree) (sign (codes ";") ∷ []) rest))

@@ -1,5 +1,5 @@
 -- What a reading function answers: the tree that its rule takes and the place behind it, unless memory ran out.
-use Rattle.std.specs.Prelude.{◌≡◌, ℕ, List, Option, Some, None, Result, Ok, Err, ⊤}
+use Rattle.std.specs.Prelude.{◌≡◌, ℕ, List, [], ◌∷◌, Option, Some, None, Result, Ok, Err, ⊤}
 use Rattle.std.specs.Borrow.{Bor}
 use Rattle.cpo_text.specs.Words.{Word}
 use Rattle.cpo_text.specs.Runs.{words_of}
@@ -17,6 +17,12 @@ abbrev pub Gives : {X : Type 0} → Result (X × Place) Fault → Found X → Ty
 Gives (Ok x) found = found ≡ Some (x.0, ahead x.1)
 Gives (Err Outside) found = found ≡ None
 Gives (Err NoMemory) found = ⊤
+
+-- of a reader of lists that is to find one
+abbrev pub GivesOne : {X : Type 0} → Result (X × Place) Fault → Found (List X) → Type 0
+GivesOne (Ok x) found = found ≡ Some (x.0 ∷ [], ahead x.1)
+GivesOne (Err Outside) found = found ≡ None
+GivesOne (Err NoMemory) found = ⊤
 
 abbrev pub GivesName : Result (Bor (List ℕ) × Place) Fault → Found (List ℕ) → Type 0
 GivesName (Ok x) found = found ≡ Some (x.0.now, ahead x.1)

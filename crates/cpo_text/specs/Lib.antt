@@ -1,10 +1,14 @@
 pub mod Words
 pub mod Tokens
 pub mod Runs
+pub mod Parts
+pub mod Expressions
 pub mod Spelling
 pub mod Lexing
 pub mod Places
 pub mod Rules
+pub mod Levels
+pub mod Statements
 pub mod Gives
 pub mod Surveys
 pub mod Reads

@@ -11,15 +11,8 @@ use Rattle.cpo_text.specs.declared.tree.Ivarg.TheVariants.{Start, End, Size}
 use Rattle.cpo_text.specs.declared.tree.Definition.{Definition}
 use Rattle.cpo_text.specs.declared.tree.Definition.TheVariants.{IntervalVar}
 use Rattle.cpo_text.specs.declared.tree.Temporal.{Temporal}
-use Rattle.cpo_text.specs.declared.tree.Temporal.TheVariants.{EndBeforeStart}
 use Rattle.cpo_text.specs.declared.tree.Constrained.{Constrained}
 use Rattle.cpo_text.specs.declared.tree.Constrained.TheVariants.{Between}
-use Rattle.cpo_text.specs.declared.tree.Sense.{Sense}
-use Rattle.cpo_text.specs.declared.tree.Sense.TheVariants.{Minimize}
-use Rattle.cpo_text.specs.declared.tree.Logic.{Logic}
-use Rattle.cpo_text.specs.declared.tree.Logic.TheVariants.{EndOf}
-use Rattle.cpo_text.specs.declared.tree.Statement.{Statement}
-use Rattle.cpo_text.specs.declared.tree.Statement.TheVariants.{Empty, Define, Constrain, Aim}
 
 -- a tree and the words behind it
 abbrev pub Found : Type 0 → Type 0
@@ -97,21 +90,3 @@ between_at t ws = if_behind (behind (codes "(") ws) (λ r. bound (name_at r) (λ
 -- a name in round brackets
 unfoldable pub enclosed_at : List Word → Found (List ℕ)
 enclosed_at ws = if_behind (behind (codes "(") ws) (λ r. bound (name_at r) (λ a r2. if_behind (behind (codes ")") r2) (λ r3. Some (a, r3)) None)) None
-
-unfoldable pub logic_at : List Word → Found Logic
-logic_at ws = bound (name_at ws) (λ n r. if bytes_eq n (codes "endOf") then bound (enclosed_at r) (λ a r2. Some (EndOf a, r2)) else None)
-
-unfoldable pub aim_at : Sense → List Word → Found Statement
-aim_at s ws = if_behind (behind (codes "(") ws) (λ r. bound (logic_at r) (λ e r2. if_behind (behind (codes ")") r2) (λ r3. Some (Aim s e, r3)) None)) None
-
--- what begins with a call word
-unfoldable pub called_at : List ℕ → List Word → Found Statement
-called_at n ws = if bytes_eq n (codes "endBeforeStart") then bound (between_at EndBeforeStart ws) (λ c r. Some (Constrain c, r))
-    else (if bytes_eq n (codes "minimize") then aim_at Minimize ws else None)
-
--- a statement without its semicolon
-unfoldable pub body_at : List Word → Found Statement
-body_at ws = bound (name_at ws) (λ n r. if_behind (behind (codes "=") r) (λ r2. bound (definition_at r2) (λ d r3. Some (Define n d, r3))) (called_at n r))
-
-unfoldable pub statement_at : List Word → Found Statement
-statement_at ws = if_behind (behind (codes ";") ws) (λ r. Some (Empty, r)) (bound (body_at ws) (λ s r. if_behind (behind (codes ";") r) (λ r2. Some (s, r2)) None))

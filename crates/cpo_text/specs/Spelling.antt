@@ -1,8 +1,10 @@
 -- The grammar: each tree has one spelling, a list of words. A run is a statement exactly where it is the spelling of a tree.
-use Rattle.std.specs.Prelude.{◌≡◌, ℕ, ◌==◌, Bool, true, false, not, ◌&&◌, List, [], ◌∷◌, ◌++◌, map, codes, Option, Some, None}
+use Rattle.std.specs.Prelude.{◌≡◌, ℕ, ◌==◌, Bool, true, not, ◌&&◌, List, [], ◌∷◌, ◌++◌, map, codes, Option, Some, None}
 use Rattle.std.specs.List.{list_all}
-use Rattle.cpo_text.specs.Words.{Word, size_word, call}
+use Rattle.cpo_text.specs.Words.{Word, call}
 use Rattle.cpo_text.specs.Words.Word.{name, sign}
+pub use Rattle.cpo_text.specs.Parts.{minus_words, int_words, int_items, name_words}
+use Rattle.cpo_text.specs.Expressions.{logic_words, is_logic}
 use Rattle.cpo_text.specs.declared.tree.Int.{Int}
 use Rattle.cpo_text.specs.declared.tree.Range.{Range}
 use Rattle.cpo_text.specs.declared.tree.Ivarg.{Ivarg}
@@ -10,31 +12,13 @@ use Rattle.cpo_text.specs.declared.tree.Ivarg.TheVariants.{Start, End, Size}
 use Rattle.cpo_text.specs.declared.tree.Definition.{Definition}
 use Rattle.cpo_text.specs.declared.tree.Definition.TheVariants.{IntervalVar}
 use Rattle.cpo_text.specs.declared.tree.Temporal.{Temporal}
-use Rattle.cpo_text.specs.declared.tree.Temporal.TheVariants.{EndBeforeStart}
+use Rattle.cpo_text.specs.declared.tree.Temporal.TheVariants.{StartBeforeStart, StartBeforeEnd, EndBeforeStart, EndBeforeEnd, StartAtStart, StartAtEnd, EndAtStart, EndAtEnd}
 use Rattle.cpo_text.specs.declared.tree.Constrained.{Constrained}
-use Rattle.cpo_text.specs.declared.tree.Constrained.TheVariants.{Between}
+use Rattle.cpo_text.specs.declared.tree.Constrained.TheVariants.{Between, Holds}
 use Rattle.cpo_text.specs.declared.tree.Sense.{Sense}
-use Rattle.cpo_text.specs.declared.tree.Sense.TheVariants.{Minimize}
-use Rattle.cpo_text.specs.declared.tree.Logic.{Logic}
-use Rattle.cpo_text.specs.declared.tree.Logic.TheVariants.{EndOf}
+use Rattle.cpo_text.specs.declared.tree.Sense.TheVariants.{Minimize, Maximize}
 use Rattle.cpo_text.specs.declared.tree.Statement.{Statement}
 use Rattle.cpo_text.specs.declared.tree.Statement.TheVariants.{Empty, Define, Constrain, Aim}
-
--- the minus sign, or nothing
-abbrev pub minus_words : Bool → List Word
-minus_words true = sign (codes "-") ∷ []
-minus_words false = []
-
-abbrev pub int_words : Int → List Word
-int_words i = minus_words i.minus ++ size_word i.size ∷ []
-
--- one more argument, where it is there
-abbrev pub int_items : Option Int → List (List Word)
-int_items None = []
-int_items (Some i) = int_words i ∷ []
-
-abbrev pub name_words : List ℕ → List Word
-name_words n = name n ∷ []
 
 abbrev pub to_words : Option Int → List Word
 to_words None = []
@@ -55,16 +39,22 @@ abbrev pub definition_words : Definition → List Word
 definition_words (IntervalVar args) = call (codes "intervalVar") (map ivarg_words args)
 
 abbrev pub temporal_word : Temporal → List ℕ
+temporal_word StartBeforeStart = codes "startBeforeStart"
+temporal_word StartBeforeEnd = codes "startBeforeEnd"
 temporal_word EndBeforeStart = codes "endBeforeStart"
+temporal_word EndBeforeEnd = codes "endBeforeEnd"
+temporal_word StartAtStart = codes "startAtStart"
+temporal_word StartAtEnd = codes "startAtEnd"
+temporal_word EndAtStart = codes "endAtStart"
+temporal_word EndAtEnd = codes "endAtEnd"
 
 abbrev pub constraint_words : Constrained → List Word
 constraint_words (Between t a b z) = call (temporal_word t) (name_words a ∷ name_words b ∷ int_items z)
-
-abbrev pub logic_words : Logic → List Word
-logic_words (EndOf a) = call (codes "endOf") (name_words a ∷ [])
+constraint_words (Holds e) = logic_words e
 
 abbrev pub sense_word : Sense → List ℕ
 sense_word Minimize = codes "minimize"
+sense_word Maximize = codes "maximize"
 
 abbrev pub statement_body : Statement → List Word
 statement_body Empty = []
@@ -76,7 +66,7 @@ statement_body (Aim s e) = call (sense_word s) (logic_words e ∷ [])
 abbrev pub spelling : Statement → List Word
 spelling s = statement_body s ++ sign (codes ";") ∷ []
 
--- what the spelling doesn't say: each kind of argument of an interval at most once
+-- what the spelling doesn't say: each kind of argument of an interval at most once, brackets where an operand needs them
 abbrev pub ivarg_sort : Ivarg → ℕ
 ivarg_sort (Start r) = 1
 ivarg_sort (End r) = 2
@@ -88,6 +78,8 @@ are_distinct (x ∷ xs) = list_all (λ y. not (x == y)) xs && are_distinct xs
 
 abbrev pub is_formed : Statement → Bool
 is_formed (Define n (IntervalVar args)) = are_distinct (map ivarg_sort args)
+is_formed (Constrain (Holds e)) = is_logic e
+is_formed (Aim s e) = is_logic e
 is_formed _ = true
 
 -- the words are the statement

@@ -1,12 +1,12 @@
 ghost use Rattle.std.specs.Prelude.{◌≡◌, []};
 ghost use Rattle.cpo_text.specs.Spelling.{ivarg_sort};
-ghost use Rattle.cpo_text.specs.Rules.{given_at, ivarg_of, ivarg_at, has_sort, ivargs_at, interval_at, definition_at, between_at, enclosed_at, logic_at, aim_at, called_at, body_at, statement_at};
+ghost use Rattle.cpo_text.specs.Rules.{given_at, ivarg_of, ivarg_at, has_sort, ivargs_at, interval_at, definition_at, between_at, enclosed_at};
 ghost use Rattle.cpo_text.specs.Gives.{ahead, Gives};
 
 use crate::fault::Fault;
 use crate::parts::{behind, copy, int_behind, name, range, sign};
 use crate::place::Place;
-use crate::tree::{Constrained, Definition, Ivarg, Logic, Range, Sense, Statement, Temporal};
+use crate::tree::{Constrained, Definition, Ivarg, Range, Temporal};
 use sched_base::List;
 use std::alloc::Global;
 
@@ -95,7 +95,7 @@ fn interval(alloc: Global, place: Place<'_>) -> Result<(Definition, Place<'_>), 
 }
 
 #[tactic(auto, unfolding(crate::specs::Rules::definition_at))]
-fn definition(alloc: Global, place: Place<'_>) -> Result<(Definition, Place<'_>), Fault>
+pub fn definition(alloc: Global, place: Place<'_>) -> Result<(Definition, Place<'_>), Fault>
     ensures { Gives result (definition_at (ahead place.entry)) }
 {
     let (word, rest) = name(place)?;
@@ -106,7 +106,7 @@ fn definition(alloc: Global, place: Place<'_>) -> Result<(Definition, Place<'_>)
 }
 
 #[tactic(auto, unfolding(crate::specs::Rules::between_at))]
-fn between(
+pub fn between(
     alloc: Global,
     temporal: Temporal,
     place: Place<'_>,
@@ -124,74 +124,10 @@ fn between(
 
 /// A name in round brackets.
 #[tactic(auto, unfolding(crate::specs::Rules::enclosed_at))]
-fn enclosed(alloc: Global, place: Place<'_>) -> Result<(List<u8>, Place<'_>), Fault>
+pub fn enclosed(alloc: Global, place: Place<'_>) -> Result<(List<u8>, Place<'_>), Fault>
     ensures { Gives result (enclosed_at (ahead place.entry)) }
 {
     let (bytes, rest) = name(sign(b"(", place)?)?;
     let rest = sign(b")", rest)?;
     Ok((copy(alloc, bytes)?, rest))
-}
-
-#[tactic(auto, unfolding(crate::specs::Rules::logic_at))]
-fn logic(alloc: Global, place: Place<'_>) -> Result<(Logic, Place<'_>), Fault>
-    ensures { Gives result (logic_at (ahead place.entry)) }
-{
-    let (word, rest) = name(place)?;
-    if word == b"endOf".as_slice() {
-        let (interval, rest) = enclosed(alloc, rest)?;
-        return Ok((Logic::EndOf(interval), rest));
-    }
-    Err(Fault::Outside)
-}
-
-#[tactic(auto, unfolding(crate::specs::Rules::aim_at))]
-fn aim(alloc: Global, sense: Sense, place: Place<'_>) -> Result<(Statement, Place<'_>), Fault>
-    ensures { Gives result (aim_at sense (ahead place.entry)) }
-{
-    let (logic, rest) = logic(alloc, sign(b"(", place)?)?;
-    let rest = sign(b")", rest)?;
-    Ok((Statement::Aim(sense, logic), rest))
-}
-
-/// The constraint or objective that this call word begins.
-#[tactic(auto, unfolding(crate::specs::Rules::called_at))]
-fn called<'a>(alloc: Global, word: &[u8], place: Place<'a>) -> Result<(Statement, Place<'a>), Fault>
-    ensures { Gives result (called_at word.now (ahead place.entry)) }
-{
-    if word == b"endBeforeStart".as_slice() {
-        let (constraint, rest) = between(alloc, Temporal::EndBeforeStart, place)?;
-        return Ok((Statement::Constrain(constraint), rest));
-    }
-    if word == b"minimize".as_slice() {
-        return aim(alloc, Sense::Minimize, place);
-    }
-    Err(Fault::Outside)
-}
-
-/// A statement without its semicolon.
-#[tactic(auto, unfolding(crate::specs::Rules::body_at))]
-fn body(alloc: Global, place: Place<'_>) -> Result<(Statement, Place<'_>), Fault>
-    ensures { Gives result (body_at (ahead place.entry)) }
-{
-    let (word, rest) = name(place)?;
-    match behind(b"=", rest) {
-        Some(rest) => {
-            let (definition, rest) = definition(alloc, rest)?;
-            Ok((Statement::Define(copy(alloc, word)?, definition), rest))
-        }
-        None => called(alloc, word, rest),
-    }
-}
-
-/// A statement with its semicolon. Reading stops at the first token that leaves the grammar.
-#[tactic(auto, unfolding(crate::specs::Rules::statement_at))]
-pub fn statement(alloc: Global, place: Place<'_>) -> Result<(Statement, Place<'_>), Fault>
-    ensures { Gives result (statement_at (ahead place.entry)) }
-{
-    if let Some(rest) = behind(b";", place) {
-        return Ok((Statement::Empty, rest));
-    }
-    let (statement, rest) = body(alloc, place)?;
-    let rest = sign(b";", rest)?;
-    Ok((statement, rest))
 }

@@ -63,7 +63,7 @@ fn bad_bytes(rt: HostRuntime) {
 
 #[test]
 fn statements(rt: HostRuntime) {
-    let rows: [(&[u8], u32); 31] = [
+    let rows: [(&[u8], u32); 40] = [
         (b";", 0),
         (b"a = intervalVar();", 0),
         (b"intervalVar = intervalVar();", 0),
@@ -83,8 +83,20 @@ fn statements(rt: HostRuntime) {
         (b"endBeforeStart(a,b,2,3);", 2),
         (b"endBeforeStart(a);", 2),
         (b"minimize(endOf(a));", 0),
-        (b"minimize(endOf(a,1));", 2),
-        (b"maximize(endOf(a));", 2),
+        (b"minimize(endOf(a,1));", 0),
+        (b"maximize(endOf(a));", 0),
+        (b"maximize(1, 2);", 2),
+        (b"startAtEnd(a,b,5);", 0),
+        (b"-2*3+4-5==(1)=>7;", 0),
+        (
+            b"max([startOf(a),sizeOf(b,-1)])<5&&!presenceOf(a)||sum([])!=1;",
+            0,
+        ),
+        (b"max([])>0;", 2),
+        (b"1==2==3;", 2),
+        (b"--1;", 2),
+        (b"1+(-1)-(2);", 0),
+        (b"maximize(2*4611686018427387905);", 3),
         (b"endBeforeStart(a,b,4611686018427387904);", 0),
         (b"endBeforeStart(a,b,4611686018427387905);", 3),
         (b"endBeforeStart(a,b,-4611686018427387905);", 3),

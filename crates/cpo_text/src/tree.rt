@@ -1,3 +1,4 @@
+use crate::expression::Logic;
 use sched_base::List;
 
 /// `[ "-" ] INT`: a number as it is written, so that `-0` and `0` are two trees.
@@ -32,26 +33,29 @@ pub enum Definition {
 /// The word of a precedence constraint.
 #[derive(Clone, Copy, Debug, PartialEq, Eq)]
 pub enum Temporal {
+    StartBeforeStart,
+    StartBeforeEnd,
     EndBeforeStart,
+    EndBeforeEnd,
+    StartAtStart,
+    StartAtEnd,
+    EndAtStart,
+    EndAtEnd,
 }
 
 /// A constraint. `Between` has the names of two intervals and the delay that is asked between
-/// them, where one is written.
+/// them, where one is written; `Holds` is an expression that has to hold.
 #[derive(Debug, Drop)]
 pub enum Constrained {
     Between(Temporal, List<u8>, List<u8>, Option<Int>),
+    Holds(Logic),
 }
 
 /// The word of an objective.
 #[derive(Clone, Copy, Debug, PartialEq, Eq)]
 pub enum Sense {
     Minimize,
-}
-
-/// An expression as it is written.
-#[derive(Debug, Drop)]
-pub enum Logic {
-    EndOf(List<u8>),
+    Maximize,
 }
 
 /// A statement as it is written, without its semicolon. Names are the bytes of the text.

@@ -6,9 +6,9 @@ ghost use Rattle.cpo_text.specs.Surveys.{first_run, after_run};
 ghost use Rattle.cpo_text.specs.Reads.{HasForm, AreReadings, told, Reads};
 
 use crate::fault::Fault;
-use crate::grammar::statement;
 use crate::place::Place;
 use crate::scan::scan;
+use crate::statement::statement;
 use crate::survey::survey_run;
 use crate::text::{Form, ReadFault, Reading, Refusal, TEXT_LIMIT, TOLD_LIMIT, Tree};
 use sched_base::{List, NoMemory};

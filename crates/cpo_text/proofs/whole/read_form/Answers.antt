@@ -1,6 +1,7 @@
 use Rattle.cpo_text.specs.Gives.{ahead}
 use Rattle.cpo_text.specs.Places.{left}
 use Rattle.cpo_text.proofs.Forms.{early_number, outside_number, large_number, parsed}
+use Rattle.cpo_text.proofs.Shorts.{left_short}
 use Rattle.cpo_text.proofs.whole.read_form.Goals as goal
 
 pub returns-in-Some-clause-form : goal.returns-in-Some-clause-form
@@ -8,7 +9,7 @@ returns-in-Some-clause-form c = early_number (left c.args.place) _ _ c.survey_ru
 
 pub returns-in-Err-Outside-clause-form : goal.returns-in-Err-Outside-clause-form
 unfolding ahead
-returns-in-Err-Outside-clause-form c = outside_number (left c.args.place) _ c.survey_run.ensures.survey c.in_default.ensures (rw c.in-Err-Outside.field-0-is at c.in-Err-Outside.ensures)
+returns-in-Err-Outside-clause-form c = outside_number (left c.args.place) _ c.survey_run.ensures.survey c.in_default.ensures (left_short c.args.place c.args.place.short) (rw c.in-Err-Outside.field-0-is at c.in-Err-Outside.ensures)
 
 pub returns-then-survey-clause-form : goal.returns-then-survey-clause-form
 unfolding ahead
