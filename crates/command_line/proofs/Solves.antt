@@ -480,7 +480,9 @@ found_is (Some p) a b n is = ap (λ (q : Answer). taken_found q.0 q.1 q.2) (ap (
 pub outcome : (ws : List Word) (r : Result ArgMatches Error) → EachUtf8 ws → FailsBy (fault_of solve_app ws) r → IfOk r (HasMatchesOf solve_app ws)
     → IfOk r (λ m. solve_of ws ≡ solve_found (first_value (found_of m) (codes "model")) (first_value (found_of m) (codes "log")) (first_value (found_of m) (codes "nodes")))
     × IfErr r (λ x. (kind_of x ≡ kind.OutOfMemory) ⊎ (solve_of ws ≡ None))
-outcome ws (Ok m) u clear has =
-    (sym (solve_is ws) ∙ ap (option_and_then tested) (found_is (all_taken ws) _ _ _ (ok_gives ws m u clear (has refl).0)) 
-    ∙ found_tested (first_value (found_of m) (codes "model")) (first_value (found_of m) (codes "log")) (first_value (found_of m) (codes "nodes")), tt)
+outcome ws (Ok m) u clear has = (
+  sym (solve_is ws) ∙ ap (option_and_then tested) (found_is (all_taken ws) _ _ _ (ok_gives ws m u clear (has refl).0))
+      ∙ found_tested (first_value (found_of m) (codes "model")) (first_value (found_of m) (codes "log")) (first_value (found_of m) (codes "nodes")),
+  tt,
+)
 outcome ws (Err x) u fails has = (tt, err_gives ws x u fails)

@@ -24,9 +24,14 @@ pub enum Command<'a> {
         nodes: u32,
     },
     /// Check the log against the model.
-    Check { model: &'a str, log: &'a str },
+    Check {
+        model: &'a str,
+        log: &'a str,
+    },
     /// Print the model in its canonical form.
-    Show { model: &'a str },
+    Show {
+        model: &'a str,
+    },
 }
 
 ghost use Rattle.command_line.specs.Found.{seen_of};
