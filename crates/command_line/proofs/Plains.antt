@@ -2,12 +2,11 @@
 use Rattle.std.proofs.Common.{◌≡◌, ◌∙◌, ◌⊎◌, ◌++◌, ℕ, Bool, true, false, refl, sym, ap, ap₂, subst, List, [], ◌∷◌, Option, Some, None, option_map, codes, inl, inr, Result, Ok, Err, IfOk, IfErr}
 use Rattle.std.specs.Prelude.{slice_get, option_and_then, unwrap_or}
 use Rattle.std.specs.Str.{bytes_eq, chars}
-use Rattle.clap.specs.Walk.{Held, Row, Rule, Text, Walk, first_of, idle, nothing_held, used, rows_of, walk_from, walked}
+use Rattle.clap.specs.Walk.{Held, Row, Text, Walk, first_of, idle, nothing_held, used, rows_of, walk_from, walked}
 use Rattle.clap.specs.Simple.{App, HasMatchesOf, Shape, matches_of, built, filled, new_app, with_index, with_rule}
-use Rattle.clap.specs.Faults.{fault_of, flags_fault, turn_fault, bundle_fault}
-use Rattle.clap.specs.declared.error.kind.ErrorKind.{ErrorKind}
+use Rattle.clap.specs.Faults.{fault_of, flags_fault, bundle_fault}
 use Rattle.clap.specs.declared.error.kind.ErrorKind.TheVariants as kind
-use Rattle.clap.specs.Kinds.{FailsBy, HasKind, Kinds, or_else}
+use Rattle.clap.specs.Kinds.{FailsBy, HasKind, Kinds}
 use Rattle.clap.specs.Matches.{first_value, found_of}
 use Rattle.clap.specs.Values.{kind_of}
 use Rattle.clap.specs.declared.error.Error.{Error}

@@ -1,6 +1,6 @@
 -- What clap makes of a command with two positional words and `--nodes`.
-use Rattle.std.proofs.Common.{◌≡◌, ◌∙◌, ◌⊎◌, ◌++◌, ℕ, Bool, true, false, refl, sym, ap, ap₂, subst, List, [], ◌∷◌, Option, Some, None, option_map, codes, inl, inr, Result, Ok, Err, IfOk, IfErr}
-use Rattle.std.specs.Prelude.{slice_get, option_and_then, fold, unwrap_or}
+use Rattle.std.proofs.Common.{◌≡◌, ◌∙◌, ◌⊎◌, ◌++◌, ℕ, Bool, true, false, refl, sym, ap, subst, List, [], ◌∷◌, Option, Some, None, option_map, codes, inl, inr, Result, Ok, Err, IfOk, IfErr}
+use Rattle.std.specs.Prelude.{slice_get, option_and_then, unwrap_or}
 use Rattle.std.specs.Str.{bytes_eq, chars}
 use Rattle.clap.specs.Walk.{Held, Row, Rule, Text, Walk, Waiting, arg_by_long, finished, first_of, has_row, idle, option, nothing_held, settled, settled_rows, used, rows_of, walk_from, walked}
 use Rattle.clap.specs.Simple.{App, HasMatchesOf, Shape, matches_of, built, filled, new_app, with_index, new_rule, with_rule}

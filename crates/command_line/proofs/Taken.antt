@@ -1,8 +1,8 @@
 -- What clap takes of the words of `solve`: a word that looks as an option is no value of `--nodes`.
-use Rattle.std.proofs.Common.{◌≡◌, ◌==◌, Bool, true, false, refl, sym, ap, ◌∙◌, List, [], ◌∷◌, Option, Some, None, option_map, codes, eqb-true}
+use Rattle.std.proofs.Common.{◌≡◌, Bool, true, false, refl, sym, ap, ◌∙◌, List, [], ◌∷◌, Option, Some, None, option_map, codes, eqb-true}
 use Rattle.std.specs.Prelude.{◌||◌, option_and_then, if◌then◌else◌}
 use Rattle.std.specs.Str.{bytes_eq}
-use Rattle.command_line.specs.Commands.{Command, Parts, Word, is_limit, is_option, limit_of, parts_of, placed, solve_in, solve_of, stripped, with_argument, with_limit}
+use Rattle.command_line.specs.Commands.{Command, Parts, Word, is_option, limit_of, parts_of, placed, solve_in, solve_of, stripped, with_argument, with_limit}
 use Rattle.command_line.specs.Found.{listed, solve_found}
 
 abbrev pub taken_of : Bool → List Word → Option Parts

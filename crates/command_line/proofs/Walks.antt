@@ -1,8 +1,7 @@
 -- What clap makes of some words, as a walk over them: its faults, and the values that it finds.
-use Rattle.std.proofs.Common.{◌≡◌, ◌∙◌, ◌⊎◌, ℕ, Bool, true, false, refl, sym, ap, ap₂, List, [], ◌∷◌, map, Option, Some, None, inl, inr, is_some, String, string_bytes}
-use Rattle.std.specs.Prelude.{⊤, slice_get, fold, IsUtf8}
-use Rattle.std.specs.Str.{bytes_eq, chars}
-use Rattle.clap.specs.Walk.{Held, Row, Rule, Text, Walk, Waiting, finished, nothing_held, settled, walk, walk_from, walked}
+use Rattle.std.proofs.Common.{◌≡◌, ℕ, Bool, true, false, refl, ap, ap₂, List, [], ◌∷◌, map, Option, Some, None, is_some, String, string_bytes}
+use Rattle.std.specs.Prelude.{⊤, fold, IsUtf8}
+use Rattle.clap.specs.Walk.{Row, Rule, Text, Walk, Waiting, finished, nothing_held, settled, walk, walk_from, walked}
 use Rattle.clap.specs.Simple.{App, Shape, entered, new_rule, on_top}
 use Rattle.clap.specs.Faults.{level_fault, check_fault, defaults_fault, entered_fault, settle_fault, turn_fault, walk_fault}
 use Rattle.clap.specs.declared.error.kind.ErrorKind.{ErrorKind}

@@ -4,6 +4,8 @@ ghost use Rattle.command_line.specs.Found.{listed};
 
 const MOST_DIGITS: usize = 8;
 
+const FEWEST_NODES: u32 = 1;
+
 const MOST_NODES: u32 = 10_000_000;
 
 /// The limit where the words give none.
@@ -19,7 +21,7 @@ fn limit_in(digits: &str) -> Option<u32>
     let Ok(nodes) = digits.parse::<u32>() else {
         return None;
     };
-    if nodes == 0 || nodes > MOST_NODES {
+    if nodes < FEWEST_NODES || nodes > MOST_NODES {
         return None;
     }
     Some(nodes)

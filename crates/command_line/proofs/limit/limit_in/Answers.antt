@@ -15,4 +15,4 @@ returns c =
     let plain : get_or c.args.digits.now 0 0 ≢ 43 =
     not_from_Decides _ (starts_char 43 _ _ c.starts_with.ensures.cases (omega arith) (omega arith)) c.if-starts_with.false in
     limit_is c.args.digits.now _ _ c.parse.ensures.value.0 plain c.in-Ok.is
-    (omega (arith, c.if-digits-gt-MOST_DIGITS.false)) (omega (arith, c.if-nodes-eq0.false)) (omega (arith, c.if-nodes-gt-MOST_NODES.false))
+    (omega (arith, c.if-digits-gt-MOST_DIGITS.false)) (omega (arith, c.if-nodes-lt-FEWEST_NODES.false)) (omega (arith, c.if-nodes-gt-MOST_NODES.false))
