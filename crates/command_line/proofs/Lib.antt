@@ -1,0 +1,6 @@
+mod Classes
+mod Walks
+mod Taken
+mod Plains
+mod Solves
+mod Limits

@@ -1,0 +1,10 @@
+//! The words of the program, and which command they are.
+#![tactic(auto)]
+
+mod arguments;
+mod commands;
+mod limit;
+#[cfg(test)]
+mod tests;
+
+pub use commands::{Command, WordsFault, read_command};
