@@ -20,7 +20,7 @@ in_file None name P is = tt
 in_file (Some fs) name P is = is
 
 judged_file : (s o : State) (log : Bytes) (u : Unit {0}) (P : Bytes → Type 0) → Opens Log log (Ok u) s o → IfSome (left_in Log o) P → IfFile s log P
-judged_file s o log u P opens is = in_file s.files log P (subst (λ left. IfSome left P) (ap (λ (x : State). left_in Log x) opens.opened) is)
+judged_file s o log u P opens is = (opens.there, in_file s.files log P (subst (λ left. IfSome left P) (ap (λ (x : State). left_in Log x) opens.opened) is))
 
 pub not_accepted : (m : Data) (log : Bytes) (e : CheckFault) (u : Unit {0}) (s o t : State) → Opens Log log (Ok u) s o → Checks m (Err e) o t → JudgesFile m log (Err (stop_of_check e)) s t
 not_accepted m log (fault.Refused k) u s o t opens checks = judged_file s o log u (λ bytes. Judges m (log_bytes bytes) (Err (fault.Refused k))) opens checks.judgement

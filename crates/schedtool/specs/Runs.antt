@@ -32,9 +32,9 @@ use Rattle.schedtool.specs.Told.{Tells, Reports, usage_line, fault_line, memory_
 
 -- The files of a desk.
 
--- of the bytes in the file of this name, where the desk tells its files and has such a file
+-- where the desk tells its files, the file of this name is there, and this holds of its bytes
 abbrev pub IfFile : State → Bytes → (Bytes → Type 0) → Type 0
-IfFile s name P = IfSome s.files (λ files. IfSome (bytes_of files name) P)
+IfFile s name P = IfSome s.files (λ files. IsSome (bytes_of files name)) × IfSome s.files (λ files. IfSome (bytes_of files name) P)
 
 -- of a longer file the first 16,777,217 bytes decide
 abbrev pub model_bytes : Bytes → Bytes
