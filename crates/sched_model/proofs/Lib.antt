@@ -1,3 +1,14 @@
 pub mod Lists
 pub mod Truth
+pub mod Joined
+pub mod Valued
+pub mod Saturating
+pub mod Present
+pub mod Levels
+pub mod Orders
+pub mod Cells
 pub mod Tested
+pub mod Segments
+pub mod Elements
+pub mod Corners
+pub mod Moments

@@ -2,16 +2,34 @@
 //! solution. The definitions stand in `specs/`; the functions here compute them.
 #![tactic(auto)]
 
-mod meaning;
+mod changes;
+mod cumulative;
+mod distances;
+mod domain;
+mod hierarchy;
+mod hulls;
+#[cfg(test)]
+mod sentence_tests;
+mod sentences;
+mod sequence;
+mod slots;
+mod states;
+mod temporal;
 #[cfg(test)]
 mod tests;
 mod types;
+mod values;
 mod whole;
 
-pub use meaning::{holds, in_domain, is_solution, value};
-pub use sched_base::{Con, H, Itv, List, NoMemory};
+pub use domain::in_domain;
+pub use hulls::hull;
+pub use sched_base::{Boxed, Con, Cum, H, Itv, List, Mat, NoMemory, Seq, Stf};
+pub use sentences::{holds, is_solution, value};
+pub use slots::Slots;
+pub use temporal::is_precedence;
 pub use types::{
-    Answer, Assignment, Constraint, End, Expr, IntervalDef, Name, Objective, Segment, Sense, Slot,
-    Solved,
+    Answer, Assignment, CompareOp, Constraint, CumulDef, End, Expr, IntervalDef, MatrixDef, Name,
+    Objective, Part, Segment, Sense, SequenceDef, Shape, Slot, Solved, StateDef, Window,
 };
-pub use whole::Model;
+pub use values::value_in;
+pub use whole::{Model, Parts};

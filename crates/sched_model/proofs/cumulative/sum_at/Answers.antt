@@ -1,0 +1,18 @@
+use Rattle.std.proofs.Common.{◌≡◌, ◌∙◌, ap, arith, map, rules, to_z, of_z, w64}
+use Rattle.std.proofs.lemmas.Int.{ints}
+use Rattle.sched_model.specs.Words.{total}
+use Rattle.sched_model.specs.Cumulative.{shape_at, signed}
+use Rattle.sched_model.proofs.Levels.{sum_end, sum_turn}
+use Rattle.sched_model.proofs.cumulative.sum_at.Goals as goal
+
+pub loop-part-preserved : goal.loop-part-preserved
+loop-part-preserved c = record {
+  same = sum_turn (λ i. signed i.minus (shape_at c.args.a.now i.shape (to_z w64 (of_z w64 c.args.t)))) c.args.parts.now c.loop-part.part-index _ c.part_at-sum.result _ _ _ c.loop-part.invariant.same c.loop-part-test.true c.part_at-sum.ensures.value (omega (arith, ints));
+  from = omega (arith, ints);
+  to = omega (arith, ints);
+}
+
+pub returns : goal.returns
+returns c = let same : to_z w64 (of_z w64 c.args.t) ≡ c.args.t = search rules in
+    sum_end (λ i. signed i.minus (shape_at c.args.a.now i.shape (to_z w64 (of_z w64 c.args.t)))) c.args.parts.now c.loop-part.part-index _ _ c.loop-part.invariant.same c.loop-part-test.false
+    ∙ ap (λ t. total (map (λ i. signed i.minus (shape_at c.args.a.now i.shape t)) c.args.parts.now)) same
