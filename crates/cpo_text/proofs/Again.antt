@@ -3,13 +3,13 @@ use Rattle.std.proofs.Common.{◌≡◌, ℕ, zero, suc, ◌<◌, ◌==◌, Bool
 use Rattle.std.specs.Prelude.{codes}
 use Rattle.std.specs.List.{list_all}
 use Rattle.cpo_text.specs.Words.{Word, size_word, commas, round}
-use Rattle.cpo_text.specs.Words.Word.{sign}
-use Rattle.cpo_text.specs.Spelling.{int_words, minus_words, int_items, to_words, range_words, name_words, ivarg_words, ivarg_sort, are_distinct, definition_words}
-use Rattle.cpo_text.specs.Rules.{behind, size_at, signed_at, int_at, int_behind, range_at, given_at, ivarg_of, ivarg_at, has_sort, ivargs_more, ivargs_at, interval_at, definition_at, between_at}
+use Rattle.cpo_text.specs.Words.Word.{name, sign}
+use Rattle.cpo_text.specs.Spelling.{int_words, minus_words, int_items, to_words, range_words, name_words, ivarg_words, ivarg_sort, are_distinct}
+use Rattle.cpo_text.specs.Rules.{behind, size_at, signed_at, int_at, name_before, int_before, int_behind, range_at, given_at, ivarg_of, ivarg_at, has_sort, ivargs_more, ivargs_at, interval_at, between_at}
 use Rattle.cpo_text.specs.declared.tree.Int.{Int}
 use Rattle.cpo_text.specs.declared.tree.Range.{Range}
 use Rattle.cpo_text.specs.declared.tree.Ivarg.{Ivarg}
-use Rattle.cpo_text.specs.declared.tree.Ivarg.TheVariants.{Start, End, Size}
+use Rattle.cpo_text.specs.declared.tree.Ivarg.TheVariants.{Optional, Start, End, Size}
 use Rattle.cpo_text.specs.declared.tree.Definition.TheVariants.{IntervalVar}
 use Rattle.cpo_text.specs.declared.tree.Temporal.{Temporal}
 use Rattle.cpo_text.specs.declared.tree.Constrained.TheVariants.{Between}
@@ -37,6 +37,14 @@ int_again i rest = signed i.minus refl
     signed true is = rw (signed_again true i.size rest, sym is) refl
     signed false is = rw (size_no_sign (codes "-") i.size rest, signed_again false i.size rest, sym is) refl
 
+pub name_before_again : (s : List ℕ) (a : List ℕ) (rest : List Word) → name_before s (name a ∷ sign s ∷ rest) ≡ Some (a, rest)
+unfolding name_before
+name_before_again s a rest = rw (behind_again s rest) refl
+
+pub int_before_again : (s : List ℕ) (i : Int) (rest : List Word) → int_before s (int_words i ++ sign s ∷ rest) ≡ Some (i, rest)
+unfolding int_before
+int_before_again s i rest = rw (int_again i (sign s ∷ rest)) (rw (behind_again s rest) refl)
+
 pub int_behind_again : (s : List ℕ) (o : Option Int) (rest : List Word) → behind s rest ≡ None → int_behind s (behind_words s o ++ rest) ≡ Some (o, rest)
 unfolding int_behind
 int_behind_again s None rest free = rw free refl
@@ -56,6 +64,7 @@ given_again x rest free = range_again x rest free
 
 pub ivarg_again : (a : Ivarg) (rest : List Word) → behind (codes "..") rest ≡ None → ivarg_at (ivarg_words a ++ rest) ≡ Some (a, rest)
 unfolding ivarg_at ivarg_of
+ivarg_again Optional rest free = refl
 ivarg_again (Start x) rest free = rw (given_again x rest free) refl
 ivarg_again (End x) rest free = rw (given_again x rest free) refl
 ivarg_again (Size x) rest free = rw (given_again x rest free) refl
@@ -117,24 +126,22 @@ ivargs_again a more rest distinct closed =
 
 -- the first argument is no bracket
 no_close : (a : Ivarg) (more : List Ivarg) (rest : List Word) → behind (codes ")") (args_words (a ∷ more) ++ rest) ≡ None
+no_close Optional [] rest = refl
 no_close (Start x) [] rest = refl
 no_close (End x) [] rest = refl
 no_close (Size x) [] rest = refl
+no_close Optional (b ∷ bs) rest = refl
 no_close (Start x) (b ∷ bs) rest = refl
 no_close (End x) (b ∷ bs) rest = refl
 no_close (Size x) (b ∷ bs) rest = refl
 
-interval_again : (args : List Ivarg) (rest : List Word) → are_distinct (sorts args) ≡ true → interval_at (round (args_words args) ++ rest) ≡ Some (IntervalVar args, rest)
+pub interval_again : (args : List Ivarg) (rest : List Word) → are_distinct (sorts args) ≡ true → interval_at (round (args_words args) ++ rest) ≡ Some (IntervalVar args, rest)
 unfolding interval_at
 interval_again [] rest distinct = refl
 interval_again (a ∷ more) rest distinct =
     let close : List Word = sign (codes ")") ∷ rest in
     let words : (args_words (a ∷ more) ++ sign (codes ")") ∷ []) ++ rest ≡ args_words (a ∷ more) ++ close = append_assoc (args_words (a ∷ more)) (sign (codes ")") ∷ []) rest in
     rw (words, no_close a more close, ivargs_again a more close distinct (record { comma = refl; range = refl })) refl
-
-pub definition_again : (args : List Ivarg) (rest : List Word) → are_distinct (sorts args) ≡ true → definition_at (definition_words (IntervalVar args) ++ rest) ≡ Some (IntervalVar args, rest)
-unfolding definition_at
-definition_again args rest distinct = interval_again args rest distinct
 
 pub between_again : (t : Temporal) (a b : List ℕ) (z : Option Int) (rest : List Word)
     → between_at t (round (commas (name_words a ∷ name_words b ∷ int_items z)) ++ rest) ≡ Some (Between t a b z, rest)

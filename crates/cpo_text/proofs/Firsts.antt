@@ -1,35 +1,17 @@
 -- The first run of some tokens, and a statement read at its beginning.
-use Rattle.std.proofs.Common.{◌≡◌, ℕ, ◌+◌, ◌*◌, ◌<◌, ◌≤◌, Bool, true, false, ◌||◌, cond, List, [], ◌∷◌, ◌++◌, length, map, Option, Some, None, refl, sym, ap, subst, ◌∙◌, arith, append_assoc, length-append}
+use Rattle.std.proofs.Common.{◌≡◌, ℕ, ◌+◌, ◌*◌, ◌<◌, ◌≤◌, Bool, true, false, ◌||◌, cond, List, [], ◌∷◌, ◌++◌, length, Option, Some, None, refl, sym, ap, ◌∙◌, arith, append_assoc, length-append}
 use Rattle.std.specs.Prelude.{codes}
-use Rattle.std.specs.List.{list_any}
-use Rattle.std.proofs.lemmas.List.Folds.{list_any-append}
-use Rattle.cpo_text.specs.Words.{Word, is_sign, size_word, between, commas}
+use Rattle.cpo_text.specs.Words.{Word}
 use Rattle.cpo_text.specs.Words.Word.{sign}
 use Rattle.cpo_text.specs.Tokens.{Token}
 use Rattle.cpo_text.specs.Runs.{is_end, before_runs, runs, words_of, offset}
 use Rattle.cpo_text.specs.Surveys.{first_run, after_run}
-use Rattle.cpo_text.specs.Spelling.{int_words, int_items, name_words, minus_words, to_words, range_words, ivarg_words, statement_body, spelling, IsStatement}
-use Rattle.cpo_text.specs.Expressions.{link_sign, comparison_sign, joined, all_joined, sum_words, logic_step, logic_words}
+use Rattle.cpo_text.specs.Spelling.{statement_body, spelling, IsStatement}
 use Rattle.cpo_text.specs.Statements.{statement_at}
 use Rattle.cpo_text.specs.Reads.{IsGrammatical}
-use Rattle.cpo_text.specs.declared.tree.Int.{Int}
-use Rattle.cpo_text.specs.declared.tree.Range.{Range}
-use Rattle.cpo_text.specs.declared.tree.Ivarg.{Ivarg}
-use Rattle.cpo_text.specs.declared.tree.Ivarg.TheVariants.{Start, End, Size}
-use Rattle.cpo_text.specs.declared.tree.Definition.TheVariants.{IntervalVar}
-use Rattle.cpo_text.specs.declared.tree.Constrained.TheVariants.{Between, Holds}
-use Rattle.cpo_text.specs.declared.expression.Link.{Link}
-use Rattle.cpo_text.specs.declared.expression.Link.TheVariants.{Times, And, Or}
-use Rattle.cpo_text.specs.declared.expression.Comparison.{Comparison}
-use Rattle.cpo_text.specs.declared.expression.Comparison.TheVariants.{Equal, NotEqual, AtMost, AtLeast, Below, Above}
-use Rattle.cpo_text.specs.declared.expression.Logic.{Logic, roll-Logic}
-use Rattle.cpo_text.specs.declared.expression.Logic.TheOpen.{Logic-F}
-use Rattle.cpo_text.specs.declared.expression.Logic.TheOpen.Logic-F.{Lit, Group, PresenceOf, Measured, Gathered, Linked, Neg, Sum, Compare, Not, Implies}
-use Rattle.cpo_text.specs.declared.expression.Logic.TheFolds.{fold-roll-Logic, ind-Logic, map-Logic}
 use Rattle.cpo_text.specs.declared.tree.Statement.{Statement}
-use Rattle.cpo_text.specs.declared.tree.Statement.TheVariants.{Empty, Define, Constrain, Aim}
-use Rattle.cpo_text.proofs.Spelt.{args_words}
-use Rattle.cpo_text.proofs.Openings.{composed}
+use Rattle.cpo_text.proofs.NoEnds.{ends, has_end}
+use Rattle.cpo_text.proofs.StatementEnds.{body_no_end}
 use Rattle.cpo_text.proofs.Spells.{statement_takes}
 use Rattle.cpo_text.proofs.Rereads.{statement_again}
 
@@ -78,115 +60,7 @@ joined_runs (t ∷ ts) = decided (is_end t) (joined_runs ts)
     decided true h = refl
     decided false h = ap (λ ws. t.word ∷ ws) h
 
--- the words of a statement have no semicolon but the last
-
-abbrev ends : Word → Bool
-ends w = is_sign (codes ";") w
-
-abbrev has_end : List Word → Bool
-has_end ws = list_any ends ws
-
-no_ends : (xs ys : List Word) → has_end xs ≡ false → has_end ys ≡ false → has_end (xs ++ ys) ≡ false
-no_ends xs ys a b = list_any-append ends xs ys ∙ (rw (a, b) refl)
-
-size_no_end : (o : Option ℕ) → ends (size_word o) ≡ false
-size_no_end None = refl
-size_no_end (Some n) = refl
-
-minus_no_end : (b : Bool) (o : Option ℕ) → has_end (minus_words b ++ size_word o ∷ []) ≡ false
-minus_no_end true o = rw (size_no_end o) refl
-minus_no_end false o = rw (size_no_end o) refl
-
-int_no_end : (i : Int) → has_end (int_words i) ≡ false
-int_no_end i = minus_no_end i.minus i.size
-
-to_no_end : (o : Option Int) → has_end (to_words o) ≡ false
-to_no_end None = refl
-to_no_end (Some i) = int_no_end i
-
-range_no_end : (r : Range) → has_end (range_words r) ≡ false
-range_no_end r = no_ends (int_words r.from) (to_words r.to) (int_no_end r.from) (to_no_end r.to)
-
-ivarg_no_end : (a : Ivarg) → has_end (ivarg_words a) ≡ false
-ivarg_no_end (Start r) = range_no_end r
-ivarg_no_end (End r) = range_no_end r
-ivarg_no_end (Size r) = range_no_end r
-
-args_no_end : (args : List Ivarg) → has_end (args_words args) ≡ false
-args_no_end [] = refl
-args_no_end (a ∷ []) = ivarg_no_end a
-args_no_end (a ∷ b ∷ bs) = no_ends (ivarg_words a) (sign (codes ",") ∷ args_words (b ∷ bs)) (ivarg_no_end a) (args_no_end (b ∷ bs))
-
-abbrev NoEnd : Logic → Type 0
-NoEnd e = has_end (logic_words e) ≡ false
-
-abbrev Known : Type 0
-Known = (e : Logic) × NoEnd e
-
-between_no_end : (s : List ℕ) → ends (sign s) ≡ false → (ps : List Known) → has_end (between s (map (λ p. logic_words p.0) ps)) ≡ false
-between_no_end s free [] = refl
-between_no_end s free (p ∷ []) = p.1
-between_no_end s free (p ∷ q ∷ qs) = no_ends (logic_words p.0) (sign s ∷ between s (map (λ p. logic_words p.0) (q ∷ qs))) p.1 (rw free (between_no_end s free (q ∷ qs)))
-
-joined_no_end : (ws : List Word) → has_end ws ≡ false → has_end (joined ws) ≡ false
-joined_no_end [] h = refl
-joined_no_end (w ∷ ws) h = decided (is_sign (codes "-") w)
-  where
-    decided : (b : Bool) → has_end (cond b (w ∷ ws) (sign (codes "+") ∷ w ∷ ws)) ≡ false
-    decided true = h
-    decided false = h
-
-added_no_end : (ps : List Known) → has_end (all_joined (map (λ p. logic_words p.0) ps)) ≡ false
-added_no_end [] = refl
-added_no_end (p ∷ ps) = no_ends (joined (logic_words p.0)) (all_joined (map (λ p. logic_words p.0) ps)) (joined_no_end (logic_words p.0) p.1) (added_no_end ps)
-
-sum_no_end : (ps : List Known) → has_end (sum_words (map (λ p. logic_words p.0) ps)) ≡ false
-sum_no_end [] = refl
-sum_no_end (p ∷ ps) = no_ends (logic_words p.0) (all_joined (map (λ p. logic_words p.0) ps)) p.1 (added_no_end ps)
-
-link_no_end : (l : Link) → ends (sign (link_sign l)) ≡ false
-link_no_end Times = refl
-link_no_end And = refl
-link_no_end Or = refl
-
-comparison_no_end : (op : Comparison) → ends (sign (comparison_sign op)) ≡ false
-comparison_no_end Equal = refl
-comparison_no_end NotEqual = refl
-comparison_no_end AtMost = refl
-comparison_no_end AtLeast = refl
-comparison_no_end Below = refl
-comparison_no_end Above = refl
-
-delay_no_end : (a : List ℕ) (d : Option Int) → has_end (commas (name_words a ∷ int_items d)) ≡ false
-delay_no_end a None = refl
-delay_no_end a (Some i) = int_no_end i
-
-size_list_no_end : (n : Option ℕ) → has_end (size_word n ∷ []) ≡ false
-size_list_no_end n = rw (size_no_end n) refl
-
-step_no_end : (y : Logic-F Known) → has_end (logic_step (map-Logic Known (List Word) (λ p. logic_words p.0) y)) ≡ false
-step_no_end (Lit n) = size_list_no_end n
-step_no_end (Group p) = no_ends (logic_words p.0) (sign (codes ")") ∷ []) p.1 refl
-step_no_end (PresenceOf a) = refl
-step_no_end (Measured m a d) = no_ends (commas (name_words a ∷ int_items d)) (sign (codes ")") ∷ []) (delay_no_end a d) refl
-step_no_end (Gathered g ps) =
-    no_ends (commas (map (λ p. logic_words p.0) ps) ++ sign (codes "]") ∷ []) (sign (codes ")") ∷ []) (no_ends (commas (map (λ p. logic_words p.0) ps)) (sign (codes "]") ∷ []) (between_no_end (codes ",") refl ps) refl) refl
-step_no_end (Linked l ps) = between_no_end (link_sign l) (link_no_end l) ps
-step_no_end (Neg p) = p.1
-step_no_end (Sum ps) = sum_no_end ps
-step_no_end (Compare op p q) = no_ends (logic_words p.0) (sign (comparison_sign op) ∷ logic_words q.0) p.1 (rw (comparison_no_end op) q.1)
-step_no_end (Not p) = p.1
-step_no_end (Implies p q) = no_ends (logic_words p.0) (sign (codes "=>") ∷ logic_words q.0) p.1 q.1
-
-logic_no_end : (e : Logic) → NoEnd e
-logic_no_end = ind-Logic NoEnd (λ x y is. subst (λ z. NoEnd (roll-Logic z)) is (rw (fold-roll-Logic (List Word) logic_step, composed NoEnd (List Word) logic_words y) (step_no_end y)))
-
-body_no_end : (s : Statement) → has_end (statement_body s) ≡ false
-body_no_end Empty = refl
-body_no_end (Define n (IntervalVar args)) = no_ends (args_words args) (sign (codes ")") ∷ []) (args_no_end args) refl
-body_no_end (Constrain (Between t a b z)) = no_ends (commas (name_words a ∷ name_words b ∷ int_items z)) (sign (codes ")") ∷ []) (delay_no_end b z) refl
-body_no_end (Constrain (Holds e)) = logic_no_end e
-body_no_end (Aim s e) = no_ends (logic_words e) (sign (codes ")") ∷ []) (logic_no_end e) refl
+-- a statement in front of some words
 
 or_parts : (a b : Bool) → (a || b) ≡ false → (a ≡ false) × (b ≡ false)
 or_parts false b h = (refl, h)

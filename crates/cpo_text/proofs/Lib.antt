@@ -12,7 +12,13 @@ pub mod Takes
 pub mod Ivargs
 pub mod Spelt
 pub mod Again
+pub mod Adding
+pub mod Tables
+pub mod PartsTaken
+pub mod PartsAgain
 pub mod Surveyed
+pub mod NoEnds
+pub mod StatementEnds
 pub mod Firsts
 pub mod Forms
 pub mod Answered
@@ -29,3 +35,8 @@ pub mod Owns
 pub mod Spells
 pub mod Rereads
 pub mod Shorts
+pub mod Listing
+pub mod Listed
+pub mod Called
+pub mod Recalled
+pub mod CallEnds

@@ -1,11 +1,11 @@
 -- What is read as a statement is the spelling of that statement.
 use Rattle.std.proofs.Common.{◌≡◌, ℕ, zero, suc, ◌==◌, Bool, true, false, ◌&&◌, ◌||◌, not, cond, List, [], ◌∷◌, ◌++◌, length, map, Option, Some, None, refl, sym, ap, subst, ◌∙◌, append_assoc}
-use Rattle.std.specs.Prelude.{codes, bytes_eq}
+use Rattle.std.specs.Prelude.{codes}
 use Rattle.std.specs.List.{list_all}
 use Rattle.cpo_text.specs.Words.{Word, commas, round}
 use Rattle.cpo_text.specs.Words.Word.{name, sign}
 use Rattle.cpo_text.specs.Spelling.{int_words, int_items, name_words, ivarg_words, ivarg_sort, are_distinct, definition_words, temporal_word, constraint_words, statement_body, is_formed}
-use Rattle.cpo_text.specs.Rules.{Found, bound, behind, if_behind, name_at, int_behind, ivarg_at, has_sort, ivargs_more, ivargs_at, interval_at, definition_at, between_at}
+use Rattle.cpo_text.specs.Rules.{Found, bound, behind, if_behind, name_at, int_behind, ivarg_at, has_sort, ivargs_more, ivargs_at, interval_at, between_at}
 use Rattle.cpo_text.specs.declared.tree.Int.{Int}
 use Rattle.cpo_text.specs.declared.tree.Ivarg.{Ivarg}
 use Rattle.cpo_text.specs.declared.tree.Definition.{Definition}
@@ -15,7 +15,7 @@ use Rattle.cpo_text.specs.declared.tree.Constrained.{Constrained}
 use Rattle.cpo_text.specs.declared.tree.Constrained.TheVariants.{Between}
 use Rattle.cpo_text.specs.declared.tree.Statement.{Statement}
 use Rattle.cpo_text.specs.declared.tree.Statement.TheVariants.{Define}
-use Rattle.cpo_text.proofs.Binds.{both, bound_parts, need_parts, some_pair, bytes_same, behind_takes, name_takes}
+use Rattle.cpo_text.proofs.Binds.{both, bound_parts, need_parts, some_pair, behind_takes, name_takes}
 use Rattle.cpo_text.proofs.Takes.{behind_words, int_behind_takes, ivarg_takes}
 
 -- kinds of arguments
@@ -140,21 +140,16 @@ interval_takes word ws d rest h =
           distinct = l.distinct refl;
         }
 
+abbrev IsInterval : List Word → Definition → List Word → Type 0
+IsInterval ws d rest = ((n : List ℕ) → is_formed (Define n d) ≡ true) × (name (codes "intervalVar") ∷ ws ≡ definition_words d ++ rest)
+
+pub interval_defined : (ws : List Word) (d : Definition) (rest : List Word) → interval_at ws ≡ Some (d, rest) → IsInterval ws d rest
+interval_defined ws d rest h =
+    let i = interval_takes (codes "intervalVar") ws d rest h in
+    subst (λ x. IsInterval ws x rest) (sym i.is) (λ n. i.distinct, i.spelt)
+
 abbrev pub IsSpelt : Statement → List Word → List Word → Type 0
 IsSpelt s ws rest = (is_formed s ≡ true) × (ws ≡ statement_body s ++ rest)
-
-pub define_takes : (n : List ℕ) (ws : List Word) (d : Definition) (rest : List Word) → definition_at ws ≡ Some (d, rest) → IsSpelt (Define n d) (name n ∷ sign (codes "=") ∷ ws) rest
-unfolding definition_at
-define_takes n ws d rest h =
-    let p = bound_parts (name_at ws) _ d rest h in
-    by_word p.tree p.words (name_takes ws p.tree p.words p.first) (bytes_eq p.tree (codes "intervalVar")) refl p.then
-  where
-    by_word : (w : List ℕ) (r : List Word) → ws ≡ name w ∷ r → (t : Bool) → bytes_eq w (codes "intervalVar") ≡ t → cond t (interval_at r) None ≡ Some (d, rest) → IsSpelt (Define n d) (name n ∷ sign (codes "=") ∷ ws) rest
-    by_word w r begun true is h =
-        let i = interval_takes w r d rest h in
-        let words : ws ≡ definition_words (IntervalVar i.args) ++ rest = begun ∙ i.spelt ∙ ap (λ x. name x ∷ round (args_words i.args) ++ rest) (bytes_same w (codes "intervalVar") is) in
-        subst (λ x. IsSpelt (Define n x) (name n ∷ sign (codes "=") ∷ ws) rest) (sym i.is) (i.distinct, ap (λ xs. name n ∷ sign (codes "=") ∷ xs) words)
-    by_word w r begun false is h = cc
 
 delayed : (a b : List ℕ) (z : Option Int) (rest : List Word)
     → sign (codes "(") ∷ name a ∷ sign (codes ",") ∷ name b ∷ behind_words (codes ",") z ++ sign (codes ")") ∷ rest ≡ round (commas (name_words a ∷ name_words b ∷ int_items z)) ++ rest

@@ -4,11 +4,11 @@ use Rattle.std.specs.Prelude.{codes, bytes_eq}
 use Rattle.cpo_text.specs.Words.{Word, size_word}
 use Rattle.cpo_text.specs.Words.Word.{name, number, large, sign, quoted}
 use Rattle.cpo_text.specs.Spelling.{int_words, to_words, range_words, given, ivarg_words}
-use Rattle.cpo_text.specs.Rules.{bound, behind, if_behind, name_at, size_at, signed_at, int_at, int_behind, range_at, given_at, ivarg_of, ivarg_at}
+use Rattle.cpo_text.specs.Rules.{bound, behind, if_behind, name_at, size_at, signed_at, int_at, name_before, int_before, int_behind, range_at, given_at, ivarg_of, ivarg_at}
 use Rattle.cpo_text.specs.declared.tree.Int.{Int}
 use Rattle.cpo_text.specs.declared.tree.Range.{Range}
 use Rattle.cpo_text.specs.declared.tree.Ivarg.{Ivarg}
-use Rattle.cpo_text.specs.declared.tree.Ivarg.TheVariants.{Start, End, Size}
+use Rattle.cpo_text.specs.declared.tree.Ivarg.TheVariants.{Optional, Start, End, Size}
 use Rattle.cpo_text.proofs.Binds.{both, bound_parts, need_parts, some_pair, bytes_same, behind_takes, name_takes}
 
 size_takes : (ws : List Word) (o : Option ℕ) (r : List Word) → size_at ws ≡ Some (o, r) → ws ≡ size_word o ∷ r
@@ -34,6 +34,22 @@ int_takes ws i r h = decided (behind (codes "-") ws) refl h
     decided : (o : Option (List Word)) → behind (codes "-") ws ≡ o → if_behind o (signed_at true) (signed_at false ws) ≡ Some (i, r) → ws ≡ int_words i ++ r
     decided None is h = let t = signed_takes false ws i r h in t.1 ∙ rw t.0 refl
     decided (Some rest) is h = let t = signed_takes true rest i r h in behind_takes (codes "-") ws rest is ∙ rw (t.1, t.0) refl
+
+pub name_before_takes : (s : List ℕ) (ws : List Word) (a : List ℕ) (r : List Word) → name_before s ws ≡ Some (a, r) → ws ≡ name a ∷ sign s ∷ r
+unfolding name_before
+name_before_takes s ws a r h =
+    let p = bound_parts (name_at ws) _ a r h in
+    let q = need_parts (behind s p.words) _ a r p.then in
+    let e = some_pair p.tree a q.words r q.then in
+    name_takes ws p.tree p.words p.first ∙ both (λ x xs. name x ∷ xs) e.0 (behind_takes s p.words q.words q.first ∙ ap (λ xs. sign s ∷ xs) e.1)
+
+pub int_before_takes : (s : List ℕ) (ws : List Word) (i : Int) (r : List Word) → int_before s ws ≡ Some (i, r) → ws ≡ int_words i ++ sign s ∷ r
+unfolding int_before
+int_before_takes s ws i r h =
+    let p = bound_parts (int_at ws) _ i r h in
+    let q = need_parts (behind s p.words) _ i r p.then in
+    let e = some_pair p.tree i q.words r q.then in
+    int_takes ws p.tree p.words p.first ∙ both (λ x xs. int_words x ++ xs) e.0 (behind_takes s p.words q.words q.first ∙ ap (λ xs. sign s ∷ xs) e.1)
 
 -- a sign and a number, or nothing
 abbrev pub behind_words : List ℕ → Option Int → List Word
@@ -81,21 +97,23 @@ kind_takes make n word is spelt ws a r h =
 
 ivarg_of_takes : (n : List ℕ) (ws : List Word) (a : Ivarg) (r : List Word) → ivarg_of n ws ≡ Some (a, r) → name n ∷ ws ≡ ivarg_words a ++ r
 unfolding ivarg_of
-ivarg_of_takes n ws a r h = decided (bytes_eq n (codes "start")) refl (bytes_eq n (codes "end")) refl (bytes_eq n (codes "size")) refl h
+ivarg_of_takes n ws a r h = decided (bytes_eq n (codes "optional")) refl (bytes_eq n (codes "start")) refl (bytes_eq n (codes "end")) refl (bytes_eq n (codes "size")) refl h
   where
-    decided : (s : Bool) → bytes_eq n (codes "start") ≡ s → (t : Bool) → bytes_eq n (codes "end") ≡ t → (u : Bool) → bytes_eq n (codes "size") ≡ u
-        → cond s (bound (given_at ws) (λ r rest. Some (Start r, rest))) (cond t (bound (given_at ws) (λ r rest. Some (End r, rest))) (cond u (bound (given_at ws) (λ r rest. Some (Size r, rest))) None)) ≡ Some (a, r)
+    decided : (q : Bool) → bytes_eq n (codes "optional") ≡ q → (s : Bool) → bytes_eq n (codes "start") ≡ s → (t : Bool) → bytes_eq n (codes "end") ≡ t → (u : Bool) → bytes_eq n (codes "size") ≡ u
+        → cond q (let x : Ivarg × List Word = (Optional, ws) in Some x) (cond s (bound (given_at ws) (λ r rest. Some (Start r, rest))) (cond t (bound (given_at ws) (λ r rest. Some (End r, rest))) (cond u (bound (given_at ws) (λ r rest. Some (Size r, rest))) None))) ≡ Some (a, r)
         → name n ∷ ws ≡ ivarg_words a ++ r
-    decided true is t e u f h = kind_takes Start n (codes "start") is (λ x. refl) ws a r h
-    decided false is true e u f h = kind_takes End n (codes "end") e (λ x. refl) ws a r h
-    decided false is false e true f h = kind_takes Size n (codes "size") f (λ x. refl) ws a r h
-    decided false is false e false f h = cc
+    decided true o s is t e u f h = let same = some_pair Optional a ws r h in both (λ x xs. name x ∷ xs) (bytes_same n (codes "optional") o) same.1 ∙ ap (λ y. ivarg_words y ++ r) same.0
+    decided false o true is t e u f h = kind_takes Start n (codes "start") is (λ x. refl) ws a r h
+    decided false o false is true e u f h = kind_takes End n (codes "end") e (λ x. refl) ws a r h
+    decided false o false is false e true f h = kind_takes Size n (codes "size") f (λ x. refl) ws a r h
+    decided false o false is false e false f h = cc
 
 pub ivarg_takes : (ws : List Word) (a : Ivarg) (r : List Word) → ivarg_at ws ≡ Some (a, r) → ws ≡ ivarg_words a ++ r
 unfolding ivarg_at
 ivarg_takes ws a r h = let p = bound_parts (name_at ws) ivarg_of a r h in name_takes ws p.tree p.words p.first ∙ ivarg_of_takes p.tree p.words a r p.then
 
 pub ivarg_long : (a : Ivarg) → 0 < length (ivarg_words a)
+ivarg_long Optional = omega arith
 ivarg_long (Start x) = omega arith
 ivarg_long (End x) = omega arith
 ivarg_long (Size x) = omega arith

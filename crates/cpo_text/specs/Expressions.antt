@@ -1,7 +1,8 @@
 -- Expressions: the words of each, and how tightly it holds together.
 use Rattle.std.specs.Prelude.{ℕ, suc, nat_le, Bool, true, false, ◌&&◌, List, [], ◌∷◌, ◌++◌, length, codes, Option, Some, None, if◌then◌else◌}
 use Rattle.std.specs.List.{list_all}
-use Rattle.cpo_text.specs.Words.{Word, is_sign, size_word, between, commas, round, call}
+use Rattle.cpo_text.specs.Words.{Word, is_sign, size_word, between, round, call}
+pub use Rattle.cpo_text.specs.Words.{square}
 use Rattle.cpo_text.specs.Words.Word.{sign}
 use Rattle.cpo_text.specs.Parts.{int_items, name_words}
 use Rattle.cpo_text.specs.declared.expression.Measure.{Measure}
@@ -40,9 +41,6 @@ comparison_sign AtMost = codes "<="
 comparison_sign AtLeast = codes ">="
 comparison_sign Below = codes "<"
 comparison_sign Above = codes ">"
-
-abbrev pub square : List (List Word) → List Word
-square items = sign (codes "[") ∷ commas items ++ sign (codes "]") ∷ []
 
 -- a later operand of a sum: `+` stands before it, unless its own minus does
 abbrev pub joined : List Word → List Word

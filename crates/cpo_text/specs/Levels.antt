@@ -3,6 +3,7 @@ use Rattle.std.specs.Prelude.{ℕ, zero, suc, if◌then◌else◌, List, [], ◌
 use Rattle.cpo_text.specs.Words.{Word}
 use Rattle.cpo_text.specs.Words.Word.{name, number, large, sign, quoted}
 use Rattle.cpo_text.specs.Expressions.{link_sign}
+pub use Rattle.cpo_text.specs.Rules.{if_found, with_rest}
 use Rattle.cpo_text.specs.Rules.{Found, bound, behind, if_behind, name_at, int_behind, enclosed_at}
 use Rattle.cpo_text.specs.declared.expression.Measure.{Measure}
 use Rattle.cpo_text.specs.declared.expression.Measure.TheVariants.{StartOf, EndOf, SizeOf, LengthOf}
@@ -81,18 +82,10 @@ comparison_of s = if bytes_eq s (codes "==") then Some Equal else (if bytes_eq s
     else (if bytes_eq s (codes "<=") then Some AtMost else (if bytes_eq s (codes ">=") then Some AtLeast
     else (if bytes_eq s (codes "<") then Some Below else (if bytes_eq s (codes ">") then Some Above else None)))))
 
-abbrev pub with_rest : {X : Type 0} → Option X → List Word → Found X
-with_rest None ws = None
-with_rest (Some x) ws = Some (x, ws)
-
 unfoldable pub comparison_at : List Word → Found Comparison
 comparison_at [] = None
 comparison_at (sign s ∷ ws) = with_rest (comparison_of s) ws
 comparison_at (w ∷ ws) = None
-
-abbrev pub if_found : {X : Type 0} → Found X → (X → List Word → Trees) → Trees → Trees
-if_found None f g = g
-if_found (Some p) f g = f p.0 p.1
 
 abbrev pub measure_of : List ℕ → Option Measure
 measure_of n = if bytes_eq n (codes "startOf") then Some StartOf else (if bytes_eq n (codes "endOf") then Some EndOf

@@ -3,11 +3,16 @@ pub mod Tokens
 pub mod Runs
 pub mod Parts
 pub mod Expressions
+pub mod Cumulative
 pub mod Spelling
 pub mod Lexing
 pub mod Places
 pub mod Rules
+pub mod Lists
+pub mod Calls
 pub mod Levels
+pub mod CallWords
+pub mod Contributions
 pub mod Statements
 pub mod Gives
 pub mod Surveys

@@ -2,12 +2,12 @@
 use Rattle.std.specs.Prelude.{ℕ, zero, suc, ◌==◌, Bool, true, false, if◌then◌else◌, List, [], ◌∷◌, ◌++◌, length, codes, bytes_eq, Option, Some, None}
 use Rattle.std.specs.List.{list_any}
 use Rattle.cpo_text.specs.Words.{Word, is_sign}
-use Rattle.cpo_text.specs.Words.Word.{name, number, large}
+use Rattle.cpo_text.specs.Words.Word.{name, number, large, sign}
 use Rattle.cpo_text.specs.Spelling.{ivarg_sort}
 use Rattle.cpo_text.specs.declared.tree.Int.{Int}
 use Rattle.cpo_text.specs.declared.tree.Range.{Range}
 use Rattle.cpo_text.specs.declared.tree.Ivarg.{Ivarg}
-use Rattle.cpo_text.specs.declared.tree.Ivarg.TheVariants.{Start, End, Size}
+use Rattle.cpo_text.specs.declared.tree.Ivarg.TheVariants.{Optional, Start, End, Size}
 use Rattle.cpo_text.specs.declared.tree.Definition.{Definition}
 use Rattle.cpo_text.specs.declared.tree.Definition.TheVariants.{IntervalVar}
 use Rattle.cpo_text.specs.declared.tree.Temporal.{Temporal}
@@ -31,6 +31,25 @@ abbrev pub if_behind : {X : Type 0} → Option (List Word) → (List Word → Fo
 if_behind None f g = g
 if_behind (Some ws) f g = f ws
 
+abbrev pub if_found : {X Y : Type 0} → Found X → (X → List Word → Found Y) → Found Y → Found Y
+if_found None f g = g
+if_found (Some p) f g = f p.0 p.1
+
+abbrev pub with_rest : {X : Type 0} → Option X → List Word → Found X
+with_rest None ws = None
+with_rest (Some x) ws = Some (x, ws)
+
+-- what stands beside a word in a table
+abbrev pub find_word : {X : Type 0} → List (List ℕ × X) → List ℕ → Option X
+find_word [] n = None
+find_word (p ∷ ps) n = if bytes_eq n p.0 then Some p.1 else find_word ps n
+
+-- a sign of a table
+abbrev pub sign_in : {X : Type 0} → List (List ℕ × X) → List Word → Found X
+sign_in table [] = None
+sign_in table (sign s ∷ ws) = with_rest (find_word table s) ws
+sign_in table (w ∷ ws) = None
+
 abbrev pub name_at : List Word → Found (List ℕ)
 name_at (name n ∷ ws) = Some (n, ws)
 name_at _ = None
@@ -46,6 +65,13 @@ signed_at minus ws = bound (size_at ws) (λ n r. Some (record { minus = minus; s
 unfoldable pub int_at : List Word → Found Int
 int_at ws = if_behind (behind (codes "-") ws) (signed_at true) (signed_at false ws)
 
+-- a name, or a number, with a sign behind it
+unfoldable pub name_before : List ℕ → List Word → Found (List ℕ)
+name_before s ws = bound (name_at ws) (λ a r. if_behind (behind s r) (λ r2. Some (a, r2)) None)
+
+unfoldable pub int_before : List ℕ → List Word → Found Int
+int_before s ws = bound (int_at ws) (λ i r. if_behind (behind s r) (λ r2. Some (i, r2)) None)
+
 -- behind a sign, or none
 unfoldable pub int_behind : List ℕ → List Word → Found (Option Int)
 int_behind s ws = if_behind (behind s ws) (λ r. bound (int_at r) (λ i r2. Some (Some i, r2))) (Some (None, ws))
@@ -57,9 +83,10 @@ unfoldable pub given_at : List Word → Found Range
 given_at ws = if_behind (behind (codes "=") ws) range_at None
 
 unfoldable pub ivarg_of : List ℕ → List Word → Found Ivarg
-ivarg_of n ws = if bytes_eq n (codes "start") then bound (given_at ws) (λ r rest. Some (Start r, rest))
+ivarg_of n ws = if bytes_eq n (codes "optional") then Some (Optional, ws)
+    else (if bytes_eq n (codes "start") then bound (given_at ws) (λ r rest. Some (Start r, rest))
     else (if bytes_eq n (codes "end") then bound (given_at ws) (λ r rest. Some (End r, rest))
-    else (if bytes_eq n (codes "size") then bound (given_at ws) (λ r rest. Some (Size r, rest)) else None))
+    else (if bytes_eq n (codes "size") then bound (given_at ws) (λ r rest. Some (Size r, rest)) else None)))
 
 unfoldable pub ivarg_at : List Word → Found Ivarg
 ivarg_at ws = bound (name_at ws) ivarg_of
@@ -79,9 +106,6 @@ ivargs_at seen ws = ivargs_more (length ws) seen ws
 unfoldable pub interval_at : List Word → Found Definition
 interval_at ws = if_behind (behind (codes "(") ws) (λ r. if_behind (behind (codes ")") r) (λ r2. Some (IntervalVar [], r2))
     (bound (ivargs_at [] r) (λ args r2. if_behind (behind (codes ")") r2) (λ r3. Some (IntervalVar args, r3)) None))) None
-
-unfoldable pub definition_at : List Word → Found Definition
-definition_at ws = bound (name_at ws) (λ n r. if bytes_eq n (codes "intervalVar") then interval_at r else None)
 
 unfoldable pub between_at : Temporal → List Word → Found Constrained
 between_at t ws = if_behind (behind (codes "(") ws) (λ r. bound (name_at r) (λ a r2. if_behind (behind (codes ",") r2) (λ r3. bound (name_at r3) (λ b r4.

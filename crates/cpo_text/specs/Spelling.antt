@@ -1,20 +1,34 @@
 -- The grammar: each tree has one spelling, a list of words. A run is a statement exactly where it is the spelling of a tree.
-use Rattle.std.specs.Prelude.{◌≡◌, ℕ, ◌==◌, Bool, true, not, ◌&&◌, List, [], ◌∷◌, ◌++◌, map, codes, Option, Some, None}
+use Rattle.std.specs.Prelude.{◌≡◌, ℕ, ◌==◌, Bool, true, not, ◌&&◌, List, [], ◌∷◌, ◌++◌, map, codes, Option, Some, None, option_to_list}
 use Rattle.std.specs.List.{list_all}
-use Rattle.cpo_text.specs.Words.{Word, call}
+use Rattle.cpo_text.specs.Words.{Word, square, call}
 use Rattle.cpo_text.specs.Words.Word.{name, sign}
-pub use Rattle.cpo_text.specs.Parts.{minus_words, int_words, int_items, name_words}
+pub use Rattle.cpo_text.specs.Parts.{minus_words, int_words, int_items, name_words, names_words, ints_words, flag_words, given}
 use Rattle.cpo_text.specs.Expressions.{logic_words, is_logic}
+use Rattle.cpo_text.specs.Cumulative.{cumul_words}
 use Rattle.cpo_text.specs.declared.tree.Int.{Int}
 use Rattle.cpo_text.specs.declared.tree.Range.{Range}
 use Rattle.cpo_text.specs.declared.tree.Ivarg.{Ivarg}
-use Rattle.cpo_text.specs.declared.tree.Ivarg.TheVariants.{Start, End, Size}
+use Rattle.cpo_text.specs.declared.tree.Ivarg.TheVariants.{Optional, Start, End, Size}
 use Rattle.cpo_text.specs.declared.tree.Definition.{Definition}
-use Rattle.cpo_text.specs.declared.tree.Definition.TheVariants.{IntervalVar}
+use Rattle.cpo_text.specs.declared.tree.Definition.TheVariants.{IntervalVar, SequenceVar, TransitionMatrix, StateFunction, Cumulative}
 use Rattle.cpo_text.specs.declared.tree.Temporal.{Temporal}
 use Rattle.cpo_text.specs.declared.tree.Temporal.TheVariants.{StartBeforeStart, StartBeforeEnd, EndBeforeStart, EndBeforeEnd, StartAtStart, StartAtEnd, EndAtStart, EndAtEnd}
+use Rattle.cpo_text.specs.declared.tree.Hierarchy.{Hierarchy}
+use Rattle.cpo_text.specs.declared.tree.Hierarchy.TheVariants.{Span, Alternative, Synchronize}
+use Rattle.cpo_text.specs.declared.tree.Over.{Over}
+use Rattle.cpo_text.specs.declared.tree.Over.TheVariants.{Named, Listed}
+use Rattle.cpo_text.specs.declared.tree.Spaced.{Spaced}
+use Rattle.cpo_text.specs.declared.tree.Extreme.{Extreme}
+use Rattle.cpo_text.specs.declared.tree.Extreme.TheVariants.{First, Last}
+use Rattle.cpo_text.specs.declared.tree.Order.{Order}
+use Rattle.cpo_text.specs.declared.tree.Order.TheVariants.{Before, Prev}
+use Rattle.cpo_text.specs.declared.tree.Bound.{Bound}
+use Rattle.cpo_text.specs.declared.tree.Bound.TheVariants.{AtMost, AtLeast}
+use Rattle.cpo_text.specs.declared.tree.Moments.{Moments}
+use Rattle.cpo_text.specs.declared.tree.Moments.TheVariants.{From, During}
 use Rattle.cpo_text.specs.declared.tree.Constrained.{Constrained}
-use Rattle.cpo_text.specs.declared.tree.Constrained.TheVariants.{Between, Holds}
+use Rattle.cpo_text.specs.declared.tree.Constrained.TheVariants as constrained
 use Rattle.cpo_text.specs.declared.tree.Sense.{Sense}
 use Rattle.cpo_text.specs.declared.tree.Sense.TheVariants.{Minimize, Maximize}
 use Rattle.cpo_text.specs.declared.tree.Statement.{Statement}
@@ -27,16 +41,23 @@ to_words (Some i) = sign (codes "..") ∷ int_words i
 abbrev pub range_words : Range → List Word
 range_words r = int_words r.from ++ to_words r.to
 
-abbrev pub given : List ℕ → List Word → List Word
-given word ws = name word ∷ sign (codes "=") ∷ ws
-
 abbrev pub ivarg_words : Ivarg → List Word
+ivarg_words Optional = name (codes "optional") ∷ []
 ivarg_words (Start r) = given (codes "start") (range_words r)
 ivarg_words (End r) = given (codes "end") (range_words r)
 ivarg_words (Size r) = given (codes "size") (range_words r)
 
+-- the types of a sequence's members, where they are there
+abbrev pub types_items : Option (List Int) → List (List Word)
+types_items None = []
+types_items (Some is) = given (codes "types") (ints_words is) ∷ []
+
 abbrev pub definition_words : Definition → List Word
 definition_words (IntervalVar args) = call (codes "intervalVar") (map ivarg_words args)
+definition_words (SequenceVar ns types) = call (codes "sequenceVar") (names_words ns ∷ types_items types)
+definition_words (TransitionMatrix rows) = call (codes "transitionMatrix") (square (map ints_words rows) ∷ [])
+definition_words (StateFunction m) = call (codes "stateFunction") (map name_words (option_to_list m))
+definition_words (Cumulative c) = cumul_words c
 
 abbrev pub temporal_word : Temporal → List ℕ
 temporal_word StartBeforeStart = codes "startBeforeStart"
@@ -48,9 +69,52 @@ temporal_word StartAtEnd = codes "startAtEnd"
 temporal_word EndAtStart = codes "endAtStart"
 temporal_word EndAtEnd = codes "endAtEnd"
 
+abbrev pub hierarchy_word : Hierarchy → List ℕ
+hierarchy_word Span = codes "span"
+hierarchy_word Alternative = codes "alternative"
+hierarchy_word Synchronize = codes "synchronize"
+
+abbrev pub extreme_word : Extreme → List ℕ
+extreme_word First = codes "first"
+extreme_word Last = codes "last"
+
+abbrev pub order_word : Order → List ℕ
+order_word Before = codes "before"
+order_word Prev = codes "prev"
+
+abbrev pub bound_sign : Bound → List ℕ
+bound_sign AtMost = codes "<="
+bound_sign AtLeast = codes ">="
+
+abbrev pub over_words : Over → List Word
+over_words (Named p) = name_words p
+over_words (Listed ns) = names_words ns
+
+-- a matrix and its flag, where they are there
+abbrev pub spaced_items : Option Spaced → List (List Word)
+spaced_items None = []
+spaced_items (Some s) = name_words s.matrix ∷ map flag_words (option_to_list s.direct)
+
+abbrev pub moments_items : Moments → List (List Word)
+moments_items (From u v) = int_words u ∷ int_words v ∷ []
+moments_items (During a) = name_words a ∷ []
+
+-- two flags, where they are there
+abbrev pub aligned_items : Option (Bool × Bool) → List (List Word)
+aligned_items None = []
+aligned_items (Some p) = flag_words p.0 ∷ flag_words p.1 ∷ []
+
 abbrev pub constraint_words : Constrained → List Word
-constraint_words (Between t a b z) = call (temporal_word t) (name_words a ∷ name_words b ∷ int_items z)
-constraint_words (Holds e) = logic_words e
+constraint_words (constrained.Between t a b z) = call (temporal_word t) (name_words a ∷ name_words b ∷ int_items z)
+constraint_words (constrained.Parts h a ns) = call (hierarchy_word h) (name_words a ∷ names_words ns ∷ [])
+constraint_words (constrained.NoOverlap p s) = call (codes "noOverlap") (over_words p ∷ spaced_items s)
+constraint_words (constrained.Extreme e p a) = call (extreme_word e) (name_words p ∷ name_words a ∷ [])
+constraint_words (constrained.Ordered o p a b) = call (order_word o) (name_words p ∷ name_words a ∷ name_words b ∷ [])
+constraint_words (constrained.Bounded f b c) = cumul_words f ++ sign (bound_sign b) ∷ int_words c
+constraint_words (constrained.AlwaysIn f w lo hi) = call (codes "alwaysIn") (cumul_words f ∷ moments_items w ++ int_words lo ∷ int_words hi ∷ [])
+constraint_words (constrained.AlwaysEqual g a v ij) = call (codes "alwaysEqual") (name_words g ∷ name_words a ∷ int_words v ∷ aligned_items ij)
+constraint_words (constrained.AlwaysNoState g a) = call (codes "alwaysNoState") (name_words g ∷ name_words a ∷ [])
+constraint_words (constrained.Holds e) = logic_words e
 
 abbrev pub sense_word : Sense → List ℕ
 sense_word Minimize = codes "minimize"
@@ -68,6 +132,7 @@ spelling s = statement_body s ++ sign (codes ";") ∷ []
 
 -- what the spelling doesn't say: each kind of argument of an interval at most once, brackets where an operand needs them
 abbrev pub ivarg_sort : Ivarg → ℕ
+ivarg_sort Optional = 0
 ivarg_sort (Start r) = 1
 ivarg_sort (End r) = 2
 ivarg_sort (Size r) = 3
@@ -78,7 +143,7 @@ are_distinct (x ∷ xs) = list_all (λ y. not (x == y)) xs && are_distinct xs
 
 abbrev pub is_formed : Statement → Bool
 is_formed (Define n (IntervalVar args)) = are_distinct (map ivarg_sort args)
-is_formed (Constrain (Holds e)) = is_logic e
+is_formed (Constrain (constrained.Holds e)) = is_logic e
 is_formed (Aim s e) = is_logic e
 is_formed _ = true
 

@@ -34,6 +34,9 @@ between s (x ∷ y ∷ xs) = x ++ sign s ∷ between s (y ∷ xs)
 abbrev pub commas : List (List Word) → List Word
 commas items = between (codes ",") items
 
+abbrev pub square : List (List Word) → List Word
+square items = sign (codes "[") ∷ commas items ++ sign (codes "]") ∷ []
+
 abbrev pub round : List Word → List Word
 round ws = sign (codes "(") ∷ ws ++ sign (codes ")") ∷ []
 

@@ -1,6 +1,6 @@
 ghost use Rattle.std.specs.Prelude.{◌≡◌, []};
 ghost use Rattle.cpo_text.specs.Spelling.{ivarg_sort};
-ghost use Rattle.cpo_text.specs.Rules.{given_at, ivarg_of, ivarg_at, has_sort, ivargs_at, interval_at, definition_at, between_at, enclosed_at};
+ghost use Rattle.cpo_text.specs.Rules.{given_at, ivarg_of, ivarg_at, has_sort, ivargs_at, interval_at, between_at, enclosed_at};
 ghost use Rattle.cpo_text.specs.Gives.{ahead, Gives};
 
 use crate::fault::Fault;
@@ -22,6 +22,9 @@ fn given(place: Place<'_>) -> Result<(Range, Place<'_>), Fault>
 fn ivarg_of<'a>(word: &[u8], place: Place<'a>) -> Result<(Ivarg, Place<'a>), Fault>
     ensures { Gives result (ivarg_of word.now (ahead place.entry)) }
 {
+    if word == b"optional".as_slice() {
+        return Ok((Ivarg::Optional, place));
+    }
     if word == b"start".as_slice() {
         let (range, rest) = given(place)?;
         return Ok((Ivarg::Start(range), rest));
@@ -49,6 +52,7 @@ fn sort(arg: Ivarg) -> u8
     ensures { result ≡ ivarg_sort arg }
 {
     match arg {
+        Ivarg::Optional => 0,
         Ivarg::Start(_) => 1,
         Ivarg::End(_) => 2,
         Ivarg::Size(_) => 3,
@@ -82,7 +86,7 @@ fn ivargs(alloc: Global, place: Place<'_>) -> Result<(List<Ivarg>, Place<'_>), F
 }
 
 #[tactic(auto, unfolding(crate::specs::Rules::interval_at))]
-fn interval(alloc: Global, place: Place<'_>) -> Result<(Definition, Place<'_>), Fault>
+pub fn interval(alloc: Global, place: Place<'_>) -> Result<(Definition, Place<'_>), Fault>
     ensures { Gives result (interval_at (ahead place.entry)) }
 {
     let open = sign(b"(", place)?;
@@ -92,17 +96,6 @@ fn interval(alloc: Global, place: Place<'_>) -> Result<(Definition, Place<'_>), 
     let (args, rest) = ivargs(alloc, open)?;
     let rest = sign(b")", rest)?;
     Ok((Definition::IntervalVar(args), rest))
-}
-
-#[tactic(auto, unfolding(crate::specs::Rules::definition_at))]
-pub fn definition(alloc: Global, place: Place<'_>) -> Result<(Definition, Place<'_>), Fault>
-    ensures { Gives result (definition_at (ahead place.entry)) }
-{
-    let (word, rest) = name(place)?;
-    if word == b"intervalVar".as_slice() {
-        return interval(alloc, rest);
-    }
-    Err(Fault::Outside)
 }
 
 #[tactic(auto, unfolding(crate::specs::Rules::between_at))]

@@ -2,11 +2,16 @@
 //! told as its words alone tell it; what its names mean is settled above.
 #![tactic(auto)]
 
+mod call_words;
+mod calls;
+mod contributions;
+mod cumul;
 mod expression;
 mod fault;
 mod grammar;
 mod laws;
 mod levels;
+mod lists;
 mod parts;
 mod piece;
 mod place;
@@ -18,11 +23,19 @@ mod tree;
 mod whole;
 mod word;
 
+pub use cumul::{Cpart, Cumul, Signed};
 pub use expression::{Comparison, Gather, Link, Logic, Measure};
 pub use laws::reading_is_determined;
 pub use text::{Form, ReadFault, Reading, Refusal, TEXT_LIMIT, TOLD_LIMIT, Tree};
-pub use tree::{Constrained, Definition, Int, Ivarg, Range, Sense, Statement, Temporal};
+pub use tree::{
+    Bound, Constrained, Definition, Extreme, Hierarchy, Int, Ivarg, Moments, Order, Over, Range,
+    Sense, Spaced, Statement, Temporal,
+};
 pub use whole::read_text;
 
+#[cfg(test)]
+mod call_tests;
+#[cfg(test)]
+mod cumul_tests;
 #[cfg(test)]
 mod tests;

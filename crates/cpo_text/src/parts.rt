@@ -1,7 +1,7 @@
 ghost use Rattle.std.specs.Prelude.{◌≡◌, option_map, IfOk};
 ghost use Rattle.cpo_text.specs.Words.{is_sign};
 ghost use Rattle.cpo_text.specs.Places.{said_word};
-ghost use Rattle.cpo_text.specs.Rules.{behind, name_at, size_at, signed_at, int_at, int_behind, range_at};
+ghost use Rattle.cpo_text.specs.Rules.{behind, name_at, size_at, signed_at, int_at, name_before, int_before, int_behind, range_at};
 ghost use Rattle.cpo_text.specs.Gives.{ahead, Gives, GivesName, GivesPlace};
 
 use crate::fault::Fault;
@@ -56,8 +56,30 @@ pub fn name(place: Place<'_>) -> Result<(&[u8], Place<'_>), Fault>
     }
 }
 
+/// The name that comes next, if one does, and the place behind it.
 #[tactic(auto, unfolding(crate::specs::Gives::ahead))]
-fn size(place: Place<'_>) -> Result<(Option<u64>, Place<'_>), Fault>
+pub fn next_name(place: Place<'_>) -> Option<(&[u8], Place<'_>)>
+    ensures { option_map (λ x. (x.0.now, ahead x.1)) result ≡ name_at (ahead place.entry) }
+{
+    let (token, rest) = place.next()?;
+    match token.word {
+        Word::Name(bytes) => Some((bytes, rest)),
+        _ => None,
+    }
+}
+
+/// A name with a sign behind it.
+#[tactic(auto, unfolding(crate::specs::Rules::name_before))]
+pub fn name_before<'a>(end: &[u8], place: Place<'a>) -> Result<(&'a [u8], Place<'a>), Fault>
+    ensures { GivesName result (name_before end.now (ahead place.entry)) }
+{
+    let (bytes, rest) = name(place)?;
+    let rest = sign(end, rest)?;
+    Ok((bytes, rest))
+}
+
+#[tactic(auto, unfolding(crate::specs::Gives::ahead))]
+pub fn size(place: Place<'_>) -> Result<(Option<u64>, Place<'_>), Fault>
     ensures { Gives result (size_at (ahead place.entry)) }
 {
     match place.next() {
@@ -85,6 +107,16 @@ pub fn int(place: Place<'_>) -> Result<(Int, Place<'_>), Fault>
         Some(rest) => signed(true, rest),
         None => signed(false, place),
     }
+}
+
+/// A number with a sign behind it.
+#[tactic(auto, unfolding(crate::specs::Rules::int_before))]
+pub fn int_before<'a>(end: &[u8], place: Place<'a>) -> Result<(Int, Place<'a>), Fault>
+    ensures { Gives result (int_before end.now (ahead place.entry)) }
+{
+    let (int, rest) = int(place)?;
+    let rest = sign(end, rest)?;
+    Ok((int, rest))
 }
 
 /// A number behind a sign, or nothing.

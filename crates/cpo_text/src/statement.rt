@@ -1,15 +1,24 @@
-ghost use Rattle.std.specs.Prelude.{◌≡◌};
-ghost use Rattle.cpo_text.specs.Statements.{enough, find_word, temporals, senses, logic_at, holds_at, aim_at, is_call, called_at, named_at, body_at, statement_at};
+ghost use Rattle.std.specs.Prelude.{◌≡◌, option_map, codes};
+ghost use Rattle.cpo_text.specs.Rules.{name_before};
+ghost use Rattle.cpo_text.specs.Statements.{enough, logic_at, holds_at, aim_at, defined_at, definition_at, constraint_at, called_at, named_at, clause_at, body_at, statement_at};
 ghost use Rattle.cpo_text.specs.Gives.{ahead, Gives};
 
+use crate::call_words::{
+    ConstraintWord, DefinitionWord, begins_cumul, constraint_word, definition_word, is_call,
+    sense_of,
+};
+use crate::calls::{
+    always_equal, always_no_state, extreme, matrix, no_overlap, ordered, parts, sequence,
+    state_function,
+};
+use crate::contributions::{always_in, bounded, cumul};
 use crate::expression::Logic;
 use crate::fault::Fault;
-use crate::grammar::{between, definition};
-use crate::levels::{gather_of, logic, measure_of};
-use crate::parts::{behind, copy, sign};
+use crate::grammar::{between, interval};
+use crate::levels::logic;
+use crate::parts::{behind, copy, next_name, sign};
 use crate::place::Place;
-use crate::tree::{Constrained, Sense, Statement, Temporal};
-use crate::word::Word;
+use crate::tree::{Constrained, Definition, Sense, Statement};
 use std::alloc::Global;
 
 /// Fuel that no text within its limit uses up.
@@ -45,52 +54,54 @@ fn aim(alloc: Global, sense: Sense, place: Place<'_>) -> Result<(Statement, Plac
     Ok((Statement::Aim(sense, logic), rest))
 }
 
-fn is_call(word: &[u8]) -> bool
-    ensures { result ≡ is_call word.now }
+/// What stands behind the word of a definition.
+#[tactic(auto, unfolding(crate::specs::Statements::defined_at))]
+fn defined(
+    alloc: Global,
+    word: DefinitionWord,
+    place: Place<'_>,
+) -> Result<(Definition, Place<'_>), Fault>
+    ensures { Gives result (defined_at word (ahead place.entry)) }
 {
-    word == b"presenceOf".as_slice() || measure_of(word).is_some() || gather_of(word).is_some()
+    match word {
+        DefinitionWord::IntervalVar => interval(alloc, place),
+        DefinitionWord::SequenceVar => sequence(alloc, place),
+        DefinitionWord::TransitionMatrix => matrix(alloc, place),
+        DefinitionWord::StateFunction => state_function(alloc, place),
+    }
 }
 
-fn temporal_of(word: &[u8]) -> Option<Temporal>
-    ensures { result ≡ find_word temporals word.now }
+/// A call that defines, or else a cumulative expression.
+#[tactic(auto, unfolding(crate::specs::Statements::definition_at))]
+fn definition(alloc: Global, place: Place<'_>) -> Result<(Definition, Place<'_>), Fault>
+    ensures { Gives result (definition_at enough (ahead place.entry)) }
 {
-    if word == b"startBeforeStart".as_slice() {
-        return Some(Temporal::StartBeforeStart);
+    if let Some((word, rest)) = definition_word(place) {
+        return defined(alloc, word, rest);
     }
-    if word == b"startBeforeEnd".as_slice() {
-        return Some(Temporal::StartBeforeEnd);
-    }
-    if word == b"endBeforeStart".as_slice() {
-        return Some(Temporal::EndBeforeStart);
-    }
-    if word == b"endBeforeEnd".as_slice() {
-        return Some(Temporal::EndBeforeEnd);
-    }
-    if word == b"startAtStart".as_slice() {
-        return Some(Temporal::StartAtStart);
-    }
-    if word == b"startAtEnd".as_slice() {
-        return Some(Temporal::StartAtEnd);
-    }
-    if word == b"endAtStart".as_slice() {
-        return Some(Temporal::EndAtStart);
-    }
-    if word == b"endAtEnd".as_slice() {
-        return Some(Temporal::EndAtEnd);
-    }
-    None
+    let (cumul, rest) = cumul(alloc, fuel(), place)?;
+    Ok((Definition::Cumulative(cumul), rest))
 }
 
-fn sense_of(word: &[u8]) -> Option<Sense>
-    ensures { result ≡ find_word senses word.now }
+/// What stands behind the word of a constraint.
+#[tactic(auto, unfolding(crate::specs::Statements::constraint_at))]
+fn constraint(
+    alloc: Global,
+    word: ConstraintWord,
+    place: Place<'_>,
+) -> Result<(Constrained, Place<'_>), Fault>
+    ensures { Gives result (constraint_at enough word (ahead place.entry)) }
 {
-    if word == b"minimize".as_slice() {
-        return Some(Sense::Minimize);
+    match word {
+        ConstraintWord::Between(temporal) => between(alloc, temporal, place),
+        ConstraintWord::Parts(hierarchy) => parts(alloc, hierarchy, place),
+        ConstraintWord::NoOverlap => no_overlap(alloc, place),
+        ConstraintWord::Extreme(end) => extreme(alloc, end, place),
+        ConstraintWord::Ordered(order) => ordered(alloc, order, place),
+        ConstraintWord::AlwaysIn => always_in(alloc, fuel(), place),
+        ConstraintWord::AlwaysEqual => always_equal(alloc, place),
+        ConstraintWord::AlwaysNoState => always_no_state(alloc, place),
     }
-    if word == b"maximize".as_slice() {
-        return Some(Sense::Maximize);
-    }
-    None
 }
 
 /// The constraint or objective that this call word begins.
@@ -98,8 +109,8 @@ fn sense_of(word: &[u8]) -> Option<Sense>
 fn called<'a>(alloc: Global, word: &[u8], place: Place<'a>) -> Result<(Statement, Place<'a>), Fault>
     ensures { Gives result (called_at enough word.now (ahead place.entry)) }
 {
-    if let Some(temporal) = temporal_of(word) {
-        let (constraint, rest) = between(alloc, temporal, place)?;
+    if let Some(word) = constraint_word(word) {
+        let (constraint, rest) = constraint(alloc, word, place)?;
         return Ok((Statement::Constrain(constraint), rest));
     }
     match sense_of(word) {
@@ -108,7 +119,7 @@ fn called<'a>(alloc: Global, word: &[u8], place: Place<'a>) -> Result<(Statement
     }
 }
 
-/// What begins at a place with a name, behind which the rest stands.
+/// What begins at a place with a call word, behind which the rest stands.
 #[tactic(auto, unfolding(crate::specs::Statements::named_at))]
 fn named<'a>(
     alloc: Global,
@@ -118,27 +129,49 @@ fn named<'a>(
 ) -> Result<(Statement, Place<'a>), Fault>
     ensures { Gives result (named_at enough (ahead place.entry) word.now (ahead rest.entry)) }
 {
-    if let Some(rest) = behind(b"=", rest) {
-        let (definition, rest) = definition(alloc, rest)?;
-        return Ok((Statement::Define(copy(alloc, word)?, definition), rest));
-    }
     if is_call(word) {
         return holds(alloc, place);
     }
     called(alloc, word, rest)
 }
 
+/// A constraint or an objective, without its semicolon.
+#[tactic(auto, unfolding(crate::specs::Statements::clause_at))]
+fn clause(alloc: Global, place: Place<'_>) -> Result<(Statement, Place<'_>), Fault>
+    ensures { Gives result (clause_at enough (ahead place.entry)) }
+{
+    if begins_cumul(place) {
+        let (constraint, rest) = bounded(alloc, fuel(), place)?;
+        return Ok((Statement::Constrain(constraint), rest));
+    }
+    match next_name(place) {
+        Some((word, rest)) => named(alloc, place, word, rest),
+        None => holds(alloc, place),
+    }
+}
+
+/// The name that is defined, if one is, and the place behind its sign.
+#[tactic(auto, unfolding(crate::specs::Rules::name_before))]
+fn defined_name(place: Place<'_>) -> Option<(&[u8], Place<'_>)>
+    ensures { option_map (λ x. (x.0.now, ahead x.1)) result ≡ name_before (codes "=") (ahead place.entry) }
+{
+    let (name, rest) = next_name(place)?;
+    let rest = behind(b"=", rest)?;
+    Some((name, rest))
+}
+
 /// A statement without its semicolon.
-#[tactic(auto, unfolding(crate::specs::Gives::ahead, crate::specs::Statements::body_at))]
+#[tactic(auto, unfolding(crate::specs::Statements::body_at))]
 fn body(alloc: Global, place: Place<'_>) -> Result<(Statement, Place<'_>), Fault>
     ensures { Gives result (body_at enough (ahead place.entry)) }
 {
-    if let Some((token, rest)) = place.next() {
-        if let Word::Name(word) = token.word {
-            return named(alloc, place, word, rest);
+    match defined_name(place) {
+        Some((name, rest)) => {
+            let (definition, rest) = definition(alloc, rest)?;
+            Ok((Statement::Define(copy(alloc, name)?, definition), rest))
         }
+        None => clause(alloc, place),
     }
-    holds(alloc, place)
 }
 
 /// A statement with its semicolon. Reading stops at the first token that leaves the grammar.

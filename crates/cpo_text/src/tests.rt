@@ -63,7 +63,7 @@ fn bad_bytes(rt: HostRuntime) {
 
 #[test]
 fn statements(rt: HostRuntime) {
-    let rows: [(&[u8], u32); 40] = [
+    let rows: [(&[u8], u32); 53] = [
         (b";", 0),
         (b"a = intervalVar();", 0),
         (b"intervalVar = intervalVar();", 0),
@@ -75,13 +75,26 @@ fn statements(rt: HostRuntime) {
         (b"a=intervalVar(size=1,start=0,end=0);", 0),
         (b"a=intervalVar(size=1,size=2);", 2),
         (b"a=intervalVar(size=1,);", 2),
-        (b"a=intervalVar(optional);", 2),
+        (b"a=intervalVar(optional);", 0),
+        (b"a=intervalVar(size=5,optional,end=3);", 0),
+        (b"optional=intervalVar(optional,start=0..1);", 0),
+        (b"a=intervalVar(optional,optional);", 2),
+        (b"a=intervalVar(optional=1);", 2),
+        (b"a=intervalVar(size);", 2),
         (b"a=intervalVar()", 2),
         (b"a", 2),
         (b"endBeforeStart(a,b);", 0),
         (b"endBeforeStart(a,b,-2);", 0),
         (b"endBeforeStart(a,b,2,3);", 2),
         (b"endBeforeStart(a);", 2),
+        (b"startBeforeStart(a,b);", 0),
+        (b"startBeforeEnd(a,b);", 0),
+        (b"endBeforeEnd(a,b);", 0),
+        (b"startAtStart(a,b);", 0),
+        (b"endAtStart(a,b);", 0),
+        (b"endAtEnd(a,b);", 0),
+        (b"endAtEnd(a,a,b);", 2),
+        (b"startAfterEnd(a,b);", 2),
         (b"minimize(endOf(a));", 0),
         (b"minimize(endOf(a,1));", 0),
         (b"maximize(endOf(a));", 0),

@@ -1,3 +1,4 @@
+use crate::cumul::Cumul;
 use crate::expression::Logic;
 use sched_base::List;
 
@@ -19,15 +20,22 @@ pub struct Range {
 /// An argument of `intervalVar`.
 #[derive(Clone, Copy, Debug, PartialEq, Eq)]
 pub enum Ivarg {
+    Optional,
     Start(Range),
     End(Range),
     Size(Range),
 }
 
-/// What stands behind `NAME =`.
+/// What stands behind `NAME =`. `SequenceVar` has the names of its members and, where they are
+/// written, their types; `TransitionMatrix` its rows; `StateFunction` the name of a matrix, where
+/// one is written. What is none of these calls is a cumulative expression.
 #[derive(Debug, Drop)]
 pub enum Definition {
     IntervalVar(List<Ivarg>),
+    SequenceVar(List<List<u8>>, Option<List<Int>>),
+    TransitionMatrix(List<List<Int>>),
+    StateFunction(Option<List<u8>>),
+    Cumulative(Cumul),
 }
 
 /// The word of a precedence constraint.
@@ -43,11 +51,74 @@ pub enum Temporal {
     EndAtEnd,
 }
 
+/// The word of a constraint on an interval and its parts.
+#[derive(Clone, Copy, Debug, PartialEq, Eq)]
+pub enum Hierarchy {
+    Span,
+    Alternative,
+    Synchronize,
+}
+
+/// What may not overlap: a sequence by its name, or the members of one without a name.
+#[derive(Debug, Drop)]
+pub enum Over {
+    Named(List<u8>),
+    Listed(List<List<u8>>),
+}
+
+/// The name of a matrix and, where it is written, the direct flag.
+#[derive(Debug, Drop)]
+pub struct Spaced {
+    pub matrix: List<u8>,
+    pub direct: Option<bool>,
+}
+
+/// The word of a constraint on one end of a sequence.
+#[derive(Clone, Copy, Debug, PartialEq, Eq)]
+pub enum Extreme {
+    First,
+    Last,
+}
+
+/// The word of a constraint on two members of a sequence.
+#[derive(Clone, Copy, Debug, PartialEq, Eq)]
+pub enum Order {
+    Before,
+    Prev,
+}
+
+/// The sign of a bound on a cumulative expression.
+#[derive(Clone, Copy, Debug, PartialEq, Eq)]
+pub enum Bound {
+    AtMost,
+    AtLeast,
+}
+
+/// When a cumulative expression is bounded: from a moment on and before another, or during an
+/// interval.
+#[derive(Debug, Drop)]
+pub enum Moments {
+    From(Int, Int),
+    During(List<u8>),
+}
+
 /// A constraint. `Between` has the names of two intervals and the delay that is asked between
-/// them, where one is written; `Holds` is an expression that has to hold.
+/// them, where one is written. `Parts` has an interval and its parts, `Extreme` a sequence and a
+/// member, `Ordered` a sequence and two members. `AlwaysIn` has the least and the greatest value,
+/// `AlwaysEqual` a state function, an interval, a state and, where they are written, whether start
+/// and end are aligned; `AlwaysNoState` a state function and an interval. `Holds` is an expression
+/// that has to hold.
 #[derive(Debug, Drop)]
 pub enum Constrained {
     Between(Temporal, List<u8>, List<u8>, Option<Int>),
+    Parts(Hierarchy, List<u8>, List<List<u8>>),
+    NoOverlap(Over, Option<Spaced>),
+    Extreme(Extreme, List<u8>, List<u8>),
+    Ordered(Order, List<u8>, List<u8>, List<u8>),
+    Bounded(Cumul, Bound, Int),
+    AlwaysIn(Cumul, Moments, Int, Int),
+    AlwaysEqual(List<u8>, List<u8>, Int, Option<(bool, bool)>),
+    AlwaysNoState(List<u8>, List<u8>),
     Holds(Logic),
 }
 

@@ -1,0 +1,253 @@
+//! Definitions and constraints that are calls, each from behind the call's word.
+ghost use Rattle.cpo_text.specs.Rules.{name_at};
+ghost use Rattle.cpo_text.specs.Calls.{flag_at, types_given_at, types_at, sequence_at, matrix_at, state_function_at, parts_at, over_at, direct_at, spaced_at, spacing_at, no_overlap_at, pair_at, extreme_at, ordered_at, flags_at, aligned_at, always_equal_at, always_no_state_at};
+ghost use Rattle.cpo_text.specs.Gives.{ahead, Gives};
+
+use crate::fault::Fault;
+use crate::lists::{ints, names, rows};
+use crate::parts::{behind, copy, int, name, sign, size};
+use crate::place::Place;
+use crate::tree::{Constrained, Definition, Extreme, Hierarchy, Int, Order, Over, Spaced};
+use sched_base::List;
+use std::alloc::Global;
+
+/// A name, its bytes copied.
+fn owned(alloc: Global, place: Place<'_>) -> Result<(List<u8>, Place<'_>), Fault>
+    ensures { Gives result (name_at (ahead place.entry)) }
+{
+    let (bytes, rest) = name(place)?;
+    Ok((copy(alloc, bytes)?, rest))
+}
+
+/// A number that is 0 or 1.
+#[tactic(auto, unfolding(crate::specs::Calls::flag_at))]
+fn flag(place: Place<'_>) -> Result<(bool, Place<'_>), Fault>
+    ensures { Gives result (flag_at (ahead place.entry)) }
+{
+    let (size, rest) = size(place)?;
+    match size {
+        Some(0) => Ok((false, rest)),
+        Some(1) => Ok((true, rest)),
+        _ => Err(Fault::Outside),
+    }
+}
+
+/// The types of a sequence's members, behind their word.
+#[tactic(auto, unfolding(crate::specs::Calls::types_given_at))]
+fn types_given(alloc: Global, place: Place<'_>) -> Result<(List<Int>, Place<'_>), Fault>
+    ensures { Gives result (types_given_at (ahead place.entry)) }
+{
+    let (word, rest) = name(place)?;
+    if word != b"types".as_slice() {
+        return Err(Fault::Outside);
+    }
+    ints(alloc, sign(b"=", rest)?)
+}
+
+/// The types behind a comma, or nothing.
+#[tactic(auto, unfolding(crate::specs::Calls::types_at))]
+fn types(alloc: Global, place: Place<'_>) -> Result<(Option<List<Int>>, Place<'_>), Fault>
+    ensures { Gives result (types_at (ahead place.entry)) }
+{
+    match behind(b",", place) {
+        Some(rest) => {
+            let (types, rest) = types_given(alloc, rest)?;
+            Ok((Some(types), rest))
+        }
+        None => Ok((None, place)),
+    }
+}
+
+#[tactic(auto, unfolding(crate::specs::Calls::sequence_at))]
+pub fn sequence(alloc: Global, place: Place<'_>) -> Result<(Definition, Place<'_>), Fault>
+    ensures { Gives result (sequence_at (ahead place.entry)) }
+{
+    let (members, rest) = names(alloc, sign(b"(", place)?)?;
+    let (types, rest) = types(alloc, rest)?;
+    let rest = sign(b")", rest)?;
+    Ok((Definition::SequenceVar(members, types), rest))
+}
+
+#[tactic(auto, unfolding(crate::specs::Calls::matrix_at))]
+pub fn matrix(alloc: Global, place: Place<'_>) -> Result<(Definition, Place<'_>), Fault>
+    ensures { Gives result (matrix_at (ahead place.entry)) }
+{
+    let (rows, rest) = rows(alloc, sign(b"(", place)?)?;
+    let rest = sign(b")", rest)?;
+    Ok((Definition::TransitionMatrix(rows), rest))
+}
+
+#[tactic(auto, unfolding(crate::specs::Calls::state_function_at))]
+pub fn state_function(alloc: Global, place: Place<'_>) -> Result<(Definition, Place<'_>), Fault>
+    ensures { Gives result (state_function_at (ahead place.entry)) }
+{
+    let open = sign(b"(", place)?;
+    if let Some(rest) = behind(b")", open) {
+        return Ok((Definition::StateFunction(None), rest));
+    }
+    let (matrix, rest) = owned(alloc, open)?;
+    let rest = sign(b")", rest)?;
+    Ok((Definition::StateFunction(Some(matrix)), rest))
+}
+
+/// An interval and its parts.
+#[tactic(auto, unfolding(crate::specs::Calls::parts_at))]
+pub fn parts(
+    alloc: Global,
+    hierarchy: Hierarchy,
+    place: Place<'_>,
+) -> Result<(Constrained, Place<'_>), Fault>
+    ensures { Gives result (parts_at hierarchy (ahead place.entry)) }
+{
+    let (whole, rest) = owned(alloc, sign(b"(", place)?)?;
+    let (parts, rest) = names(alloc, sign(b",", rest)?)?;
+    let rest = sign(b")", rest)?;
+    Ok((Constrained::Parts(hierarchy, whole, parts), rest))
+}
+
+/// The name of a sequence, or the members of one without a name.
+#[tactic(auto, unfolding(crate::specs::Calls::over_at))]
+fn over(alloc: Global, place: Place<'_>) -> Result<(Over, Place<'_>), Fault>
+    ensures { Gives result (over_at (ahead place.entry)) }
+{
+    if behind(b"[", place).is_some() {
+        let (members, rest) = names(alloc, place)?;
+        return Ok((Over::Listed(members), rest));
+    }
+    let (sequence, rest) = owned(alloc, place)?;
+    Ok((Over::Named(sequence), rest))
+}
+
+/// The direct flag behind a comma, or nothing.
+#[tactic(auto, unfolding(crate::specs::Calls::direct_at))]
+fn direct(place: Place<'_>) -> Result<(Option<bool>, Place<'_>), Fault>
+    ensures { Gives result (direct_at (ahead place.entry)) }
+{
+    match behind(b",", place) {
+        Some(rest) => {
+            let (flag, rest) = flag(rest)?;
+            Ok((Some(flag), rest))
+        }
+        None => Ok((None, place)),
+    }
+}
+
+#[tactic(auto, unfolding(crate::specs::Calls::spaced_at))]
+fn spaced(alloc: Global, place: Place<'_>) -> Result<(Spaced, Place<'_>), Fault>
+    ensures { Gives result (spaced_at (ahead place.entry)) }
+{
+    let (matrix, rest) = owned(alloc, place)?;
+    let (direct, rest) = direct(rest)?;
+    Ok((Spaced { matrix, direct }, rest))
+}
+
+/// The matrix and its flag behind a comma, or nothing.
+#[tactic(auto, unfolding(crate::specs::Calls::spacing_at))]
+fn spacing(alloc: Global, place: Place<'_>) -> Result<(Option<Spaced>, Place<'_>), Fault>
+    ensures { Gives result (spacing_at (ahead place.entry)) }
+{
+    match behind(b",", place) {
+        Some(rest) => {
+            let (spaced, rest) = spaced(alloc, rest)?;
+            Ok((Some(spaced), rest))
+        }
+        None => Ok((None, place)),
+    }
+}
+
+#[tactic(auto, unfolding(crate::specs::Calls::no_overlap_at))]
+pub fn no_overlap(alloc: Global, place: Place<'_>) -> Result<(Constrained, Place<'_>), Fault>
+    ensures { Gives result (no_overlap_at (ahead place.entry)) }
+{
+    let (over, rest) = over(alloc, sign(b"(", place)?)?;
+    let (spacing, rest) = spacing(alloc, rest)?;
+    let rest = sign(b")", rest)?;
+    Ok((Constrained::NoOverlap(over, spacing), rest))
+}
+
+/// Two names in round brackets.
+#[tactic(auto, unfolding(crate::specs::Calls::pair_at))]
+fn pair(alloc: Global, place: Place<'_>) -> Result<((List<u8>, List<u8>), Place<'_>), Fault>
+    ensures { Gives result (pair_at (ahead place.entry)) }
+{
+    let (first, rest) = owned(alloc, sign(b"(", place)?)?;
+    let (second, rest) = owned(alloc, sign(b",", rest)?)?;
+    let rest = sign(b")", rest)?;
+    Ok(((first, second), rest))
+}
+
+/// A sequence and its first or last member.
+#[tactic(auto, unfolding(crate::specs::Calls::extreme_at))]
+pub fn extreme(
+    alloc: Global,
+    extreme: Extreme,
+    place: Place<'_>,
+) -> Result<(Constrained, Place<'_>), Fault>
+    ensures { Gives result (extreme_at extreme (ahead place.entry)) }
+{
+    let ((sequence, member), rest) = pair(alloc, place)?;
+    Ok((Constrained::Extreme(extreme, sequence, member), rest))
+}
+
+/// A sequence and two members, one before the other.
+#[tactic(auto, unfolding(crate::specs::Calls::ordered_at))]
+pub fn ordered(
+    alloc: Global,
+    order: Order,
+    place: Place<'_>,
+) -> Result<(Constrained, Place<'_>), Fault>
+    ensures { Gives result (ordered_at order (ahead place.entry)) }
+{
+    let (sequence, rest) = owned(alloc, sign(b"(", place)?)?;
+    let (first, rest) = owned(alloc, sign(b",", rest)?)?;
+    let (second, rest) = owned(alloc, sign(b",", rest)?)?;
+    let rest = sign(b")", rest)?;
+    Ok((Constrained::Ordered(order, sequence, first, second), rest))
+}
+
+/// Two flags.
+#[tactic(auto, unfolding(crate::specs::Calls::flags_at))]
+fn flags(place: Place<'_>) -> Result<((bool, bool), Place<'_>), Fault>
+    ensures { Gives result (flags_at (ahead place.entry)) }
+{
+    let (start, rest) = flag(place)?;
+    let (end, rest) = flag(sign(b",", rest)?)?;
+    Ok(((start, end), rest))
+}
+
+/// Two flags behind a comma, or nothing.
+#[tactic(auto, unfolding(crate::specs::Calls::aligned_at))]
+fn aligned(place: Place<'_>) -> Result<(Option<(bool, bool)>, Place<'_>), Fault>
+    ensures { Gives result (aligned_at (ahead place.entry)) }
+{
+    match behind(b",", place) {
+        Some(rest) => {
+            let (flags, rest) = flags(rest)?;
+            Ok((Some(flags), rest))
+        }
+        None => Ok((None, place)),
+    }
+}
+
+#[tactic(auto, unfolding(crate::specs::Calls::always_equal_at))]
+pub fn always_equal(alloc: Global, place: Place<'_>) -> Result<(Constrained, Place<'_>), Fault>
+    ensures { Gives result (always_equal_at (ahead place.entry)) }
+{
+    let (function, rest) = owned(alloc, sign(b"(", place)?)?;
+    let (interval, rest) = owned(alloc, sign(b",", rest)?)?;
+    let (state, rest) = int(sign(b",", rest)?)?;
+    let (aligned, rest) = aligned(rest)?;
+    let rest = sign(b")", rest)?;
+    Ok((
+        Constrained::AlwaysEqual(function, interval, state, aligned),
+        rest,
+    ))
+}
+
+#[tactic(auto, unfolding(crate::specs::Calls::always_no_state_at))]
+pub fn always_no_state(alloc: Global, place: Place<'_>) -> Result<(Constrained, Place<'_>), Fault>
+    ensures { Gives result (always_no_state_at (ahead place.entry)) }
+{
+    let ((function, interval), rest) = pair(alloc, place)?;
+    Ok((Constrained::AlwaysNoState(function, interval), rest))
+}
