@@ -15,10 +15,8 @@ use Rattle.cpo_text.specs.declared.text.Refusal.{Refusal}
 use Rattle.cpo_text.specs.declared.text.Tree.{Tree}
 use Rattle.cpo_elab.specs.Answers.{judged}
 use Rattle.cpo_elab.specs.Answers.Answer.{Refused}
-use Rattle.cpo_elab.specs.Deserves.{served}
 use Rattle.cpo_elab.specs.Deserves.Deserves.{unread, judgement}
-use Rattle.cpo_elab.specs.Deserves.DeservesServed.{unread as unread_served, judgement as judgement_served}
-use Rattle.cpo_elab.specs.Laws.{AtMostOneAnswer, AtMostOneServed}
+use Rattle.cpo_elab.specs.Laws.{AtMostOneAnswer}
 
 -- nothing in the reading of a text is a choice
 pub record ReadingIsDetermined : Type 0 where
@@ -94,11 +92,3 @@ at_most_one laws text a b (unread r one is) (unread q other also) = is ∙ ap (�
 at_most_one laws text a b (unread r one is) (judgement t read also) = absurd (not_read laws text r t one read)
 at_most_one laws text a b (judgement t read is) (unread r other also) = absurd (not_read laws text r t other read)
 at_most_one laws text a b (judgement t read is) (judgement u again also) = is ∙ ap (judged empty_model 1) (same_tree laws text t u read again).0 ∙ sym also
-
-pub at_most_one_served : ReadingIsDetermined → AtMostOneServed
-at_most_one_served laws text a b (unread_served r one is) (unread_served q other also) = is ∙ sym also
-at_most_one_served laws text a b (unread_served r one is) (judgement_served t read also) = absurd (not_read laws text r t one read)
-at_most_one_served laws text a b (judgement_served t read is) (unread_served r other also) = absurd (not_read laws text r t other read)
-at_most_one_served laws text a b (judgement_served t read is) (judgement_served u again also) =
-    let same = same_tree laws text t u read again in
-    is ∙ ap (λ c. served c (judged empty_model 1 t.statements)) same.1 ∙ ap (λ xs. served u.commented (judged empty_model 1 xs)) same.0 ∙ sym also

@@ -1,47 +1,167 @@
--- What is in a model stays in it, and a name that is defined has an interval.
-use Rattle.std.proofs.Common.{◌≡◌, ℕ, ◌+◌, Bool, true, false, cond, List, [], ◌∷◌, length, Option, Some, None, is_some, unwrap_or, nat_lt, refl, sym, ap, ◌∙◌, arith}
+-- Expressions and constraints stay well made in a model with more in it, and expressions keep their hulls.
+use Rattle.std.proofs.Common.{◌≡◌, ℕ, zero, suc, ℤ, pos, Bool, true, not, ◌&&◌, List, [], ◌∷◌, map, length, slice_index_or, Option, Some, None, is_some, nat_lt, int_le, refl, ap, subst, ◌∙◌}
 use Rattle.std.specs.List.{list_all}
-use Rattle.std.proofs.lemmas.List.{length-map, length-append}
-use Rattle.std.proofs.lemmas.Bool.Decides.{nat_tests}
 use Rattle.sched_base.specs.declared.ids.Itv.{Itv}
+use Rattle.sched_base.specs.declared.ids.Seq.{Seq}
+use Rattle.sched_base.specs.declared.ids.Mat.{Mat}
 use Rattle.sched_model.specs.declared.types.IntervalDef.{IntervalDef}
-use Rattle.sched_model.specs.declared.types.Expr.{Expr}
-use Rattle.sched_model.specs.declared.types.Expr.TheVariants.{EndOf}
+use Rattle.sched_model.specs.declared.types.StateDef.{StateDef}
 use Rattle.sched_model.specs.declared.types.Objective.{Objective}
+use Rattle.sched_model.specs.declared.types.Expr.{Expr}
+use Rattle.sched_model.specs.declared.types.Expr.TheOpen.{Expr-F}
+use Rattle.sched_model.specs.declared.types.Expr.TheOpen.Expr-F.{Lit, StartOf, EndOf, SizeOf, LengthOf, PresenceOf, Neg, Sum, Product, Max, Min, Compare, Not, And, Or, Implies}
+use Rattle.sched_model.specs.declared.types.Expr.TheFolds.{fold-Expr, fold-roll-Expr, ind-Expr, map-Expr}
+use Rattle.sched_model.specs.declared.types.Expr.TheViews.{roll-Expr}
 use Rattle.sched_model.specs.declared.types.Constraint.{Constraint}
-use Rattle.sched_model.specs.declared.types.Constraint.TheVariants.{Temporal}
-use Rattle.sched_model.specs.Words.{passes_if_any}
-use Rattle.sched_model.specs.Data.{Data, with_interval}
-use Rattle.sched_model.specs.Valid.{is_itv, is_expr, is_constraint, is_small}
-use Rattle.cpo_elab.specs.Named.{is_defined, itv_of}
+use Rattle.sched_model.specs.declared.types.Constraint.TheVariants as constraint
+use Rattle.sched_model.specs.Words.{passes, passes_if_any, is_empty}
+use Rattle.sched_model.specs.Data.{Data, same, state_matrix, matrix_of, sequence_of}
+use Rattle.sched_model.specs.Domain.{is_row}
+use Rattle.sched_model.specs.Ranges.{Ends, negated, total_range, product_range, greatest_range, least_range}
+use Rattle.sched_model.specs.Hull.{limited, range_or, start_range, end_range, size_range, presence_range, of_one, of_all, truth_of, interval_hull, hull_step, hull_of}
+use Rattle.sched_model.specs.Valid.{is_small, is_amount, is_itv, is_mat, is_seq, is_member, is_window, are_parts, expr_step, is_expr, fits_types, is_constraint, is_state_def}
+use Rattle.sched_model.specs.laws.Held.{composed}
 use Rattle.cpo_elab.proofs.Truth.{both, joined, each, all_three}
 use Rattle.cpo_elab.proofs.Lists.{all_weaker}
+use Rattle.cpo_elab.proofs.Extends.{Extends, itv_grows, mat_grows, seq_grows, cum_grows, stf_grows, same_sequence, same_state, same_matrix, member_grows, parts_grow, window_grows}
 
-below_more : (x n : ℕ) → nat_lt x n ≡ true → nat_lt x (n + 1) ≡ true
-below_more x n h = grind (arith, nat_tests)
+-- the tests of an expression but for its hull
+abbrev pub is_tree : Data → Expr → Bool
+is_tree m = fold-Expr Bool (expr_step m)
 
-pub itv_stays : (m : Data) (d : IntervalDef) (x : Itv) → is_itv m x ≡ true → is_itv (with_interval d m) x ≡ true
-itv_stays m d x there = ap (nat_lt x.0) (length-append m.intervals (d ∷ [])) ∙ below_more x.0 (length m.intervals) there
+abbrev Grows : Data → Data → Expr → Type 0
+Grows m n e = is_tree m e ≡ true → (is_tree n e ≡ true) × (hull_of n e ≡ hull_of m e)
 
-constraint_stays : (m : Data) (d : IntervalDef) (c : Constraint) → is_constraint m c ≡ true → is_constraint (with_interval d m) c ≡ true
-constraint_stays m d (Temporal from to equal x y z) there =
-    let parts = each (is_itv m x) (is_itv m y) (is_small z) there in
-    all_three (is_itv (with_interval d m) x) (is_itv (with_interval d m) y) (is_small z) (itv_stays m d x parts.0) (itv_stays m d y parts.1) parts.2
+abbrev Part : Data → Data → Type 0
+Part m n = (e : Expr) × Grows m n e
 
-pub constraints_stay : (m : Data) (d : IntervalDef) → list_all (is_constraint m) m.constraints ≡ true → list_all (is_constraint (with_interval d m)) m.constraints ≡ true
-constraints_stay m d all = all_weaker (is_constraint m) (is_constraint (with_interval d m)) (constraint_stays m d) m.constraints all
+each_grows : (m n : Data) (ps : List (Part m n)) → list_all (λ b. b) (map (λ p. is_tree m p.0) ps) ≡ true
+    → (list_all (λ b. b) (map (λ p. is_tree n p.0) ps) ≡ true) × (map (λ p. hull_of n p.0) ps ≡ map (λ p. hull_of m p.0) ps)
+each_grows m n [] h = (refl, refl)
+each_grows m n (p ∷ ps) h =
+    let parts = both (is_tree m p.0) _ h in
+    let first = p.1 parts.0 in
+    let rest = each_grows m n ps parts.1 in
+    (joined (is_tree n p.0) _ first.0 rest.0, λ i. first.1 i ∷ rest.1 i)
 
-expr_stays : (m : Data) (d : IntervalDef) (e : Expr) → is_expr m e ≡ true → is_expr (with_interval d m) e ≡ true
-expr_stays m d (EndOf x z) there = let parts = both (is_itv m x) (is_small z) there in joined (is_itv (with_interval d m) x) (is_small z) (itv_stays m d x parts.0) parts.1
+some_grow : (m n : Data) (ps : List (Part m n)) → (not (is_empty (map (λ p. is_tree m p.0) ps)) && list_all (λ b. b) (map (λ p. is_tree m p.0) ps)) ≡ true
+    → ((not (is_empty (map (λ p. is_tree n p.0) ps)) && list_all (λ b. b) (map (λ p. is_tree n p.0) ps)) ≡ true) × (map (λ p. hull_of n p.0) ps ≡ map (λ p. hull_of m p.0) ps)
+some_grow m n [] h = cc
+some_grow m n (p ∷ ps) h = each_grows m n (p ∷ ps) h
 
-pub objective_stays : (m : Data) (d : IntervalDef) (o : Option Objective) → passes_if_any (λ o. is_expr m o.expr) o ≡ true → passes_if_any (λ o. is_expr (with_interval d m) o.expr) o ≡ true
-objective_stays m d None h = refl
-objective_stays m d (Some o) h = expr_stays m d o.expr h
+two_grow : (m n : Data) (p q : Part m n) → (is_tree m p.0 && is_tree m q.0) ≡ true → ((is_tree n p.0 && is_tree n q.0) ≡ true) × (truth_of (hull_of n p.0 ∷ hull_of n q.0 ∷ []) ≡ truth_of (hull_of m p.0 ∷ hull_of m q.0 ∷ []))
+two_grow m n p q h =
+    let parts = both (is_tree m p.0) (is_tree m q.0) h in
+    let first = p.1 parts.0 in
+    let second = q.1 parts.1 in
+    (joined (is_tree n p.0) (is_tree n q.0) first.0 second.0, λ i. truth_of (first.1 i ∷ second.1 i ∷ []))
 
-found_below : (c : Bool) (i n : ℕ) → nat_lt i n ≡ c → is_some (cond c (Some i) None) ≡ true → nat_lt (unwrap_or (cond c (Some i) None) 0) n ≡ true
-found_below true i n is there = is
-found_below false i n is there = cc
+asked_grows : (m n : Data) → Extends m n → (f : IntervalDef → Ends) (x : Itv) (d : ℤ) → (is_itv m x && is_small d) ≡ true → ((is_itv n x && is_small d) ≡ true) × (interval_hull n f x d ≡ interval_hull m f x d)
+asked_grows m n more f x d h =
+    let parts = both (is_itv m x) (is_small d) h in
+    (joined (is_itv n x) (is_small d) (itv_grows m n more x parts.0) parts.1, ap (λ o. limited (range_or f d o)) (more.itv x.0 parts.0))
 
-pub named_itv : (m : Data) (n : List ℕ) → is_defined m n ≡ true → is_itv m (itv_of m n) ≡ true
-named_itv m n there =
-    sym (ap (nat_lt (itv_of m n).0) (length-map m.intervals (λ d. d.name))) ∙ found_below _ _ _ refl there
+level : (m n : Data) → Extends m n → (y : Expr-F (Part m n)) → expr_step m (map-Expr (Part m n) Bool (λ p. is_tree m p.0) y) ≡ true
+    → (expr_step n (map-Expr (Part m n) Bool (λ p. is_tree n p.0) y) ≡ true) × (hull_step n (map-Expr (Part m n) (Option Ends) (λ p. hull_of n p.0) y) ≡ hull_step m (map-Expr (Part m n) (Option Ends) (λ p. hull_of m p.0) y))
+level m n more (Lit k) h = (h, refl)
+level m n more (StartOf x d) h = asked_grows m n more start_range x d h
+level m n more (EndOf x d) h = asked_grows m n more end_range x d h
+level m n more (SizeOf x d) h = asked_grows m n more size_range x d h
+level m n more (LengthOf x d) h = asked_grows m n more size_range x d h
+level m n more (PresenceOf x) h = (itv_grows m n more x h, ap (λ o. limited (range_or presence_range (pos 0) o)) (more.itv x.0 h))
+level m n more (Neg p) h = let part = p.1 h in (part.0, ap (of_one negated) part.1)
+level m n more (Sum ps) h = let parts = each_grows m n ps h in (parts.0, ap (of_all total_range) parts.1)
+level m n more (Product ps) h = let parts = some_grow m n ps h in (parts.0, ap (of_all product_range) parts.1)
+level m n more (Max ps) h = let parts = some_grow m n ps h in (parts.0, ap (of_all greatest_range) parts.1)
+level m n more (Min ps) h = let parts = some_grow m n ps h in (parts.0, ap (of_all least_range) parts.1)
+level m n more (Compare op p q) h = two_grow m n p q h
+level m n more (Not p) h = let part = p.1 h in (part.0, λ i. truth_of (part.1 i ∷ []))
+level m n more (And ps) h = let parts = some_grow m n ps h in (parts.0, ap truth_of parts.1)
+level m n more (Or ps) h = let parts = some_grow m n ps h in (parts.0, ap truth_of parts.1)
+level m n more (Implies p q) h = two_grow m n p q h
+
+tree_grows : (m n : Data) → Extends m n → (e : Expr) → Grows m n e
+tree_grows m n more = ind-Expr (Grows m n) (λ x y is. subst (λ z. Grows m n (roll-Expr z)) is (λ h.
+    rw (fold-roll-Expr Bool (expr_step n), fold-roll-Expr (Option Ends) (hull_step n), fold-roll-Expr (Option Ends) (hull_step m), composed (Grows m n) Bool (is_tree n) y, composed (Grows m n) (Option Ends) (hull_of n) y, composed (Grows m n) (Option Ends) (hull_of m) y)
+    (level m n more y (rw (fold-roll-Expr Bool (expr_step m), composed (Grows m n) Bool (is_tree m) y) at h))))
+
+pub expr_grows : (m n : Data) → Extends m n → (e : Expr) → is_expr m e ≡ true → is_expr n e ≡ true
+expr_grows m n more e h =
+    let parts = both (is_tree m e) (is_some (hull_of m e)) h in
+    let grown = tree_grows m n more e parts.0 in
+    joined (is_tree n e) (is_some (hull_of n e)) grown.0 (ap is_some grown.1 ∙ parts.1)
+
+pub objective_grows : (m n : Data) → Extends m n → (o : Option Objective) → passes_if_any (λ o. is_expr m o.expr) o ≡ true → passes_if_any (λ o. is_expr n o.expr) o ≡ true
+objective_grows m n more None h = refl
+objective_grows m n more (Some o) h = expr_grows m n more o.expr h
+
+-- constraints
+
+fits_grows : (m n : Data) → Extends m n → (p : Seq) → is_seq m p ≡ true → (x : Mat) → fits_types m p x ≡ true → fits_types n p x ≡ true
+fits_grows m n more p there x h =
+    let parts = both (is_mat m x) (passes (λ ts. passes (λ d. list_all (λ t. nat_lt t d.size) ts) (matrix_of m (Some x))) (sequence_of m p).types) h in
+    joined (is_mat n x) _ (mat_grows m n more x parts.0)
+    ((λ i. passes (λ ts. passes (λ d. list_all (λ t. nat_lt t d.size) ts) (same_matrix m n more (Some x) parts.0 i)) (same_sequence m n more p there i).types) ∙ parts.1)
+
+fit_grows : (m n : Data) → Extends m n → (p : Seq) → is_seq m p ≡ true → (o : Option Mat) → passes_if_any (fits_types m p) o ≡ true → passes_if_any (fits_types n p) o ≡ true
+fit_grows m n more p there None h = refl
+fit_grows m n more p there (Some x) h = fits_grows m n more p there x h
+
+-- a state function that is there has the matrix that it names
+matrix_there : (m : Data) (gs : List StateDef) (i : ℕ) → list_all (is_state_def m) gs ≡ true → passes_if_any (is_mat m) (slice_index_or gs i (record { name = []; matrix = None })).matrix ≡ true
+matrix_there m [] i all = refl
+matrix_there m (g ∷ gs) zero all = (both (is_state_def m g) _ all).0
+matrix_there m (g ∷ gs) (suc i) all = matrix_there m gs i (both (is_state_def m g) _ all).1
+
+pub held_in : (p q : Bool) (r s t : Bool) → (p && q && r && s && t) ≡ true → (p ≡ true) × (q ≡ true) × (r ≡ true) × (s ≡ true) × (t ≡ true)
+held_in p q r s t h =
+    let last = both (p && q && r && s) t h in
+    let fourth = both (p && q && r) s last.0 in
+    let three = each p q r fourth.0 in
+    (three.0, three.1, three.2, fourth.1, last.1)
+
+pub all_five : (p q r s t : Bool) → p ≡ true → q ≡ true → r ≡ true → s ≡ true → t ≡ true → (p && q && r && s && t) ≡ true
+all_five p q r s t first second third fourth fifth = joined (p && q && r && s) t (joined (p && q && r) s (all_three p q r first second third) fourth) fifth
+
+pub four : (p q r s : Bool) → (p && q && r && s) ≡ true → (p ≡ true) × (q ≡ true) × (r ≡ true) × (s ≡ true)
+four p q r s h = let last = both (p && q && r) s h in let three = each p q r last.0 in (three.0, three.1, three.2, last.1)
+
+pub all_four : (p q r s : Bool) → p ≡ true → q ≡ true → r ≡ true → s ≡ true → (p && q && r && s) ≡ true
+all_four p q r s first second third fourth = joined (p && q && r) s (all_three p q r first second third) fourth
+
+over_grows : (m n : Data) → Extends m n → (a : Itv) (xs : List Itv) → (is_itv m a && are_parts m xs) ≡ true → (is_itv n a && are_parts n xs) ≡ true
+over_grows m n more a xs h = let parts = both (is_itv m a) (are_parts m xs) h in joined (is_itv n a) (are_parts n xs) (itv_grows m n more a parts.0) (parts_grow m n more xs parts.1)
+
+pair_grows : (m n : Data) → Extends m n → (p : Seq) (a b : Itv) → (is_member m p a && is_member m p b && not (same a b)) ≡ true → (is_member n p a && is_member n p b && not (same a b)) ≡ true
+pair_grows m n more p a b h =
+    let parts = each (is_member m p a) (is_member m p b) (not (same a b)) h in
+    all_three (is_member n p a) (is_member n p b) (not (same a b)) (member_grows m n more p a parts.0) (member_grows m n more p b parts.1) parts.2
+
+pub constraint_grows : (m n : Data) → Extends m n → list_all (is_state_def m) m.states ≡ true → (c : Constraint) → is_constraint m c ≡ true → is_constraint n c ≡ true
+constraint_grows m n more states (constraint.Temporal from to equal a b z) h =
+    let parts = each (is_itv m a) (is_itv m b) (is_small z) h in
+    all_three (is_itv n a) (is_itv n b) (is_small z) (itv_grows m n more a parts.0) (itv_grows m n more b parts.1) parts.2
+constraint_grows m n more states (constraint.Logic e) h = expr_grows m n more e h
+constraint_grows m n more states (constraint.Span a xs) h = over_grows m n more a xs h
+constraint_grows m n more states (constraint.Alternative a xs) h = over_grows m n more a xs h
+constraint_grows m n more states (constraint.Synchronize a xs) h = over_grows m n more a xs h
+constraint_grows m n more states (constraint.NoOverlap p matrix direct) h =
+    let parts = both (is_seq m p) (passes_if_any (fits_types m p) matrix) h in
+    joined (is_seq n p) (passes_if_any (fits_types n p) matrix) (seq_grows m n more p parts.0) (fit_grows m n more p parts.0 matrix parts.1)
+constraint_grows m n more states (constraint.First p a) h = member_grows m n more p a h
+constraint_grows m n more states (constraint.Last p a) h = member_grows m n more p a h
+constraint_grows m n more states (constraint.Before p a b) h = pair_grows m n more p a b h
+constraint_grows m n more states (constraint.Prev p a b) h = pair_grows m n more p a b h
+constraint_grows m n more states (constraint.CumulIn f w lo hi) h =
+    let parts = held_in (nat_lt f.0 (length m.cumuls)) (is_window m w) (is_small lo) (is_small hi) (int_le lo hi) h in
+    all_five (nat_lt f.0 (length n.cumuls)) (is_window n w) (is_small lo) (is_small hi) (int_le lo hi) (cum_grows m n more f parts.0) (window_grows m n more w parts.1) parts.2 parts.3 parts.4
+constraint_grows m n more states (constraint.AlwaysEqual g a v start end) h =
+    let parts = four (nat_lt g.0 (length m.states)) (is_itv m a) (is_amount v) (is_row (matrix_of m (state_matrix m g)) v) h in
+    let row = ap (λ o. is_row (matrix_of n o) v) (same_state m n more g parts.0) ∙ ap (λ d. is_row d v) (same_matrix m n more (state_matrix m g) (matrix_there m m.states g.0 states)) ∙ parts.3 in
+    all_four (nat_lt g.0 (length n.states)) (is_itv n a) (is_amount v) (is_row (matrix_of n (state_matrix n g)) v) (stf_grows m n more g parts.0) (itv_grows m n more a parts.1) parts.2 row
+constraint_grows m n more states (constraint.AlwaysNoState g a) h =
+    let parts = both (nat_lt g.0 (length m.states)) (is_itv m a) h in
+    joined (nat_lt g.0 (length n.states)) (is_itv n a) (stf_grows m n more g parts.0) (itv_grows m n more a parts.1)
+
+pub constraints_grow : (m n : Data) → Extends m n → list_all (is_state_def m) m.states ≡ true → (cs : List Constraint) → list_all (is_constraint m) cs ≡ true → list_all (is_constraint n) cs ≡ true
+constraints_grow m n more states cs all = all_weaker (is_constraint m) (is_constraint n) (constraint_grows m n more states) cs all

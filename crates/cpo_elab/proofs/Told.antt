@@ -4,24 +4,19 @@ use Rattle.sched_model.specs.Data.{Data, empty_model}
 use Rattle.cpo_text.specs.declared.text.Form.{Form}
 use Rattle.cpo_text.specs.declared.text.Form.TheVariants.{Tree as Parsed, Number}
 use Rattle.cpo_text.specs.declared.text.Reading.{Reading}
-use Rattle.cpo_elab.specs.declared.small.Statement.{Statement}
+use Rattle.cpo_text.specs.declared.tree.Statement.{Statement}
 use Rattle.cpo_elab.specs.Judged.{statement_limit, number_in}
-use Rattle.cpo_elab.specs.Small.{small_of}
-use Rattle.cpo_elab.specs.Answers.{Answer, number_of_small, number_at, after_form, refused_or, judged}
+use Rattle.cpo_elab.specs.Answers.{Answer, number_at, after_form, refused_or, judged}
 use Rattle.cpo_elab.specs.Laws.{OnlyToldCount}
-use Rattle.cpo_elab.proofs.Count.{few}
+use Rattle.cpo_elab.proofs.Stepped.{few}
 
 -- a statement beyond the limit deserves a number, so what is judged behind it says nothing
 late : (m : Data) (k at : ℕ) (s : Statement) (a b : Answer) (o : Option ℕ) → number_in m (k + 1) s ≡ o → statement_limit ≤ k → refused_or o (k + 1) at a ≡ refused_or o (k + 1) at b
 late m k at s a b (Some n) is above = refl
 late m k at s a b None is above = let below = few m k s is in absurd (omega arith)
 
-late_small : (m : Data) (k at : ℕ) (o : Option Statement) (a b : Answer) → statement_limit ≤ k → refused_or (number_of_small m (k + 1) o) (k + 1) at a ≡ refused_or (number_of_small m (k + 1) o) (k + 1) at b
-late_small m k at None a b above = refl
-late_small m k at (Some s) a b above = late m k at s a b (number_in m (k + 1) s) refl above
-
 late_form : (m : Data) (k at : ℕ) (f : Form) (a b : Answer) → statement_limit ≤ k → refused_or (number_at m (k + 1) f) (k + 1) at a ≡ refused_or (number_at m (k + 1) f) (k + 1) at b
-late_form m k at (Parsed s) a b above = late_small m k at (small_of s) a b above
+late_form m k at (Parsed s) a b above = late m k at s a b (number_in m (k + 1) s) refl above
 late_form m k at (Number n) a b above = refl
 
 told_first : (m : Data) (n k : ℕ) (xs : List Reading) → statement_limit ≤ n + k → judged m (k + 1) (take (suc n) xs) ≡ judged m (k + 1) xs

@@ -15,10 +15,8 @@ use Rattle.cpo_text.specs.declared.text.Refusal.{Refusal}
 use Rattle.cpo_text.specs.declared.text.Tree.{Tree}
 use Rattle.cpo_elab.specs.Answers.{judged}
 use Rattle.cpo_elab.specs.Answers.Answer.{Refused}
-use Rattle.cpo_elab.specs.Deserves.{served, unserved}
 use Rattle.cpo_elab.specs.Deserves.Deserves.{unread, judgement}
-use Rattle.cpo_elab.specs.Deserves.DeservesServed.{unread as unread_served, judgement as judgement_served}
-use Rattle.cpo_elab.specs.Laws.{SomeAnswer, SomeServed}
+use Rattle.cpo_elab.specs.Laws.{SomeAnswer}
 
 abbrev Decided : List Word → Type 0
 Decided ws = IsGrammatical ws ⊎ (IsGrammatical ws → ⊥)
@@ -62,10 +60,4 @@ pub some_answer : EveryTextHasTokensOrBadByte → GrammarIsDecided → SomeAnswe
 some_answer bytes grammar text = elim (read_or_refused bytes grammar text) [
   | inl read ↦ (judged empty_model 1 read.0.statements, judgement read.0 read.1 refl)
   | inr refused ↦ (Refused refused.0, unread refused.0 refused.1 refl)
-]
-
-pub some_served : EveryTextHasTokensOrBadByte → GrammarIsDecided → SomeServed
-some_served bytes grammar text = elim (read_or_refused bytes grammar text) [
-  | inl read ↦ (served read.0.commented (judged empty_model 1 read.0.statements), judgement_served read.0 read.1 refl)
-  | inr refused ↦ (unserved, unread_served refused.0 refused.1 refl)
 ]

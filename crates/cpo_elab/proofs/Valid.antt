@@ -1,117 +1,60 @@
--- A statement that deserves no number leaves the model valid.
-use Rattle.std.proofs.Common.{◌≡◌, ℕ, suc, true, false, not, ◌||◌, List, [], ◌∷◌, ◌++◌, length, position, Option, Some, None, is_some, nat_lt, refl, sym, ap, subst, ◌∙◌, arith}
-use Rattle.std.specs.List.{list_all, list_any}
-use Rattle.std.specs.Str.{bytes_eq}
-use Rattle.std.proofs.lemmas.List.{map-append}
-use Rattle.std.proofs.lemmas.Bool.Decides.{nat_tests}
-use Rattle.sched_model.specs.Data.{Data, with_interval, with_constraint, with_objective}
-use Rattle.sched_model.specs.Valid as valid
-use Rattle.sched_model.specs.Valid.{IsValid, is_within_limits, is_name, are_names, all_names, is_interval_def, is_constraint, is_itv}
-use Rattle.cpo_text.specs.declared.tree.Int.{Int}
-use Rattle.cpo_text.specs.declared.tree.Ivarg.{Ivarg}
-use Rattle.cpo_elab.specs.declared.small.Definition.{Definition}
-use Rattle.cpo_elab.specs.declared.small.Definition.TheVariants.{IntervalVar}
-use Rattle.cpo_elab.specs.declared.small.Temporal.{Temporal}
-use Rattle.cpo_elab.specs.declared.small.Temporal.TheVariants.{EndBeforeStart}
-use Rattle.cpo_elab.specs.declared.small.Constrained.{Constrained}
-use Rattle.cpo_elab.specs.declared.small.Constrained.TheVariants.{Between}
-use Rattle.cpo_elab.specs.declared.small.Sense.{Sense}
-use Rattle.cpo_elab.specs.declared.small.Logic.{Logic}
-use Rattle.cpo_elab.specs.declared.small.Logic.TheVariants.{EndOf}
-use Rattle.cpo_elab.specs.declared.small.Statement.{Statement}
-use Rattle.cpo_elab.specs.declared.small.Statement.TheVariants.{Define, Constrain, Aim}
-use Rattle.cpo_elab.specs.Named.{is_defined}
-use Rattle.cpo_elab.specs.Elaborated.{plain_interval, interval_of, constraint_of, expr_of, sense_of}
-use Rattle.cpo_elab.specs.Judged.{is_spelt, is_long, is_outside, is_wide, bounds_in, args_in, statement_limit, has_large_delay, number_in}
-use Rattle.cpo_elab.specs.Steps.{CanDefine}
-use Rattle.cpo_elab.proofs.Truth.{both, joined, all_three, neither, none_of_three, not_true}
-use Rattle.cpo_elab.proofs.Lists.{all_push, pairwise_push, differs}
-use Rattle.cpo_elab.proofs.Places.{found}
-use Rattle.cpo_elab.proofs.Ranges.{with_all, plain_fits, name_kept, small_delay}
-use Rattle.cpo_elab.proofs.Clear.{Clear, clear}
-use Rattle.cpo_elab.proofs.Growing.{constraints_stay, objective_stays, named_itv}
+-- A statement that deserves no number leaves a valid model valid.
+use Rattle.std.proofs.Common.{◌≡◌, ℕ, ◌+◌, true, false, ◌&&◌, length, sum_by, Option, Some, None, is_some, nat_le, refl, ap, ◌∙◌, arith}
+use Rattle.std.specs.Option.{option_to_list}
+use Rattle.sched_model.specs.Words.{passes_if_any}
+use Rattle.sched_model.specs.declared.types.Objective.{Objective}
+use Rattle.sched_model.specs.Data.{Data, with_objective}
+use Rattle.sched_model.specs.Valid.{IsValid, is_within_limits, node_total, node_count, cell_count}
+use Rattle.cpo_text.specs.declared.expression.Logic.{Logic}
+use Rattle.cpo_text.specs.declared.tree.Constrained.{Constrained}
+use Rattle.cpo_text.specs.declared.tree.Sense.{Sense}
+use Rattle.cpo_text.specs.declared.tree.Statement.{Statement}
+use Rattle.cpo_text.specs.declared.tree.Statement.TheVariants.{Empty, Define, Constrain, Aim}
+use Rattle.cpo_elab.specs.Held.{logic_in}
+use Rattle.cpo_elab.specs.Elaborated.{after, objective_of, with_written}
+use Rattle.cpo_elab.specs.Judged.{number_in}
+use Rattle.cpo_elab.specs.Shaped.{is_shaped, is_spelt, has_operands}
+use Rattle.cpo_elab.proofs.Truth.{both, joined}
+use Rattle.cpo_elab.proofs.Clear.{clear}
+use Rattle.cpo_elab.proofs.Facts.{Facts, facts}
+use Rattle.cpo_elab.proofs.Expressions.{expr_made}
+use Rattle.cpo_elab.proofs.Defined.{define_valid}
+use Rattle.cpo_elab.proofs.Stated.{written_valid, constrain_valid}
 
-short_enough : (n : ℕ) → nat_lt 64 (suc n) ≡ false → nat_lt n 64 ≡ true
-short_enough n h = grind (arith, nat_tests)
+-- objectives
 
-pub names_are_short : (n : List ℕ) → is_spelt n ≡ true → is_long n ≡ false → is_name n ≡ true
-names_are_short [] spelt short = spelt
-names_are_short (c ∷ cs) spelt short =
-    let parts = both (valid.is_letter c) (list_all valid.is_name_byte cs) spelt in
-    all_three (valid.is_letter c) (list_all valid.is_name_byte cs) _ parts.0 parts.1 (short_enough (length cs) short)
+only : {X : Type 0} (f : X → ℕ) (o : Option X) (x : X) → is_some o ≡ false → sum_by f (option_to_list (Some x)) ≡ sum_by f (option_to_list o) + f x
+only f None x none = refl
+only f (Some y) x none = cc none
 
-names_push : (ns : List (List ℕ)) (n : List ℕ) → are_names ns ≡ true → is_name n ≡ true → is_some (position (bytes_eq n) ns) ≡ false → are_names (ns ++ n ∷ []) ≡ true
-names_push ns n before name fresh =
-    let parts = both (list_all is_name ns) _ before in
-    joined _ _ (all_push is_name ns n parts.0 name) (pairwise_push _ ns n parts.1 (differs n ns (sym (found (bytes_eq n) ns) ∙ fresh)))
+nodes_with : (m : Data) (o : Objective) → is_some m.objective ≡ false → node_total (with_objective o m) ≡ node_total m + node_count o.expr
+nodes_with m o none = let more = only (λ o. node_count o.expr) m.objective o none in omega (arith, more)
 
-pub all_names_more : (m : Data) (n : List ℕ) (args : List Ivarg) → all_names (with_interval (interval_of n args) m) ≡ all_names m ++ n ∷ []
-all_names_more m n args = map-append (λ d. d.name) m.intervals (interval_of n args ∷ []) ∙ ap (λ x. all_names m ++ x ∷ []) (name_kept (plain_interval n) args)
+limits_with : (m : Data) (o : Objective) → is_some m.objective ≡ false → is_within_limits m ≡ true → nat_le (node_total m + node_count o.expr) 100000 ≡ true → is_within_limits (with_objective o m) ≡ true
+limits_with m o none before room =
+    let parts = both (nat_le (length m.intervals) 2000 && nat_le (length m.sequences) 200 && nat_le (length m.matrices) 200 && nat_le (length m.cumuls) 2000 && nat_le (length m.states) 200
+    && nat_le (length m.constraints) 20000 && nat_le (cell_count m) 1000000) (nat_le (node_total m) 100000) before in
+    joined _ _ parts.0 (ap (λ n. nat_le n 100000) (nodes_with m o none) ∙ room)
 
-none_of : {X : Type 0} (o : Option X) → is_some o ≡ false → o ≡ None
-none_of None h = refl
-none_of (Some x) h = cc
+aim_valid : (m : Data) (s : Sense) (e : Logic) → IsValid m → has_operands e ≡ true → Facts m (Aim s e) → IsValid (with_objective (objective_of m s e) m)
+aim_valid m s e before shaped facts = record {
+  names = before.names;
+  intervals = before.intervals;
+  matrices = before.matrices;
+  sequences = before.sequences;
+  cumuls = before.cumuls;
+  states = before.states;
+  constraints = before.constraints;
+  objective = expr_made m e facts.uses shaped facts.hull;
+  limits = limits_with m (objective_of m s e) facts.single before.limits facts.room;
+}
 
-define_when_clear : (m : Data) (k : ℕ) (n : List ℕ) (args : List Ivarg) → IsValid m → Clear m k (Define n (IntervalVar args)) → CanDefine m n args
-define_when_clear m k n args before clear =
-    let spelt = not_true _ (neither (not (is_spelt n)) false clear.spelt).0 in
-    let fresh = (neither (is_defined m n) false clear.fresh).0 in
-    let limits = none_of_three (nat_lt statement_limit k) (is_wide (Define n (IntervalVar args))) (not (is_within_limits (with_interval (interval_of n args) m))) clear.within in
-    let parts = neither (is_long n) (list_any (λ a. is_outside (bounds_in a)) args) limits.1 in
-    record {
-      valid = record {
-        names = subst (λ ns. are_names ns ≡ true) (sym (all_names_more m n args)) (names_push (all_names m) n before.names (names_are_short n spelt parts.0) fresh);
-        intervals = all_push is_interval_def m.intervals (interval_of n args) before.intervals (with_all (plain_interval n) args parts.1 clear.ordered clear.sized (plain_fits n));
-        constraints = constraints_stay m (interval_of n args) before.constraints;
-        objective = objective_stays m (interval_of n args) m.objective before.objective;
-        limits = not_true _ limits.2;
-      };
-      fresh = none_of _ fresh;
-      inside = parts.1;
-    }
+pub valid_after : (m : Data) (k : ℕ) (s : Statement) → IsValid m → is_shaped s ≡ true → number_in m k s ≡ None → IsValid (after m s)
+valid_after m k Empty before shaped none = before
+valid_after m k (Define n d) before shaped none = define_valid m n d before (both (is_spelt n) true shaped).0 (facts m k (Define n d) (clear m k (Define n d) none))
+valid_after m k (Constrain c) before shaped none =
+    constrain_valid m c before (both true (passes_if_any has_operands (logic_in (Constrain c))) shaped).1 (facts m k (Constrain c) (clear m k (Constrain c) none))
+valid_after m k (Aim s e) before shaped none = aim_valid m s e before (both true (has_operands e) shaped).1 (facts m k (Aim s e) (clear m k (Aim s e) none))
 
-constrain_when_clear : (m : Data) (k : ℕ) (t : Temporal) (a b : List ℕ) (z : Option Int) → IsValid m → Clear m k (Constrain (Between t a b z)) → IsValid (with_constraint (constraint_of m (Between t a b z)) m)
-constrain_when_clear m k EndBeforeStart a b z before clear =
-    let first = neither (not (is_defined m a)) (not (is_defined m b) || false) clear.known in
-    let second = neither (not (is_defined m b)) false first.1 in
-    let limits = none_of_three (nat_lt statement_limit k) false (not (is_within_limits (with_constraint (constraint_of m (Between EndBeforeStart a b z)) m))) clear.within in
-    record {
-      names = before.names;
-      intervals = before.intervals;
-      constraints = all_push (is_constraint m) m.constraints (constraint_of m (Between EndBeforeStart a b z)) before.constraints
-          (all_three _ _ _ (named_itv m a (not_true _ first.0)) (named_itv m b (not_true _ second.0)) (small_delay z clear.literals));
-      objective = before.objective;
-      limits = not_true _ limits.2;
-    }
-
-aim_when_clear : (m : Data) (k : ℕ) (s : Sense) (e : Logic) → IsValid m → Clear m k (Aim s e) → IsValid (with_objective (record { sense = sense_of s; expr = expr_of m e }) m)
-aim_when_clear m k s (EndOf a) before clear =
-    let known = neither (not (is_defined m a)) false clear.known in
-    record {
-      names = before.names;
-      intervals = before.intervals;
-      constraints = before.constraints;
-      objective = joined _ _ (named_itv m a (not_true _ known.0)) refl;
-      limits = before.limits;
-    }
-
--- the same of a statement that is one of these
-
-define_this : (m : Data) (k : ℕ) (n : List ℕ) (d : Definition) → IsValid m → Clear m k (Define n d) → CanDefine m n (args_in d)
-define_this m k n (IntervalVar args) before here = define_when_clear m k n args before here
-
-pub can_define : (m : Data) (k : ℕ) (s : Statement) (name n : List ℕ) (d : Definition) (args : List Ivarg) → s ≡ Define name d → n ≡ name → args ≡ args_in d → IsValid m → number_in m k s ≡ None → CanDefine m n args
-can_define m k s name n d args is n_is args_is before none =
-    subst (λ x. CanDefine m x args) (sym n_is) (subst (CanDefine m name) (sym args_is) (define_this m k name d before (subst (Clear m k) is (clear m k s none))))
-
-constrain_this : (m : Data) (k : ℕ) (c : Constrained) → IsValid m → Clear m k (Constrain c) → IsValid (with_constraint (constraint_of m c) m)
-constrain_this m k (Between t a b z) before here = constrain_when_clear m k t a b z before here
-
-pub can_constrain : (m : Data) (k : ℕ) (s : Statement) (c : Constrained) → s ≡ Constrain c → IsValid m → number_in m k s ≡ None → IsValid (with_constraint (constraint_of m c) m)
-can_constrain m k s c is before none = constrain_this m k c before (subst (Clear m k) is (clear m k s none))
-
-pub small_constraint : (m : Data) (k : ℕ) (s : Statement) (c : Constrained) → s ≡ Constrain c → number_in m k s ≡ None → has_large_delay c ≡ false
-small_constraint m k s c is none = let here : Clear m k (Constrain c) = subst (Clear m k) is (clear m k s none) in here.literals
-
-pub can_aim : (m : Data) (k : ℕ) (s : Statement) (sense : Sense) (e : Logic) → s ≡ Aim sense e → IsValid m → number_in m k s ≡ None → IsValid (with_objective (record { sense = sense_of sense; expr = expr_of m e }) m)
-can_aim m k s sense e is before none = aim_when_clear m k sense e before (subst (Clear m k) is (clear m k s none))
+pub valid_written : (m : Data) (k : ℕ) (c : Constrained) → IsValid m → number_in m k (Constrain c) ≡ None → IsValid (with_written m c)
+valid_written m k c before none = written_valid m c before (facts m k (Constrain c) (clear m k (Constrain c) none))

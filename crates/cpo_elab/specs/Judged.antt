@@ -1,115 +1,144 @@
 -- The number that a statement deserves behind the statements before it: a test for each line of the table of refusals.
-use Rattle.std.specs.Prelude.{ℕ, ℤ, pos, Bool, true, false, not, ◌&&◌, ◌||◌, List, [], ◌∷◌, length, Option, Some, None, if◌then◌else◌, is_some, nat_lt, int_lt}
-use Rattle.std.specs.List.{list_all, list_any}
-use Rattle.sched_model.specs.Data.{Data}
-use Rattle.sched_model.specs.Valid.{is_moment, is_within_limits}
-use Rattle.cpo_text.specs.Tokens.{is_letter, is_name_byte, literal_limit}
+use Rattle.std.specs.Prelude.{ℕ, ◌+◌, ℤ, pos, Bool, true, false, not, ◌&&◌, ◌||◌, List, ◌∷◌, [], length, Option, Some, None, if◌then◌else◌, is_some, is_none, nat_eq, nat_lt, nat_le, int_lt}
+use Rattle.std.specs.List.{list_all}
+use Rattle.sched_model.specs.Words.{passes}
+use Rattle.sched_model.specs.Bounds.{is_moment}
+use Rattle.sched_model.specs.Data.{Data, has, members_of, state_matrix, matrix_of}
+use Rattle.sched_model.specs.Domain.{is_row}
+use Rattle.sched_model.specs.Hull.{hull_of}
+use Rattle.sched_model.specs.Valid.{are_distinct, node_count, node_total, is_within_limits, fits_types}
+use Rattle.cpo_text.specs.declared.tree.Definition.{Definition}
+use Rattle.cpo_text.specs.declared.tree.Definition.TheVariants.{SequenceVar, TransitionMatrix}
 use Rattle.cpo_text.specs.declared.tree.Int.{Int}
-use Rattle.cpo_text.specs.declared.tree.Range.{Range}
-use Rattle.cpo_text.specs.declared.tree.Ivarg.{Ivarg}
-use Rattle.cpo_text.specs.declared.tree.Ivarg.TheVariants.{Start, End, Size}
-use Rattle.cpo_elab.specs.declared.small.Definition.{Definition}
-use Rattle.cpo_elab.specs.declared.small.Definition.TheVariants.{IntervalVar}
-use Rattle.cpo_elab.specs.declared.small.Constrained.{Constrained}
-use Rattle.cpo_elab.specs.declared.small.Constrained.TheVariants.{Between}
-use Rattle.cpo_elab.specs.declared.small.Statement.{Statement}
-use Rattle.cpo_elab.specs.declared.small.Statement.TheVariants.{Define, Constrain, Aim}
-use Rattle.cpo_elab.specs.Named.{is_defined, definition_names, uses_of}
-use Rattle.cpo_elab.specs.Elaborated.{range_of, after}
-
--- What a statement holds, by what is tested of it.
-
-abbrev pub args_in : Definition → List Ivarg
-args_in (IntervalVar args) = args
-
-abbrev pub ivargs_of : Statement → List Ivarg
-ivargs_of (Define n d) = args_in d
-ivargs_of _ = []
-
-abbrev pub range_in : Ivarg → Range
-range_in (Start r) = r
-range_in (End r) = r
-range_in (Size r) = r
-
--- the ends of the range of an argument
-abbrev pub bounds_in : Ivarg → ℤ × ℤ
-bounds_in a = range_of (range_in a)
-
--- 2: a name that is no name of the language; no text has such a statement
-abbrev pub is_spelt : List ℕ → Bool
-is_spelt [] = false
-is_spelt (c ∷ cs) = is_letter c && list_all is_name_byte cs
-
-abbrev pub is_misspelt : Statement → Bool
-is_misspelt s = list_any (λ n. not (is_spelt n)) (definition_names s)
-
--- 3: a literal above the bound
-abbrev pub is_above_limit : Option ℕ → Bool
-is_above_limit None = true
-is_above_limit (Some n) = nat_lt literal_limit n
-
-abbrev pub is_large_int : Int → Bool
-is_large_int i = is_above_limit i.size
-
-abbrev pub is_large_if_any : Option Int → Bool
-is_large_if_any None = false
-is_large_if_any (Some i) = is_large_int i
-
-abbrev pub is_large_range : Range → Bool
-is_large_range r = is_large_int r.from || is_large_if_any r.to
-
-abbrev pub has_large_delay : Constrained → Bool
-has_large_delay (Between t a b z) = is_large_if_any z
-
-abbrev pub has_large_literal : Statement → Bool
-has_large_literal (Define n (IntervalVar args)) = list_any (λ a. is_large_range (range_in a)) args
-has_large_literal (Constrain c) = has_large_delay c
-has_large_literal _ = false
+use Rattle.cpo_text.specs.declared.tree.Over.{Over}
+use Rattle.cpo_text.specs.declared.tree.Over.TheVariants as over
+use Rattle.cpo_text.specs.declared.tree.Constrained.{Constrained}
+use Rattle.cpo_text.specs.declared.tree.Constrained.TheVariants.{NoOverlap, Extreme, Ordered, AlwaysEqual}
+use Rattle.cpo_text.specs.declared.tree.Statement.{Statement}
+use Rattle.cpo_text.specs.declared.tree.Statement.TheVariants.{Define, Constrain, Aim}
+use Rattle.cpo_elab.specs.declared.factors.Factor.{Factor}
+use Rattle.cpo_elab.specs.declared.factors.Factor.TheVariants.{Crowded}
+use Rattle.cpo_elab.specs.Named.{NameTest, number_of, is_defined, itv_of, itvs_of, mat_of, seq_of, stf_of, some_name, name_defined}
+use Rattle.cpo_elab.specs.Numbers.{int_of}
+use Rattle.cpo_elab.specs.Held.{logic_in, some_bound, levels_in, some_size, some_amount, list_in, members_in, rows_in}
+use Rattle.cpo_elab.specs.Elaborated.{after, expr_of}
+use Rattle.cpo_elab.specs.Factors.{factor_of}
 
 -- 4: a name that is defined already
 abbrev pub defines_again : Data → Statement → Bool
-defines_again m s = list_any (is_defined m) (definition_names s)
+defines_again m s = passes (is_defined m) (name_defined s)
 
 -- 5: a name that no earlier statement defines
-abbrev pub uses_unknown : Data → Statement → Bool
-uses_unknown m s = list_any (λ n. not (is_defined m n)) (uses_of s)
+abbrev pub is_unknown : Data → NameTest
+is_unknown m sort n = not (is_defined m n)
 
--- 7: a range with its ends turned round
+abbrev pub uses_unknown : Data → Statement → Bool
+uses_unknown m s = some_name (is_unknown m) s
+
+-- 6: a name of another sort than its place asks for, or an interval that is no member of the sequence named with it
+abbrev pub is_of_other_sort : Data → NameTest
+is_of_other_sort m sort n = is_none (number_of m sort n)
+
+abbrev pub is_no_member : Data → List ℕ → List ℕ → Bool
+is_no_member m p a = not (has (members_of m (seq_of m p)) (itv_of m a))
+
+abbrev pub asks_others : Data → Constrained → Bool
+asks_others m (Extreme e p a) = is_no_member m p a
+asks_others m (Ordered o p a b) = is_no_member m p a || is_no_member m p b
+asks_others m _ = false
+
+abbrev pub lacks_member : Data → Statement → Bool
+lacks_member m (Constrain c) = asks_others m c
+lacks_member m _ = false
+
+abbrev pub uses_wrong : Data → Statement → Bool
+uses_wrong m s = some_name (is_of_other_sort m) s || lacks_member m s
+
+-- 7: a range, a pair of moments or a pair lo, hi with its ends turned round
 abbrev pub is_reversed : ℤ × ℤ → Bool
 is_reversed r = int_lt r.1 r.0
 
 abbrev pub has_reversed : Statement → Bool
-has_reversed s = list_any (λ a. is_reversed (bounds_in a)) (ivargs_of s)
+has_reversed s = some_bound is_reversed s || passes is_reversed (levels_in s)
 
--- 8: a negative size
-abbrev pub is_negative_size : Ivarg → Bool
-is_negative_size (Size r) = int_lt (range_of r).0 (pos 0)
-is_negative_size _ = false
+-- 8: a negative size, height, type, distance or state
+abbrev pub is_negative : ℤ → Bool
+is_negative z = int_lt z (pos 0)
 
 abbrev pub has_negative : Statement → Bool
-has_negative s = list_any is_negative_size (ivargs_of s)
+has_negative s = some_size is_negative s || some_amount is_negative s
 
--- 11: too many statements; a long name; an end of a range outside -H to H; too many intervals or constraints with the statement
-abbrev pub is_long : List ℕ → Bool
-is_long n = nat_lt 64 (length n)
+-- 9: a matrix that isn't as many rows of as many numbers, or that is empty; another number of types than of members; a type or
+-- a state that is no row of the matrix; a matrix over a sequence without types
+abbrev pub is_square : List (List Int) → Bool
+is_square rows = nat_le 1 (length rows) && list_all (λ row. nat_eq (length row) (length rows)) rows
 
+abbrev pub has_rows_for : Data → Over → List ℕ → Bool
+has_rows_for m (over.Named p) x = fits_types m (seq_of m p) (mat_of m x)
+has_rows_for m (over.Listed ns) x = false
+
+abbrev pub is_matched : Definition → Bool
+is_matched (TransitionMatrix rows) = is_square rows
+is_matched (SequenceVar ns (Some types)) = nat_eq (length types) (length ns)
+is_matched _ = true
+
+abbrev pub has_rows : Data → Constrained → Bool
+has_rows m (NoOverlap p (Some s)) = has_rows_for m p s.matrix
+has_rows m (AlwaysEqual g a v aligned) = is_row (matrix_of m (state_matrix m (stf_of m g))) (int_of v)
+has_rows m _ = true
+
+abbrev pub misfits : Data → Statement → Bool
+misfits m (Define n d) = not (is_matched d)
+misfits m (Constrain c) = not (has_rows m c)
+misfits m _ = false
+
+-- 10: an interval twice in one list, or twice in `before` or `prev`
+abbrev pub has_twice : Data → Statement → Bool
+has_twice m s = not (are_distinct (itvs_of m (list_in s)))
+
+-- 11: a limit passed, by the statement itself or by the text up to it
 abbrev pub is_outside : ℤ × ℤ → Bool
 is_outside r = not (is_moment r.0) || not (is_moment r.1)
 
+abbrev pub is_large : ℤ → Bool
+is_large z = int_lt (pos 1000000) z
+
 abbrev pub is_wide : Statement → Bool
-is_wide (Define n (IntervalVar args)) = is_long n || list_any (λ a. is_outside (bounds_in a)) args
-is_wide _ = false
+is_wide s = passes (λ n. nat_lt 64 (length n)) (name_defined s) || (some_bound is_outside s || (some_amount is_large s || nat_lt 200 (length (rows_in s))))
 
 abbrev pub statement_limit : ℕ
 statement_limit = 100000
 
+abbrev pub node_limit : ℕ
+node_limit = 100000
+
+-- the nodes of a second objective count beside those of the first
+abbrev pub fits : Data → Statement → Bool
+fits m (Aim sense e) = nat_le (node_total m + node_count (expr_of m e)) node_limit
+fits m s = is_within_limits (after m s)
+
+abbrev pub leaves_room : Data → Statement → Bool
+leaves_room m s = nat_le (length (members_in s)) 500 && fits m s
+
 abbrev pub passes_limit : Data → ℕ → Statement → Bool
-passes_limit m k s = nat_lt statement_limit k || is_wide s || not (is_within_limits (after m s))
+passes_limit m k s = nat_lt statement_limit k || (is_wide s || not (leaves_room m s))
 
 -- 12: a second objective
 abbrev pub aims_again : Data → Statement → Bool
 aims_again m (Aim sense e) = is_some m.objective
 aims_again m _ = false
+
+-- 13: an expression some part of which has no hull within the bound on literals
+abbrev pub has_no_hull : Data → Statement → Bool
+has_no_hull m s = passes (λ e. is_none (hull_of m (expr_of m e))) (logic_in s)
+
+-- 14: a product with two factors that name an interval
+abbrev pub is_crowded : Factor → Bool
+is_crowded Crowded = true
+is_crowded _ = false
+
+abbrev pub has_crowded : Statement → Bool
+has_crowded s = passes (λ e. is_crowded (factor_of e)) (logic_in s)
 
 -- the number of the first test that says so
 abbrev pub first_of : List (Bool × ℕ) → Option ℕ
@@ -119,5 +148,5 @@ first_of (t ∷ ts) = if t.0 then Some t.1 else first_of ts
 -- the number that the k-th statement deserves in a model of those before it
 unfoldable pub number_in : Data → ℕ → Statement → Option ℕ
 number_in m k s = first_of
-    ((is_misspelt s, 2) ∷ (has_large_literal s, 3) ∷ (defines_again m s, 4) ∷ (uses_unknown m s, 5) ∷ (has_reversed s, 7) ∷ (has_negative s, 8)
-    ∷ (passes_limit m k s, 11) ∷ (aims_again m s, 12) ∷ [])
+    ((defines_again m s, 4) ∷ (uses_unknown m s, 5) ∷ (uses_wrong m s, 6) ∷ (has_reversed s, 7) ∷ (has_negative s, 8) ∷ (misfits m s, 9)
+    ∷ (has_twice m s, 10) ∷ (passes_limit m k s, 11) ∷ (aims_again m s, 12) ∷ (has_no_hull m s, 13) ∷ (has_crowded s, 14) ∷ [])

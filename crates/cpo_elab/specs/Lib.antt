@@ -1,8 +1,15 @@
-pub mod Small
 pub mod Named
+pub mod Numbers
+pub mod Held
 pub mod Elaborated
+pub mod Factors
 pub mod Judged
+pub mod Drafts
+pub mod Numbered
+pub mod NumberedLaws
 pub mod Answers
 pub mod Deserves
+pub mod Shaped
 pub mod Laws
+pub mod ValidLaws
 pub mod Steps

@@ -1,205 +1,135 @@
-ghost use Rattle.std.specs.Prelude.{◌≡◌};
-ghost use Rattle.std.specs.List.{list_all, list_any};
-ghost use Rattle.sched_model.specs.Valid.{is_moment};
-ghost use Rattle.cpo_text.specs.Tokens.{is_letter, is_name_byte};
-ghost use Rattle.cpo_elab.specs.Elaborated.{int_of, range_of};
-ghost use Rattle.cpo_elab.specs.Judged.{is_spelt, is_misspelt, is_large_int, is_large_if_any, is_large_range, has_large_literal, is_reversed, has_reversed, is_negative_size, has_negative, is_outside, is_wide, range_in, bounds_in, args_in};
+ghost use Rattle.std.specs.Prelude.{◌≡◌, ◌+◌, is_none, option_map, IfOk};
+ghost use Rattle.sched_model.specs.Words.{passes};
+ghost use Rattle.sched_model.specs.Hull.{hull_of};
+ghost use Rattle.cpo_elab.specs.Held.{logic_in};
+ghost use Rattle.cpo_elab.specs.Elaborated.{expr_of};
+ghost use Rattle.cpo_elab.specs.Factors.{factor_of};
+ghost use Rattle.cpo_elab.specs.Judged.{aims_again, has_no_hull, is_crowded, has_crowded, number_in};
 
-use crate::small::{Constrained, Definition, Statement};
-use cpo_text::{Int, Ivarg, Range};
-use sched_base::H;
+use crate::draft::Draft;
+use crate::exprs::expr_of;
+use crate::factors::{Factor, factor_of};
+use crate::fits::{has_twice, misfits};
+use crate::flaws::{has_negative, has_reversed};
+use crate::limits::passes_limit;
+use crate::number;
+use crate::uses::{defines_again, uses_unknown, uses_wrong};
+use cpo_text::{Constrained, Logic, Statement};
+use sched_base::NoMemory;
+use sched_model::{Expr, Model, hull};
+use std::alloc::Global;
 
-/// The bound on literals.
-const LITERAL_LIMIT: u64 = 4_611_686_018_427_387_904;
-
-/// The most bytes that a name may have.
-const NAME_LIMIT: usize = 64;
-
-fn is_letter(byte: u8) -> bool
-    ensures { result ≡ is_letter byte }
-{
-    byte.is_ascii_alphabetic() || byte == b'_'
-}
-
-fn is_name_byte(byte: u8) -> bool
-    ensures { result ≡ is_name_byte byte }
-{
-    is_letter(byte) || byte.is_ascii_digit()
-}
-
-fn are_name_bytes(bytes: &[u8]) -> bool
-    ensures { result ≡ list_all is_name_byte bytes.now }
-{
-    bytes.iter().all(|byte| is_name_byte(*byte))
-}
-
-fn is_spelt(name: &[u8]) -> bool
-    ensures { result ≡ is_spelt name.now }
-{
-    match name {
-        [] => false,
-        [first, rest @ ..] => is_letter(*first) && are_name_bytes(rest),
-    }
-}
-
-pub fn args_in(d: &Definition) -> &[Ivarg]
-    ensures { result.now ≡ args_in d.now }
-{
-    match d {
-        Definition::IntervalVar(args) => args.as_slice(),
-    }
-}
-
-/// Whether a name is defined that is no name of the language, which no text does.
-pub fn is_misspelt(s: &Statement) -> bool
-    ensures { result ≡ is_misspelt s.now }
+/// The expression of a statement, if it has one.
+fn written(alloc: Global, draft: &Draft, s: &Statement) -> Result<Option<Expr>, NoMemory>
+    ensures { IfOk result (λ o. o ≡ option_map (expr_of draft.now) (logic_in s.now)) }
 {
     match s {
-        Statement::Define(name, _) => !is_spelt(name.as_slice()),
+        Statement::Constrain(Constrained::Holds(e)) => Ok(Some(expr_of(alloc, draft, e)?)),
+        Statement::Aim(_, e) => Ok(Some(expr_of(alloc, draft, e)?)),
+        _ => Ok(None),
+    }
+}
+
+fn aims_again(draft: &Draft, s: &Statement) -> bool
+    ensures { result ≡ aims_again draft.now s.now }
+{
+    match s {
+        Statement::Aim(_, _) => draft.model().objective().is_some(),
         _ => false,
     }
 }
 
-/// The value of a number; 0 where it has none.
-pub fn int_of(i: Int) -> i128
-    ensures { result ≡ int_of i }
+/// Whether some part of an expression has no hull within the bound on literals.
+fn has_none(model: &Model, e: &Expr) -> bool
+    ensures { result ≡ is_none (hull_of model.now e.now) }
 {
-    let size = i128::from(i.size.unwrap_or(0));
-    if i.minus { -size } else { size }
-}
-
-pub fn range_of(r: Range) -> (i128, i128)
-    ensures { result ≡ range_of r }
-{
-    (int_of(r.from), int_of(r.to.unwrap_or(r.from)))
-}
-
-pub fn range_in(a: Ivarg) -> Range
-    ensures { result ≡ range_in a }
-{
-    match a {
-        Ivarg::Start(r) | Ivarg::End(r) | Ivarg::Size(r) => r,
-    }
-}
-
-/// The ends of the range of an argument.
-pub fn bounds_in(a: Ivarg) -> (i128, i128)
-    ensures { result ≡ bounds_in a }
-{
-    range_of(range_in(a))
-}
-
-fn is_large_int(i: Int) -> bool
-    ensures { result ≡ is_large_int i }
-{
-    match i.size {
+    match hull(model, e) {
         None => true,
-        Some(n) => LITERAL_LIMIT < n,
+        Some(_) => false,
     }
 }
 
-fn is_large_if_any(i: Option<Int>) -> bool
-    ensures { result ≡ is_large_if_any i }
+fn leaves_bound(draft: &Draft, written: &Option<Expr>) -> bool
+    ensures { result ≡ passes (λ e. is_none (hull_of draft.now e)) written.now }
 {
-    match i {
+    match written {
         None => false,
-        Some(i) => is_large_int(i),
+        Some(e) => has_none(draft.model(), e),
     }
 }
 
-fn is_large_range(r: Range) -> bool
-    ensures { result ≡ is_large_range r }
+#[tactic(auto, using(crate::proofs::Written::no_hull))]
+fn has_no_hull(draft: &Draft, s: &Statement, written: &Option<Expr>) -> bool
+    requires { written.now ≡ option_map (expr_of draft.now) (logic_in s.now) }
+    ensures { result ≡ has_no_hull draft.now s.now }
 {
-    is_large_int(r.from) || is_large_if_any(r.to)
+    let _ = s;
+    leaves_bound(draft, written)
 }
 
-fn has_large_range(args: &[Ivarg]) -> bool
-    ensures { result ≡ list_any (λ a. is_large_range (range_in a)) args.now }
+fn is_crowded(e: &Logic) -> bool
+    ensures { result ≡ is_crowded (factor_of e.now) }
 {
-    args.iter().any(|a| is_large_range(range_in(*a)))
+    match factor_of(e) {
+        Factor::Crowded => true,
+        _ => false,
+    }
 }
 
-/// Whether a literal is above the bound on literals.
-pub fn has_large_literal(s: &Statement) -> bool
-    ensures { result ≡ has_large_literal s.now }
+/// Whether a product has two factors that name an interval.
+fn has_crowded(s: &Statement) -> bool
+    ensures { result ≡ has_crowded s.now }
 {
     match s {
-        Statement::Define(_, Definition::IntervalVar(args)) => has_large_range(args.as_slice()),
-        Statement::Constrain(Constrained::Between(_, _, _, delay)) => is_large_if_any(*delay),
+        Statement::Constrain(Constrained::Holds(e)) => is_crowded(e),
+        Statement::Aim(_, e) => is_crowded(e),
         _ => false,
     }
 }
 
-fn is_reversed(r: (i128, i128)) -> bool
-    ensures { result ≡ is_reversed r }
+/// The number that a statement deserves behind so many others.
+#[tactic(auto, unfolding(crate::specs::Judged::number_in))]
+pub fn number_in(
+    alloc: Global,
+    draft: &Draft,
+    before: u32,
+    s: &Statement,
+) -> Result<Option<u32>, NoMemory>
+    ensures { IfOk result (λ o. o ≡ number_in draft.now (before + 1) s.now) }
 {
-    r.1 < r.0
-}
-
-fn has_reversed_range(args: &[Ivarg]) -> bool
-    ensures { result ≡ list_any (λ a. is_reversed (bounds_in a)) args.now }
-{
-    args.iter().any(|a| is_reversed(bounds_in(*a)))
-}
-
-/// Whether a range has its ends turned round.
-pub fn has_reversed(s: &Statement) -> bool
-    ensures { result ≡ has_reversed s.now }
-{
-    match s {
-        Statement::Define(_, Definition::IntervalVar(args)) => has_reversed_range(args.as_slice()),
-        _ => false,
+    if defines_again(draft, s) {
+        return Ok(Some(number::DEFINED_AGAIN));
     }
-}
-
-fn is_negative_size(a: Ivarg) -> bool
-    ensures { result ≡ is_negative_size a }
-{
-    match a {
-        Ivarg::Size(r) => range_of(r).0 < 0,
-        _ => false,
+    if uses_unknown(draft, s) {
+        return Ok(Some(number::UNKNOWN_NAME));
     }
-}
-
-/// Whether a size may be negative.
-pub fn has_negative(s: &Statement) -> bool
-    ensures { result ≡ has_negative s.now }
-{
-    match s {
-        Statement::Define(_, Definition::IntervalVar(args)) => {
-            args.as_slice().iter().any(|a| is_negative_size(*a))
-        }
-        _ => false,
+    if uses_wrong(draft, s) {
+        return Ok(Some(number::WRONG_NAME));
     }
-}
-
-fn is_moment(t: i128) -> bool
-    ensures { result ≡ is_moment t }
-{
-    let h = i128::from(H);
-    -h <= t && t <= h
-}
-
-fn is_outside(r: (i128, i128)) -> bool
-    ensures { result ≡ is_outside r }
-{
-    !is_moment(r.0) || !is_moment(r.1)
-}
-
-fn has_range_outside(args: &[Ivarg]) -> bool
-    ensures { result ≡ list_any (λ a. is_outside (bounds_in a)) args.now }
-{
-    args.iter().any(|a| is_outside(bounds_in(*a)))
-}
-
-/// Whether a name is too long, or an end of a range is outside the bounds on moments.
-pub fn is_wide(s: &Statement) -> bool
-    ensures { result ≡ is_wide s.now }
-{
-    match s {
-        Statement::Define(name, Definition::IntervalVar(args)) => {
-            name.len() > NAME_LIMIT || has_range_outside(args.as_slice())
-        }
-        _ => false,
+    if has_reversed(s) {
+        return Ok(Some(number::REVERSED_PAIR));
     }
+    if has_negative(s) {
+        return Ok(Some(number::NEGATIVE_AMOUNT));
+    }
+    if misfits(draft, s) {
+        return Ok(Some(number::MISFIT));
+    }
+    if has_twice(alloc, draft, s)? {
+        return Ok(Some(number::TWICE_IN_LIST));
+    }
+    let written = written(alloc, draft, s)?;
+    if passes_limit(draft, before, s, &written) {
+        return Ok(Some(number::LIMIT_PASSED));
+    }
+    if aims_again(draft, s) {
+        return Ok(Some(number::SECOND_OBJECTIVE));
+    }
+    if has_no_hull(draft, s, &written) {
+        return Ok(Some(number::NO_HULL));
+    }
+    if has_crowded(s) {
+        return Ok(Some(number::TWO_FACTORS));
+    }
+    Ok(None)
 }

@@ -2,18 +2,35 @@
 //! text becomes a model or deserves a refusal.
 #![tactic(auto)]
 
+mod build;
+mod constraints;
+mod copies;
+mod counts;
+mod draft;
 mod elaborator;
+mod exprs;
+mod factors;
+mod fits;
+mod flaws;
 mod interval;
 mod judge;
 mod laws;
+mod limits;
 mod names;
 mod number;
-mod small;
+mod numbered;
+mod numbered_laws;
+mod numbers;
+mod parts;
 #[cfg(test)]
 mod tests;
+mod uses;
+mod valid_laws;
 mod whole;
 
 pub use cpo_text::{ReadFault, Refusal, Tree};
 pub use laws::answer_is_determined;
+pub use numbered_laws::named_first_is_sound;
 pub use sched_model::Model;
+pub use valid_laws::statements_keep_models_valid;
 pub use whole::{elaborate, read_model};

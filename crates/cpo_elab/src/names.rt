@@ -1,23 +1,58 @@
-ghost use Rattle.std.specs.Prelude.{◌≡◌, ◌<◌, [], ◌∷◌, ◌++◌, length, None, IfSome, OnOk, OnErr};
-ghost use Rattle.cpo_elab.specs.Named.{place_of};
+ghost use Rattle.std.specs.Prelude.{◌≡◌, [], ◌∷◌, ◌++◌, None, OnOk};
+ghost use Rattle.std.specs.Str.{bytes_eq};
+ghost use Rattle.std.specs.Map.{lookup};
+ghost use Rattle.cpo_elab.specs.Drafts.{same_sort};
 
-use indexmap::IndexSet;
+use indexmap::IndexMap;
 use sched_base::NoMemory;
 use std::alloc::Global;
 use std::marker::Model;
 
-/// Names in the order in which they were defined. The number of a name is its place.
+/// The sorts of things that have names and numbers.
+#[derive(Clone, Copy, Debug, PartialEq, Eq)]
+pub enum Sort {
+    Interval,
+    Matrix,
+    Sequence,
+    /// A cumulative function.
+    Cumulated,
+    /// A state function.
+    State,
+}
+
+pub fn same_sort(x: Sort, y: Sort) -> bool
+    ensures { result ≡ same_sort x y }
+{
+    match (x, y) {
+        (Sort::Interval, Sort::Interval) => true,
+        (Sort::Matrix, Sort::Matrix) => true,
+        (Sort::Sequence, Sort::Sequence) => true,
+        (Sort::Cumulated, Sort::Cumulated) => true,
+        (Sort::State, Sort::State) => true,
+        (_, _) => false,
+    }
+}
+
+/// What a name stands for: the thing of a sort that has this number.
+#[derive(Clone, Copy, Debug, PartialEq, Eq)]
+pub struct Meaning {
+    pub sort: Sort,
+    pub id: u32,
+}
+
+/// Names in the order in which they were defined, each with its meaning.
 #[derive(Drop)]
 pub struct Names {
-    names: IndexSet<Vec<u8>>,
+    names: IndexMap<Vec<u8>, Meaning>,
 }
 
 impl Model for Names {
     ghost use Rattle.std.specs.Prelude.{List, ℕ, map};
+    ghost use Rattle.cpo_elab.specs.declared.names.Meaning.{Meaning};
 
-    ghost Value = { List (List ℕ) };
+    ghost Value = { List (List ℕ × Meaning) };
 
-    ghost view = { λ s. map (λ v. v.items) s.names.keys };
+    ghost view = { λ s. map (λ e. (e.0.items, e.1)) s.names.entries };
 }
 
 impl Names {
@@ -26,26 +61,26 @@ impl Names {
         ensures { result ≡ [] }
     {
         Names {
-            names: IndexSet::new(alloc),
+            names: IndexMap::new(alloc),
         }
     }
 
-    /// The number of a name, if it is there.
-    pub fn number_of(&self, name: &[u8]) -> Option<usize>
-        ensures number { result ≡ place_of name.now self.now }
-        ensures within { IfSome result (λ i. i < length self.now) }
+    /// The meaning of a name, if it has one.
+    pub fn find(&self, name: &[u8]) -> Option<Meaning>
+        ensures { result ≡ lookup (bytes_eq name.now) self.now }
     {
-        self.names.get_index_of(name)
+        match self.names.get(name) {
+            None => None,
+            Some(meaning) => Some(*meaning),
+        }
     }
 
-    /// Gives a new name the next number.
-    pub fn push(&mut self, alloc: Global, name: &[u8]) -> Result<(), NoMemory>
-        requires { place_of name.now self.old ≡ None }
-        ensures ok { OnOk result (self.new ≡ self.old ++ name.now ∷ []) }
-        ensures err { OnErr result (self.new ≡ self.old) }
+    /// Gives a new name its meaning.
+    pub fn push(&mut self, name: Vec<u8>, meaning: Meaning) -> Result<(), NoMemory>
+        requires { lookup (bytes_eq name.items) self.old ≡ None }
+        ensures { OnOk result (self.new ≡ self.old ++ (name.items, meaning) ∷ []) }
     {
-        let key = Vec::from_slice(alloc, name)?;
-        self.names.insert(key)?;
+        let _ = self.names.insert(name, meaning)?;
         Ok(())
     }
 }

@@ -1,13 +1,12 @@
-use Rattle.cpo_elab.proofs.Determined.{ReadingIsDetermined, at_most_one, at_most_one_served}
-use Rattle.cpo_elab.proofs.Given.{served_is_deserved}
+use Rattle.cpo_elab.proofs.Determined.{ReadingIsDetermined, at_most_one}
 use Rattle.cpo_elab.proofs.OnlyWords.{only_words_count}
-use Rattle.cpo_elab.proofs.Spelt.{texts_are_spelt}
+use Rattle.cpo_elab.proofs.Spelt.{texts_are_shaped}
 use Rattle.cpo_elab.proofs.Told.{only_told_count}
-use Rattle.cpo_elab.proofs.Total.{some_answer, some_served}
+use Rattle.cpo_elab.proofs.Total.{some_answer}
 use Rattle.cpo_elab.proofs.laws.answer_is_determined.Goals as goal
 
 pub returns : goal.returns
 returns c =
     let told = c.reading_is_determined.ensures in
     let laws : ReadingIsDetermined = record { tokens = told.tokens; bad_byte = told.bad_byte; not_both = told.not_both; statements = told.statements } in
-    record { one = at_most_one laws; one_served = at_most_one_served laws; served = served_is_deserved; words = only_words_count laws; told = only_told_count; some = some_answer told.every_text told.grammar; some_served = some_served told.every_text told.grammar; spelt = texts_are_spelt }
+    record { one = at_most_one laws; words = only_words_count laws; told = only_told_count; some = some_answer told.every_text told.grammar; shaped = texts_are_shaped }

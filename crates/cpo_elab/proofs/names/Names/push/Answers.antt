@@ -1,10 +1,11 @@
-use Rattle.std.proofs.Common.{ap, ◌∙◌, ◌++◌, ◌∷◌, []}
-use Rattle.cpo_elab.specs.Named.{place_of}
-use Rattle.cpo_elab.proofs.Places.{pushed}
+use Rattle.std.proofs.Common.{sym, ap, ◌∙◌, ◌++◌, ◌∷◌, [], map}
+use Rattle.std.specs.Str.{bytes_eq}
+use Rattle.std.specs.Map.{lookup}
+use Rattle.cpo_elab.proofs.Meanings.{pushed_entry}
 use Rattle.cpo_elab.proofs.names.Names.push.Goals as goal
 
-pub returns-clause-ok : goal.returns-clause-ok
-returns-clause-ok c =
-    pushed (λ v. v.items) c.self.inside.names.keys _ c.in_ok-key.key c.args.name.now c.in_ok-key.ensures.items c.in_ok-insert.ensures.keys
-    (ap (place_of c.args.name.now) c.self.view_is ∙ c.requires)
-    ∙ ap (λ ns. ns ++ c.args.name.now ∷ []) c.self.view_is
+pub returns : goal.returns
+returns c =
+    ap (map (λ e. (e.0.items, e.1))) c.in_ok-insert.ensures.entries
+    ∙ pushed_entry (λ v. v.items) c.self.inside.names.entries c.args.name c.args.meaning (ap (lookup (bytes_eq c.args.name.items)) c.self.view_is ∙ c.requires)
+    ∙ ap (λ es. es ++ (c.args.name.items, c.args.meaning) ∷ []) c.self.view_is

@@ -1,0 +1,23 @@
+use Rattle.cpo_elab.proofs.InPlace.{nothing_moves}
+use Rattle.cpo_elab.specs.Numbered.{is_named_sequence, is_named_cumul}
+use Rattle.cpo_elab.proofs.Parted.{at_new_place}
+use Rattle.cpo_elab.proofs.NumberedValid.{sequence_stays, parts_stay, stays_valid}
+use Rattle.cpo_elab.proofs.numbered_laws.named_first_is_sound.Goals as goal
+
+pub returns-clause-valid : goal.returns-clause-valid
+returns-clause-valid c = stays_valid
+
+pub returns-clause-sequences : goal.returns-clause-sequences
+returns-clause-sequences c = λ m p. at_new_place is_named_sequence m.sequences p.0
+
+pub returns-clause-cumuls : goal.returns-clause-cumuls
+returns-clause-cumuls c = λ m f. at_new_place is_named_cumul m.cumuls f.0
+
+pub returns-clause-members : goal.returns-clause-members
+returns-clause-members c = sequence_stays
+
+pub returns-clause-parts : goal.returns-clause-parts
+returns-clause-parts c = parts_stay
+
+pub returns-clause-nothing : goal.returns-clause-nothing
+returns-clause-nothing c = nothing_moves

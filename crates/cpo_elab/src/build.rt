@@ -1,0 +1,212 @@
+ghost use Rattle.std.specs.Prelude.{◌≡◌, ◌≤◌, ℕ, false, true, length, Some, None, IfOk, option_map};
+ghost use Rattle.sched_model.specs.Words.{passes};
+ghost use Rattle.sched_model.specs.Data.{with_constraint, with_objective};
+ghost use Rattle.sched_model.specs.Valid.{IsValid};
+ghost use Rattle.cpo_text.specs.declared.tree.Statement.TheVariants.{Define};
+ghost use Rattle.cpo_elab.specs.Named.{is_defined};
+ghost use Rattle.cpo_elab.specs.Held.{some_amount, some_int, rows_in};
+ghost use Rattle.cpo_elab.specs.Elaborated.{types_in, sequence_named, matrix_named, state_named, cumul_named, defined, constraint_of, named_itself, with_unnamed, with_listed, with_written, objective_of, after};
+ghost use Rattle.cpo_elab.specs.Judged.{is_large, is_negative, number_in};
+ghost use Rattle.cpo_elab.specs.Shaped.{is_shaped};
+
+use crate::constraints::{constraint_of, is_unnamed, sense_of};
+use crate::copies::{cells_in, itvs_of, types_in};
+use crate::draft::Draft;
+use crate::exprs::expr_of;
+use crate::interval::interval_of;
+use crate::parts::parts_in;
+use cpo_text::{Constrained, Cumul, Definition, Int, Logic, Over, Sense, Statement};
+use sched_base::{List, NoMemory};
+use sched_model::{CumulDef, MatrixDef, Objective, SequenceDef, StateDef};
+use std::alloc::Global;
+
+fn copy(alloc: Global, name: &[u8]) -> Result<List<u8>, NoMemory>
+    ensures { IfOk result (λ n. n ≡ name.now) }
+{
+    Ok(List::from_vec(Vec::from_slice(alloc, name)?))
+}
+
+fn types_if_any(alloc: Global, types: &Option<List<Int>>) -> Result<Option<List<u32>>, NoMemory>
+    requires large { passes (some_int is_large) types.now ≡ false }
+    requires negative { passes (some_int is_negative) types.now ≡ false }
+    ensures { IfOk result (λ o. o ≡ option_map types_in types.now) }
+{
+    match types {
+        None => Ok(None),
+        Some(types) => Ok(Some(types_in(alloc, types.as_slice())?)),
+    }
+}
+
+fn sequence_named(
+    alloc: Global,
+    draft: &Draft,
+    name: &[u8],
+    members: &[List<u8>],
+    types: &Option<List<Int>>,
+) -> Result<SequenceDef, NoMemory>
+    requires large { passes (some_int is_large) types.now ≡ false }
+    requires negative { passes (some_int is_negative) types.now ≡ false }
+    ensures { IfOk result (λ d. d ≡ sequence_named draft.now (Some name.now) members.now types.now) }
+{
+    let name = copy(alloc, name)?;
+    let members = itvs_of(alloc, draft, members)?;
+    let types = types_if_any(alloc, types)?;
+    Ok(SequenceDef {
+        name: Some(name),
+        members,
+        types,
+    })
+}
+
+fn matrix_named(alloc: Global, name: &[u8], rows: &[List<Int>]) -> Result<MatrixDef, NoMemory>
+    requires { length rows.now ≤ 200 }
+    ensures { IfOk result (λ d. d ≡ matrix_named name.now rows.now) }
+{
+    Ok(MatrixDef {
+        name: copy(alloc, name)?,
+        size: rows.len() as u32,
+        cells: cells_in(alloc, rows)?,
+    })
+}
+
+fn state_named(
+    alloc: Global,
+    draft: &Draft,
+    name: &[u8],
+    matrix: &Option<List<u8>>,
+) -> Result<StateDef, NoMemory>
+    ensures { IfOk result (λ d. d ≡ state_named draft.now name.now matrix.now) }
+{
+    let name = copy(alloc, name)?;
+    match matrix {
+        None => Ok(StateDef { name, matrix: None }),
+        Some(x) => Ok(StateDef {
+            name,
+            matrix: Some(draft.mat_of(x.as_slice())),
+        }),
+    }
+}
+
+fn cumul_named(alloc: Global, draft: &Draft, name: &[u8], c: &Cumul) -> Result<CumulDef, NoMemory>
+    ensures { IfOk result (λ d. d ≡ cumul_named draft.now (Some name.now) c.now) }
+{
+    Ok(CumulDef {
+        name: Some(copy(alloc, name)?),
+        parts: parts_in(alloc, draft, c)?,
+    })
+}
+
+/// The draft with a definition.
+fn define(alloc: Global, draft: Draft, name: &[u8], d: &Definition) -> Result<Draft, NoMemory>
+    requires valid { IsValid (defined draft name.now d.now) }
+    requires fresh { is_defined draft name.now ≡ false }
+    requires large { some_amount is_large (Define name.now d.now) ≡ false }
+    requires negative { some_amount is_negative (Define name.now d.now) ≡ false }
+    requires rows { length (rows_in (Define name.now d.now)) ≤ 200 }
+    ensures { IfOk result (λ e. e ≡ defined draft name.now d.now) }
+{
+    match d {
+        Definition::IntervalVar(args) => {
+            let def = interval_of(alloc, name, args.as_slice())?;
+            draft.with_interval(alloc, def)
+        }
+        Definition::SequenceVar(members, types) => {
+            let def = sequence_named(alloc, &draft, name, members.as_slice(), types)?;
+            draft.with_sequence(alloc, name, def)
+        }
+        Definition::TransitionMatrix(rows) => {
+            let def = matrix_named(alloc, name, rows.as_slice())?;
+            draft.with_matrix(alloc, def)
+        }
+        Definition::StateFunction(matrix) => {
+            let def = state_named(alloc, &draft, name, matrix)?;
+            draft.with_state(alloc, def)
+        }
+        Definition::Cumulative(c) => {
+            let def = cumul_named(alloc, &draft, name, c)?;
+            draft.with_cumul(alloc, name, def)
+        }
+    }
+}
+
+/// The draft with the sequence of a list, which has no name.
+fn with_listed(alloc: Global, draft: Draft, over: &Over) -> Result<Draft, NoMemory>
+    requires { IsValid (with_listed draft over.now) }
+    ensures { IfOk result (λ e. e ≡ with_listed draft over.now) }
+{
+    match over {
+        Over::Named(_) => Ok(draft),
+        Over::Listed(names) => {
+            let members = itvs_of(alloc, &draft, names.as_slice())?;
+            draft.with_listed(SequenceDef {
+                name: None,
+                members,
+                types: None,
+            })
+        }
+    }
+}
+
+/// The draft with the function of a cumulative expression, where that has no name.
+fn with_unnamed(alloc: Global, draft: Draft, c: &Cumul) -> Result<Draft, NoMemory>
+    requires { IsValid (with_unnamed draft c.now (named_itself c.now)) }
+    ensures { IfOk result (λ e. e ≡ with_unnamed draft c.now (named_itself c.now)) }
+{
+    if !is_unnamed(c) {
+        return Ok(draft);
+    }
+    let parts = parts_in(alloc, &draft, c)?;
+    draft.with_unnamed(CumulDef { name: None, parts })
+}
+
+/// The draft with what a constraint writes without a name.
+fn with_written(alloc: Global, draft: Draft, c: &Constrained) -> Result<Draft, NoMemory>
+    requires { IsValid (with_written draft c.now) }
+    ensures { IfOk result (λ e. e ≡ with_written draft c.now) }
+{
+    match c {
+        Constrained::NoOverlap(over, _) => with_listed(alloc, draft, over),
+        Constrained::Bounded(f, _, _) => with_unnamed(alloc, draft, f),
+        Constrained::AlwaysIn(f, _, _, _) => with_unnamed(alloc, draft, f),
+        _ => Ok(draft),
+    }
+}
+
+/// The draft with a constraint.
+fn constrain(alloc: Global, draft: Draft, c: &Constrained) -> Result<Draft, NoMemory>
+    requires written { IsValid (with_written draft c.now) }
+    requires valid { IsValid (with_constraint (constraint_of draft c.now) (with_written draft c.now)) }
+    ensures { IfOk result (λ e. e ≡ with_constraint (constraint_of draft c.now) (with_written draft c.now)) }
+{
+    let constraint = constraint_of(alloc, &draft, c)?;
+    let draft = with_written(alloc, draft, c)?;
+    draft.with_constraint(constraint)
+}
+
+/// The draft with an objective.
+fn aim(alloc: Global, draft: Draft, sense: Sense, e: &Logic) -> Result<Draft, NoMemory>
+    requires valid { IsValid (with_objective (objective_of draft sense e.now) draft) }
+    requires first { draft.objective ≡ None }
+    ensures { IfOk result (λ d. d ≡ with_objective (objective_of draft sense e.now) draft) }
+{
+    let expr = expr_of(alloc, &draft, e)?;
+    Ok(draft.with_objective(Objective {
+        sense: sense_of(sense),
+        expr,
+    }))
+}
+
+/// The draft with a statement that deserves no number behind some others.
+pub fn with_statement(alloc: Global, draft: Draft, s: &Statement) -> Result<Draft, NoMemory>
+    requires valid { IsValid draft }
+    requires shaped { is_shaped s.now ≡ true }
+    requires clear { (k : ℕ) × (number_in draft k s.now ≡ None) }
+    ensures { IfOk result (λ e. e ≡ after draft s.now) }
+{
+    match s {
+        Statement::Empty => Ok(draft),
+        Statement::Define(name, d) => define(alloc, draft, name.as_slice(), d),
+        Statement::Constrain(c) => constrain(alloc, draft, c),
+        Statement::Aim(sense, e) => aim(alloc, draft, *sense, e),
+    }
+}

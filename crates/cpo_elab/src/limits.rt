@@ -1,0 +1,285 @@
+ghost use Rattle.std.specs.Prelude.{◌≡◌, ◌+◌, ◌≤◌, ◌&&◌, ℕ, length, nat_le, nat_lt, option_map};
+ghost use Rattle.sched_model.specs.Words.{passes, passes_if_any};
+ghost use Rattle.sched_model.specs.Data.{with_interval, with_matrix, with_sequence, with_cumul, with_state};
+ghost use Rattle.sched_model.specs.Valid.{cell_count, node_total, node_count, pair_count, is_within_limits};
+ghost use Rattle.sched_model.specs.declared.types.IntervalDef.{IntervalDef};
+ghost use Rattle.sched_model.specs.declared.types.MatrixDef.{MatrixDef};
+ghost use Rattle.sched_model.specs.declared.types.SequenceDef.{SequenceDef};
+ghost use Rattle.sched_model.specs.declared.types.CumulDef.{CumulDef};
+ghost use Rattle.sched_model.specs.declared.types.StateDef.{StateDef};
+ghost use Rattle.cpo_text.specs.declared.tree.Statement.TheVariants.{Constrain};
+ghost use Rattle.cpo_elab.specs.Named.{name_defined};
+ghost use Rattle.cpo_elab.specs.Held.{listed_in, logic_in, logic_held, members_defined, members_written, rows_in};
+ghost use Rattle.cpo_elab.specs.Elaborated.{expr_of, named_itself, with_unnamed, with_listed, with_written, defined, after};
+ghost use Rattle.cpo_elab.specs.Judged.{is_wide, leaves_room, passes_limit};
+ghost use Rattle.cpo_elab.specs.Drafts.{capped};
+
+use crate::constraints::is_unnamed;
+use crate::counts::{nodes, pair_count, parts_count};
+use crate::draft::Draft;
+use crate::flaws::{has_large, is_outside};
+use cpo_text::{Constrained, Cumul, Definition, Over, Statement};
+use sched_model::Expr;
+
+/// The most statements that a text may have, empty ones counted.
+pub const STATEMENT_LIMIT: u32 = 100_000;
+
+/// The most bytes that a name may have.
+const NAME_LIMIT: usize = 64;
+
+const INTERVAL_LIMIT: usize = 2_000;
+
+const SEQUENCE_LIMIT: usize = 200;
+
+/// The most members of a sequence.
+const MEMBER_LIMIT: usize = 500;
+
+const MATRIX_LIMIT: usize = 200;
+
+/// The most rows of a matrix.
+const ROW_LIMIT: usize = 200;
+
+const CUMUL_LIMIT: usize = 2_000;
+
+const STATE_LIMIT: usize = 200;
+
+const CONSTRAINT_LIMIT: usize = 20_000;
+
+/// The most cells: five for each interval, and one for each two members of a sequence.
+const CELL_LIMIT: usize = 1_000_000;
+
+fn is_long(s: &Statement) -> bool
+    ensures { result ≡ passes (λ n. nat_lt 64 (length n)) (name_defined s.now) }
+{
+    match s {
+        Statement::Define(name, _) => NAME_LIMIT < name.len(),
+        _ => false,
+    }
+}
+
+fn has_many_rows(s: &Statement) -> bool
+    ensures { result ≡ nat_lt 200 (length (rows_in s.now)) }
+{
+    match s {
+        Statement::Define(_, Definition::TransitionMatrix(rows)) => ROW_LIMIT < rows.len(),
+        _ => false,
+    }
+}
+
+/// Whether a name is too long, a moment is outside the bounds, an amount is too large, or a matrix
+/// has too many rows.
+fn is_wide(s: &Statement) -> bool
+    ensures { result ≡ is_wide s.now }
+{
+    if is_long(s) {
+        return true;
+    }
+    if is_outside(s) {
+        return true;
+    }
+    if has_large(s) {
+        return true;
+    }
+    has_many_rows(s)
+}
+
+fn has_interval_room(draft: &Draft) -> bool
+    ensures { result ≡ (nat_lt (length draft.now.intervals) 2000 && nat_le (cell_count draft.now) 999995) }
+{
+    draft.model().intervals().len() < INTERVAL_LIMIT && draft.cells() <= CELL_LIMIT - 5
+}
+
+/// Whether there is room for one more interval.
+fn interval_fits(draft: &Draft) -> bool
+    ensures { (d : IntervalDef) → result ≡ is_within_limits (with_interval d draft.now) }
+{
+    let _ = draft.model();
+    has_interval_room(draft)
+}
+
+fn has_sequence_room(draft: &Draft, members: usize) -> bool
+    requires { members ≤ 500 }
+    ensures { result ≡ (nat_lt (length draft.now.sequences) 200 && nat_le (cell_count draft.now + pair_count members) 1000000) }
+{
+    draft.model().sequences().len() < SEQUENCE_LIMIT
+        && draft.cells() + pair_count(members) <= CELL_LIMIT
+}
+
+/// Whether there is room for one more sequence, of so many members.
+fn sequence_fits(draft: &Draft, members: usize) -> bool
+    requires { members ≤ 500 }
+    ensures { (d : SequenceDef) → length d.members ≡ members → result ≡ is_within_limits (with_sequence d draft.now) }
+{
+    let _ = draft.model();
+    has_sequence_room(draft, members)
+}
+
+fn has_matrix_room(draft: &Draft) -> bool
+    ensures { result ≡ nat_lt (length draft.now.matrices) 200 }
+{
+    draft.model().matrices().len() < MATRIX_LIMIT
+}
+
+fn matrix_fits(draft: &Draft) -> bool
+    ensures { (d : MatrixDef) → result ≡ is_within_limits (with_matrix d draft.now) }
+{
+    let _ = draft.model();
+    has_matrix_room(draft)
+}
+
+fn has_state_room(draft: &Draft) -> bool
+    ensures { result ≡ nat_lt (length draft.now.states) 200 }
+{
+    draft.model().states().len() < STATE_LIMIT
+}
+
+fn state_fits(draft: &Draft) -> bool
+    ensures { (d : StateDef) → result ≡ is_within_limits (with_state d draft.now) }
+{
+    let _ = draft.model();
+    has_state_room(draft)
+}
+
+/// Whether there is room for so many nodes or parts.
+fn nodes_fit(draft: &Draft, count: u64) -> bool
+    ensures { (n : ℕ) → count ≡ capped n → result ≡ nat_le (node_total draft.now + n) 100000 }
+{
+    has_node_room(draft.room() as u64, count)
+}
+
+fn has_node_room(room: u64, count: u64) -> bool
+    ensures { result ≡ nat_le count room }
+{
+    count <= room
+}
+
+fn has_cumul_room(draft: &Draft) -> bool
+    ensures { result ≡ nat_lt (length draft.now.cumuls) 2000 }
+{
+    draft.model().cumuls().len() < CUMUL_LIMIT
+}
+
+fn both(a: bool, b: bool) -> bool
+    ensures { result ≡ (a && b) }
+{
+    a && b
+}
+
+/// Whether there is room for one more function, of so many parts.
+fn cumul_fits(draft: &Draft, parts: u64) -> bool
+    ensures { (d : CumulDef) → parts ≡ capped (length d.parts) → result ≡ is_within_limits (with_cumul d draft.now) }
+{
+    let _ = draft.model();
+    both(has_cumul_room(draft), nodes_fit(draft, parts))
+}
+
+/// Whether there is room for a definition.
+fn definition_fits(draft: &Draft, name: &[u8], d: &Definition) -> bool
+    ensures { result ≡ (nat_le (length (members_defined d.now)) 500 && is_within_limits (defined draft.now name.now d.now)) }
+{
+    match d {
+        Definition::IntervalVar(_) => interval_fits(draft),
+        Definition::SequenceVar(names, _) => {
+            if MEMBER_LIMIT < names.len() {
+                return false;
+            }
+            sequence_fits(draft, names.len())
+        }
+        Definition::TransitionMatrix(_) => matrix_fits(draft),
+        Definition::StateFunction(_) => state_fits(draft),
+        Definition::Cumulative(c) => cumul_fits(draft, parts_count(draft, c)),
+    }
+}
+
+/// Whether there is room for the sequence of a list.
+fn listed_fits(draft: &Draft, over: &Over) -> bool
+    ensures { result ≡ (nat_le (length (listed_in over.now)) 500 && is_within_limits (with_listed draft.now over.now)) }
+{
+    let _ = draft.model();
+    match over {
+        Over::Named(_) => true,
+        Over::Listed(names) => {
+            if MEMBER_LIMIT < names.len() {
+                return false;
+            }
+            sequence_fits(draft, names.len())
+        }
+    }
+}
+
+/// Whether there is room for the function of a cumulative expression, where it has no name.
+fn unnamed_fits(draft: &Draft, c: &Cumul) -> bool
+    ensures { result ≡ is_within_limits (with_unnamed draft.now c.now (named_itself c.now)) }
+{
+    let _ = draft.model();
+    if !is_unnamed(c) {
+        return true;
+    }
+    cumul_fits(draft, parts_count(draft, c))
+}
+
+/// Whether there is room for what a constraint writes without a name.
+fn written_fits(draft: &Draft, c: &Constrained) -> bool
+    ensures { result ≡ (nat_le (length (members_written c.now)) 500 && is_within_limits (with_written draft.now c.now)) }
+{
+    let _ = draft.model();
+    match c {
+        Constrained::NoOverlap(over, _) => listed_fits(draft, over),
+        Constrained::Bounded(f, _, _) => unnamed_fits(draft, f),
+        Constrained::AlwaysIn(f, _, _, _) => unnamed_fits(draft, f),
+        _ => true,
+    }
+}
+
+fn has_constraint_room(draft: &Draft) -> bool
+    ensures { result ≡ nat_lt (length draft.now.constraints) 20000 }
+{
+    draft.model().constraints().len() < CONSTRAINT_LIMIT
+}
+
+/// Whether there is room for the nodes of an expression, if there is one.
+fn expr_fits(draft: &Draft, written: &Option<Expr>) -> bool
+    ensures { result ≡ passes_if_any (λ e. nat_le (node_total draft.now + node_count e) 100000) written.now }
+{
+    match written {
+        None => true,
+        Some(e) => nodes_fit(draft, nodes(e)),
+    }
+}
+
+/// Whether there is room for a constraint, with what it writes without a name.
+fn constraint_fits(draft: &Draft, c: &Constrained, written: &Option<Expr>) -> bool
+    requires { written.now ≡ option_map (expr_of draft.now) (logic_held c.now) }
+    ensures { result ≡ (nat_le (length (members_written c.now)) 500 && is_within_limits (after draft.now (Constrain c.now))) }
+{
+    let room = both(has_constraint_room(draft), written_fits(draft, c));
+    both(room, expr_fits(draft, written))
+}
+
+/// Whether the model has room for what a statement adds; `written` is its expression.
+fn leaves_room(draft: &Draft, s: &Statement, written: &Option<Expr>) -> bool
+    requires { written.now ≡ option_map (expr_of draft.now) (logic_in s.now) }
+    ensures { result ≡ leaves_room draft.now s.now }
+{
+    let _ = draft.model();
+    match s {
+        Statement::Empty => true,
+        Statement::Define(name, d) => definition_fits(draft, name.as_slice(), d),
+        Statement::Constrain(c) => constraint_fits(draft, c, written),
+        Statement::Aim(_, _) => expr_fits(draft, written),
+    }
+}
+
+/// Whether a limit is passed by a statement, with `before` statements in front of it.
+pub fn passes_limit(draft: &Draft, before: u32, s: &Statement, written: &Option<Expr>) -> bool
+    requires { written.now ≡ option_map (expr_of draft.now) (logic_in s.now) }
+    ensures { result ≡ passes_limit draft.now (before + 1) s.now }
+{
+    if STATEMENT_LIMIT <= before {
+        return true;
+    }
+    if is_wide(s) {
+        return true;
+    }
+    !leaves_room(draft, s, written)
+}

@@ -1,0 +1,264 @@
+ghost use Rattle.std.specs.Prelude.{◌≡◌, ◌||◌, map};
+ghost use Rattle.std.specs.List.{list_any};
+ghost use Rattle.sched_model.specs.Words.{passes};
+ghost use Rattle.sched_model.specs.Data.{has, members_of};
+ghost use Rattle.cpo_elab.specs.declared.names.Sort.TheVariants as of;
+ghost use Rattle.cpo_elab.specs.Named.{some_in_logic, some_in_cpart, some_in_cumul, some_in_over, some_in_moments, some_in_definition, some_in_constraint, some_name};
+ghost use Rattle.cpo_elab.specs.Judged.{defines_again, uses_unknown, is_no_member, asks_others, lacks_member, uses_wrong};
+ghost use Rattle.cpo_elab.specs.Drafts.{fails};
+
+use crate::draft::Draft;
+use crate::names::Sort;
+use cpo_text::{
+    Constrained, Cpart, Cumul, Definition, Logic, Moments, Over, Signed, Spaced, Statement,
+};
+use sched_base::{Itv, List, Seq};
+use sched_model::Model;
+
+/// What is asked of a name that is used: that it is defined, or that it is of the sort that its
+/// place asks for.
+#[derive(Clone, Copy, Debug, PartialEq, Eq)]
+pub enum Asked {
+    Known,
+    OfItsSort,
+}
+
+/// Whether a name isn't as it is asked to be.
+fn fails(draft: &Draft, asked: Asked, sort: Sort, name: &[u8]) -> bool
+    ensures { result ≡ fails draft.now asked sort name.now }
+{
+    match asked {
+        Asked::Known => !draft.is_defined(name),
+        Asked::OfItsSort => draft.number_of(sort, name).is_none(),
+    }
+}
+
+fn any_fails(draft: &Draft, asked: Asked, names: &[List<u8>]) -> bool
+    ensures { result ≡ list_any (fails draft.now asked of.Interval) names.now }
+{
+    names.iter().any(|name| fails(draft, asked, Sort::Interval, name.as_slice()))
+}
+
+/// Whether one of two intervals fails.
+fn two_fail(draft: &Draft, asked: Asked, a: &[u8], b: &[u8]) -> bool
+    ensures { result ≡ (fails draft.now asked of.Interval a.now || fails draft.now asked of.Interval b.now) }
+{
+    fails(draft, asked, Sort::Interval, a) || fails(draft, asked, Sort::Interval, b)
+}
+
+#[cycle(logic_fails)]
+fn logic_fails(draft: &Draft, asked: Asked, e: &Logic) -> bool
+    ensures { result ≡ some_in_logic (fails draft.now asked) e.now }
+{
+    match e {
+        Logic::Lit(_) => false,
+        Logic::Group(part) => logic_fails(draft, asked, part.get()),
+        Logic::PresenceOf(a) => fails(draft, asked, Sort::Interval, a.as_slice()),
+        Logic::Measured(_, a, _) => fails(draft, asked, Sort::Interval, a.as_slice()),
+        Logic::Gathered(_, parts) => any_logic_fails(draft, asked, parts.as_slice()),
+        Logic::Linked(_, parts) => any_logic_fails(draft, asked, parts.as_slice()),
+        Logic::Neg(part) => logic_fails(draft, asked, part.get()),
+        Logic::Sum(parts) => any_logic_fails(draft, asked, parts.as_slice()),
+        Logic::Compare(_, a, b) => {
+            logic_fails(draft, asked, a.get()) || logic_fails(draft, asked, b.get())
+        }
+        Logic::Not(part) => logic_fails(draft, asked, part.get()),
+        Logic::Implies(a, b) => {
+            logic_fails(draft, asked, a.get()) || logic_fails(draft, asked, b.get())
+        }
+    }
+}
+
+#[cycle(logic_fails)]
+fn any_logic_fails(draft: &Draft, asked: Asked, parts: &[Logic]) -> bool
+    ensures { result ≡ list_any (λ b. b) (map (some_in_logic (fails draft.now asked)) parts.now) }
+{
+    for part in parts {
+        if logic_fails(draft, asked, part) {
+            return true;
+        }
+    }
+    false
+}
+
+fn cpart_fails(draft: &Draft, asked: Asked, part: &Cpart) -> bool
+    ensures { result ≡ some_in_cpart (fails draft.now asked) part.now }
+{
+    match part {
+        Cpart::Named(f) => fails(draft, asked, Sort::Cumulated, f.as_slice()),
+        Cpart::Pulse(_, _, _) => false,
+        Cpart::PulseOf(a, _) => fails(draft, asked, Sort::Interval, a.as_slice()),
+        Cpart::Step(_, _) => false,
+        Cpart::StepAtStart(a, _) => fails(draft, asked, Sort::Interval, a.as_slice()),
+        Cpart::StepAtEnd(a, _) => fails(draft, asked, Sort::Interval, a.as_slice()),
+    }
+}
+
+fn any_part_fails(draft: &Draft, asked: Asked, parts: &[Signed]) -> bool
+    ensures { result ≡ list_any (λ s. some_in_cpart (fails draft.now asked) s.part) parts.now }
+{
+    parts.iter().any(|s| cpart_fails(draft, asked, &s.part))
+}
+
+fn cumul_fails(draft: &Draft, asked: Asked, c: &Cumul) -> bool
+    ensures { result ≡ some_in_cumul (fails draft.now asked) c.now }
+{
+    cpart_fails(draft, asked, &c.first.part) || any_part_fails(draft, asked, c.more.as_slice())
+}
+
+fn over_fails(draft: &Draft, asked: Asked, over: &Over) -> bool
+    ensures { result ≡ some_in_over (fails draft.now asked) over.now }
+{
+    match over {
+        Over::Named(p) => fails(draft, asked, Sort::Sequence, p.as_slice()),
+        Over::Listed(names) => any_fails(draft, asked, names.as_slice()),
+    }
+}
+
+fn spacing_fails(draft: &Draft, asked: Asked, spaced: &Option<Spaced>) -> bool
+    ensures { result ≡ passes (λ s. fails draft.now asked of.Matrix s.matrix) spaced.now }
+{
+    match spaced {
+        None => false,
+        Some(spaced) => fails(draft, asked, Sort::Matrix, spaced.matrix.as_slice()),
+    }
+}
+
+fn moments_fail(draft: &Draft, asked: Asked, moments: &Moments) -> bool
+    ensures { result ≡ some_in_moments (fails draft.now asked) moments.now }
+{
+    match moments {
+        Moments::From(_, _) => false,
+        Moments::During(a) => fails(draft, asked, Sort::Interval, a.as_slice()),
+    }
+}
+
+fn definition_fails(draft: &Draft, asked: Asked, d: &Definition) -> bool
+    ensures { result ≡ some_in_definition (fails draft.now asked) d.now }
+{
+    match d {
+        Definition::IntervalVar(_) => false,
+        Definition::SequenceVar(names, _) => any_fails(draft, asked, names.as_slice()),
+        Definition::TransitionMatrix(_) => false,
+        Definition::StateFunction(None) => false,
+        Definition::StateFunction(Some(x)) => fails(draft, asked, Sort::Matrix, x.as_slice()),
+        Definition::Cumulative(c) => cumul_fails(draft, asked, c),
+    }
+}
+
+fn constraint_fails(draft: &Draft, asked: Asked, c: &Constrained) -> bool
+    ensures { result ≡ some_in_constraint (fails draft.now asked) c.now }
+{
+    match c {
+        Constrained::Between(_, a, b, _) => two_fail(draft, asked, a.as_slice(), b.as_slice()),
+        Constrained::Parts(_, a, names) => {
+            fails(draft, asked, Sort::Interval, a.as_slice())
+                || any_fails(draft, asked, names.as_slice())
+        }
+        Constrained::NoOverlap(over, spaced) => {
+            over_fails(draft, asked, over) || spacing_fails(draft, asked, spaced)
+        }
+        Constrained::Extreme(_, p, a) => {
+            fails(draft, asked, Sort::Sequence, p.as_slice())
+                || fails(draft, asked, Sort::Interval, a.as_slice())
+        }
+        Constrained::Ordered(_, p, a, b) => {
+            fails(draft, asked, Sort::Sequence, p.as_slice())
+                || two_fail(draft, asked, a.as_slice(), b.as_slice())
+        }
+        Constrained::Bounded(f, _, _) => cumul_fails(draft, asked, f),
+        Constrained::AlwaysIn(f, moments, _, _) => {
+            cumul_fails(draft, asked, f) || moments_fail(draft, asked, moments)
+        }
+        Constrained::AlwaysEqual(g, a, _, _) => {
+            fails(draft, asked, Sort::State, g.as_slice())
+                || fails(draft, asked, Sort::Interval, a.as_slice())
+        }
+        Constrained::AlwaysNoState(g, a) => {
+            fails(draft, asked, Sort::State, g.as_slice())
+                || fails(draft, asked, Sort::Interval, a.as_slice())
+        }
+        Constrained::Holds(e) => logic_fails(draft, asked, e),
+    }
+}
+
+/// Whether some name that a statement uses isn't as it is asked to be.
+fn statement_fails(draft: &Draft, asked: Asked, s: &Statement) -> bool
+    ensures { result ≡ some_name (fails draft.now asked) s.now }
+{
+    match s {
+        Statement::Empty => false,
+        Statement::Define(_, d) => definition_fails(draft, asked, d),
+        Statement::Constrain(c) => constraint_fails(draft, asked, c),
+        Statement::Aim(_, e) => logic_fails(draft, asked, e),
+    }
+}
+
+/// Whether a name is defined that is defined already.
+pub fn defines_again(draft: &Draft, s: &Statement) -> bool
+    ensures { result ≡ defines_again draft.now s.now }
+{
+    match s {
+        Statement::Define(name, _) => draft.is_defined(name.as_slice()),
+        _ => false,
+    }
+}
+
+/// Whether a name is used that no earlier statement defines.
+pub fn uses_unknown(draft: &Draft, s: &Statement) -> bool
+    ensures { result ≡ uses_unknown draft.now s.now }
+{
+    statement_fails(draft, Asked::Known, s)
+}
+
+fn members_of(model: &Model, p: Seq) -> &[Itv]
+    ensures { result.now ≡ members_of model.now p }
+{
+    match model.sequences().get(p.0 as usize) {
+        None => &[],
+        Some(d) => d.members.as_slice(),
+    }
+}
+
+fn has(members: &[Itv], a: Itv) -> bool
+    ensures { result ≡ has members.now a }
+{
+    members.iter().any(|x| a.0 == x.0)
+}
+
+fn is_no_member(draft: &Draft, p: &[u8], a: &[u8]) -> bool
+    ensures { result ≡ is_no_member draft.now p.now a.now }
+{
+    !has(members_of(draft.model(), draft.seq_of(p)), draft.itv_of(a))
+}
+
+fn asks_others(draft: &Draft, c: &Constrained) -> bool
+    ensures { result ≡ asks_others draft.now c.now }
+{
+    match c {
+        Constrained::Extreme(_, p, a) => is_no_member(draft, p.as_slice(), a.as_slice()),
+        Constrained::Ordered(_, p, a, b) => {
+            is_no_member(draft, p.as_slice(), a.as_slice())
+                || is_no_member(draft, p.as_slice(), b.as_slice())
+        }
+        _ => false,
+    }
+}
+
+/// Whether an interval is no member of the sequence that is named with it.
+fn lacks_member(draft: &Draft, s: &Statement) -> bool
+    ensures { result ≡ lacks_member draft.now s.now }
+{
+    match s {
+        Statement::Constrain(c) => asks_others(draft, c),
+        _ => false,
+    }
+}
+
+/// Whether a name is used that is of another sort than its place asks for, or an interval that is
+/// no member of the sequence named with it.
+pub fn uses_wrong(draft: &Draft, s: &Statement) -> bool
+    ensures { result ≡ uses_wrong draft.now s.now }
+{
+    statement_fails(draft, Asked::OfItsSort, s) || lacks_member(draft, s)
+}
