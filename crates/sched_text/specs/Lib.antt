@@ -1,0 +1,6 @@
+pub mod Pieces
+pub mod Answers
+pub mod Shown
+pub mod Canonical
+pub mod Told
+pub mod laws

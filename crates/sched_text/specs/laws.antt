@@ -1,0 +1,5 @@
+pub mod Places
+pub mod Words
+pub mod Names
+pub mod Lines
+pub mod Answers

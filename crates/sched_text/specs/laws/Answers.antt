@@ -1,0 +1,161 @@
+-- The text of an answer tells the answer.
+use Rattle.std.specs.Prelude.{◌≡◌, ◌^◌, ◌<◌, ℕ, suc, ℤ, pos, negsuc, true, ◌&&◌, List, [], ◌∷◌, ◌++◌, codes, Some, None}
+use Rattle.std.proofs.Common.{refl, sym, ap, ◌∙◌, arith, append_assoc}
+use Rattle.std.proofs.lemmas.Int.{ints}
+use Rattle.std.proofs.lemmas.Fmt.{decimal_injective, digits_decimal, signed_decimal_injective}
+use Rattle.std.specs.Fmt.{decimal, signed_decimal}
+use lib.Signed.{mag}
+use Rattle.sched_model.specs.declared.types.Slot.{Slot}
+use Rattle.sched_model.specs.declared.types.Segment.{Segment}
+use Rattle.sched_base.specs.declared.ids.Itv.{Itv}
+use Rattle.sched_model.specs.declared.types.Assignment.{Assignment}
+use Rattle.sched_model.specs.declared.types.Answer.{Answer}
+use Rattle.sched_model.specs.declared.types.Answer.TheVariants.{Optimal, Feasible, Infeasible, Unfinished}
+use Rattle.sched_model.specs.declared.types.Solved.{Solved}
+use Rattle.sched_model.specs.Data.{Data}
+use Rattle.sched_model.specs.Words.{placewise}
+use Rattle.sched_model.specs.Domain.{is_in_domain, fits_def, lists_present, are_segments}
+use Rattle.sched_model.specs.Valid.{IsValid, is_interval_def, is_sequence_def, is_state_def}
+use Rattle.std.specs.Str.{all_ascii_digits}
+use Rattle.std.proofs.lemmas.Str.Parse.{tells_all_ascii_digits, numerals_by_value}
+use Rattle.textline.specs.Lines.{Bytes, line}
+use Rattle.textline.specs.Words.{is_word, are_words}
+use Rattle.textline.specs.laws.Lines.{both_true, line_told}
+use Rattle.textline.specs.laws.Numbers.{decimal_is_word, signed_is_word}
+use Rattle.sched_text.specs.Pieces.{at_places}
+use Rattle.sched_text.specs.Answers.{slot_line, order_line, segments_line, schedule_lines, verdict_words, shown_schedule}
+use Rattle.sched_text.specs.Told.{IsPrintable, IsNumber, AnswersAreTold}
+use Rattle.sched_text.specs.laws.Places.{places_told, placewise_more}
+use Rattle.sched_text.specs.laws.Words.{one_word}
+use Rattle.sched_text.specs.laws.Names.{names_of}
+use Rattle.sched_text.specs.laws.Lines.{slots_tell, orders_tell, segments_tell, spelled_slot, spelled_order, spelled_segments, is_spelled_slot, are_itvs, are_spelled_segments}
+
+-- schedules
+
+abbrev made_assignment : List Slot → List (List Itv) → List (List Segment) → Assignment
+made_assignment s o g = record { slots = s; orders = o; segs = g }
+
+assignment_is : (a b : Assignment) → a.slots ≡ b.slots → a.orders ≡ b.orders → a.segs ≡ b.segs → a ≡ b
+assignment_is a b s o g = ap (λ x. made_assignment x a.orders a.segs) s ∙ ap (λ x. made_assignment b.slots x a.segs) o ∙ ap (λ x. made_assignment b.slots b.orders x) g
+
+three_parts : (x y z w : Bytes) → (x ++ y ++ z) ++ w ≡ x ++ (y ++ (z ++ w))
+three_parts x y z w = append_assoc (x ++ y) z w ∙ append_assoc x y (z ++ w)
+
+schedules_told : (m : Data) → IsValid m → (a b : Assignment) (p q : Bytes) → is_in_domain m a ≡ true → is_in_domain m b ≡ true → schedule_lines m a ++ p ≡ schedule_lines m b ++ q → (a ≡ b) × (p ≡ q)
+schedules_told m valid a b p q ha hb e =
+    let h2 = both_true (placewise fits_def m.intervals a.slots && placewise (lists_present a) m.sequences a.orders) (placewise (are_segments m) m.states a.segs) ha in
+    let h1 = both_true (placewise fits_def m.intervals a.slots) (placewise (lists_present a) m.sequences a.orders) h2.0 in
+    let k2 = both_true (placewise fits_def m.intervals b.slots && placewise (lists_present b) m.sequences b.orders) (placewise (are_segments m) m.states b.segs) hb in
+    let k1 = both_true (placewise fits_def m.intervals b.slots) (placewise (lists_present b) m.sequences b.orders) k2.0 in
+    let whole = sym (three_parts (at_places slot_line 0 m.intervals a.slots) (at_places (order_line m) 0 m.sequences a.orders) (at_places segments_line 0 m.states a.segs) p)
+    ∙ e ∙ three_parts (at_places slot_line 0 m.intervals b.slots) (at_places (order_line m) 0 m.sequences b.orders) (at_places segments_line 0 m.states b.segs) q in
+    let slots = places_told slot_line is_spelled_slot slots_tell 0 m.intervals a.slots b.slots _ _
+    (placewise_more is_interval_def fits_def is_spelled_slot spelled_slot m.intervals a.slots valid.intervals h1.0)
+    (placewise_more is_interval_def fits_def is_spelled_slot spelled_slot m.intervals b.slots valid.intervals k1.0) whole in
+    let orders = places_told (order_line m) (are_itvs m) (orders_tell m (names_of m valid)) 0 m.sequences a.orders b.orders _ _
+    (placewise_more (is_sequence_def m) (lists_present a) (are_itvs m) (spelled_order m a) m.sequences a.orders valid.sequences h1.1)
+    (placewise_more (is_sequence_def m) (lists_present b) (are_itvs m) (spelled_order m b) m.sequences b.orders valid.sequences k1.1) slots.1 in
+    let segs = places_told segments_line are_spelled_segments segments_tell 0 m.states a.segs b.segs _ _
+    (placewise_more (is_state_def m) (are_segments m) are_spelled_segments (spelled_segments m) m.states a.segs valid.states h2.1)
+    (placewise_more (is_state_def m) (are_segments m) are_spelled_segments (spelled_segments m) m.states b.segs valid.states k2.1) orders.1 in
+    (assignment_is a b slots.0 orders.0 segs.0, segs.1)
+
+-- verdicts
+
+number_mag : (z : ℤ) → IsNumber z → mag z < 2 ^ 63
+number_mag (pos n) h = omega (arith, ints, h.1)
+number_mag (negsuc n) h = omega (arith, ints, h.0)
+
+number_words : (w : Bytes) (z : ℤ) → is_word w ≡ true → IsNumber z → are_words (w ∷ signed_decimal z ∷ []) ≡ true
+number_words w z h small = one_word w (signed_decimal z ∷ []) h (one_word (signed_decimal z) [] (signed_is_word z (number_mag z small)) refl)
+
+verdict_is_words : (m : Data) (x : Answer) → IsPrintable m x → are_words (verdict_words x) ≡ true
+verdict_is_words m (Optimal v a) h = number_words (codes "optimal") v refl h.0
+verdict_is_words m (Feasible a) h = refl
+verdict_is_words m Infeasible h = refl
+verdict_is_words m (Unfinished None) h = refl
+verdict_is_words m (Unfinished (Some va)) h = number_words (codes "unfinished") va.0 refl h.0
+
+verdict_first : (x : Answer) → (w : Bytes) × (ws : List Bytes) × (verdict_words x ≡ w ∷ ws)
+verdict_first (Optimal v a) = (codes "optimal", signed_decimal v ∷ [], refl)
+verdict_first (Feasible a) = (codes "feasible", [], refl)
+verdict_first Infeasible = (codes "infeasible", [], refl)
+verdict_first (Unfinished None) = (codes "unfinished", codes "none" ∷ [], refl)
+verdict_first (Unfinished (Some va)) = (codes "unfinished", signed_decimal va.0 ∷ [], refl)
+
+verdict_told : (m : Data) (x y : Answer) (p q : Bytes) → IsPrintable m x → IsPrintable m y → line (verdict_words x) ++ p ≡ line (verdict_words y) ++ q → (verdict_words x ≡ verdict_words y) × (p ≡ q)
+verdict_told m x y p q hx hy e =
+    let a = verdict_first x in
+    let b = verdict_first y in
+    let told = line_told a.0 a.1 b.0 b.1 p q (ap are_words (sym a.2) ∙ verdict_is_words m x hx) (ap are_words (sym b.2) ∙ verdict_is_words m y hy) (ap (λ ws. line ws ++ p) (sym a.2) ∙ e ∙ ap (λ ws. line ws ++ q) b.2) in
+    (a.2 ∙ told.0 ∙ sym b.2, told.1)
+
+no_digits : (n : ℕ) → n < 2 ^ 64 → decimal n ≡ codes "none" → ⊥
+no_digits n small e =
+    let digits : all_ascii_digits (decimal n) ≡ true = digits_decimal (numerals_by_value (λ ds. all_ascii_digits ds ≡ true) tells_all_ascii_digits) n small in
+    let wrong : all_ascii_digits (codes "none") ≡ true = ap all_ascii_digits (sym e) ∙ digits in cc
+
+minus_is_no_letter : (x y : Bytes) → 45 ∷ x ≡ 110 ∷ y → ⊥
+minus_is_no_letter x y e = cc
+
+no_number : (z : ℤ) → IsNumber z → signed_decimal z ≡ codes "none" → ⊥
+no_number (pos n) h e = no_digits n (omega (arith, number_mag (pos n) h)) e
+no_number (negsuc n) h e = minus_is_no_letter (decimal (suc n)) (codes "one") e
+
+second : (a b c d : Bytes) → a ∷ b ∷ [] ≡ c ∷ d ∷ [] → b ≡ d
+second a b c d e = cc
+
+-- the first byte of the first word
+abbrev tag : List Bytes → ℕ
+tag ((b ∷ w) ∷ ws) = b
+tag _ = 0
+
+abbrev kind : Answer → ℕ
+kind (Optimal v a) = 111
+kind (Feasible a) = 102
+kind Infeasible = 105
+kind (Unfinished found) = 117
+
+first_byte : (x : Answer) → tag (verdict_words x) ≡ kind x
+first_byte (Optimal v a) = refl
+first_byte (Feasible a) = refl
+first_byte Infeasible = refl
+first_byte (Unfinished None) = refl
+first_byte (Unfinished (Some va)) = refl
+
+abbrev found_of : ℤ → Assignment → Answer
+found_of v a = Unfinished (Some (v, a))
+
+same_answer : (m : Data) → IsValid m → (x y : Answer) (p : Bytes) → IsPrintable m x → IsPrintable m y → verdict_words x ≡ verdict_words y → shown_schedule m x ++ p ≡ shown_schedule m y ++ p → x ≡ y
+same_answer m valid (Optimal v a) (Optimal w b) p hx hy words e =
+    let number = signed_decimal_injective v w (number_mag v hx.0) (number_mag w hy.0) (second _ _ _ _ words) in
+    ap (λ z. Optimal z a) number ∙ ap (Optimal w) (schedules_told m valid a b p p hx.1 hy.1 e).0
+same_answer m valid (Feasible a) (Feasible b) p hx hy words e = ap Feasible (schedules_told m valid a b p p hx hy e).0
+same_answer m valid Infeasible Infeasible p hx hy words e = refl
+same_answer m valid (Unfinished None) (Unfinished None) p hx hy words e = refl
+same_answer m valid (Unfinished None) (Unfinished (Some vb)) p hx hy words e = absurd (no_number vb.0 hy.0 (sym (second _ _ _ _ words)))
+same_answer m valid (Unfinished (Some va)) (Unfinished None) p hx hy words e = absurd (no_number va.0 hx.0 (second _ _ _ _ words))
+same_answer m valid (Unfinished (Some va)) (Unfinished (Some vb)) p hx hy words e =
+    let number = signed_decimal_injective va.0 vb.0 (number_mag va.0 hx.0) (number_mag vb.0 hy.0) (second _ _ _ _ words) in
+    ap (λ z. found_of z va.1) number ∙ ap (found_of vb.0) (schedules_told m valid va.1 vb.1 p p hx.1 hy.1 e).0
+same_answer m valid x y p _ _ words e = absurd (omega (arith, sym (first_byte x) ∙ ap tag words ∙ first_byte y))
+
+nodes_told : (n k : ℕ) (p q : Bytes) → n < 2 ^ 64 → k < 2 ^ 64 → line (codes "nodes" ∷ decimal n ∷ []) ++ p ≡ line (codes "nodes" ∷ decimal k ∷ []) ++ q → (n ≡ k) × (p ≡ q)
+nodes_told n k p q hn hk e =
+    let told = line_told (codes "nodes") (decimal n ∷ []) (codes "nodes") (decimal k ∷ []) p q (one_word (codes "nodes") (decimal n ∷ []) refl (one_word (decimal n) [] (decimal_is_word n hn) refl)) (one_word (codes "nodes") (decimal k ∷ []) refl (one_word (decimal k) [] (decimal_is_word k hk) refl)) e in
+    (decimal_injective n k hn hk (second _ _ _ _ told.0), told.1)
+
+four_parts : (x y z w : Bytes) → x ++ y ++ z ++ w ≡ x ++ (y ++ (z ++ w))
+four_parts x y z w = append_assoc (x ++ y) z w ∙ append_assoc x y (z ++ w)
+
+abbrev made_solved : ℕ → Answer → Solved
+made_solved n x = record { nodes = n; answer = x }
+
+pub answers_told : AnswersAreTold
+answers_told m s t valid ns nt hs ht e =
+    let whole = sym (four_parts (line (verdict_words s.answer)) (line (codes "nodes" ∷ decimal s.nodes ∷ [])) (shown_schedule m s.answer) (line (codes "end" ∷ [])))
+    ∙ e ∙ four_parts (line (verdict_words t.answer)) (line (codes "nodes" ∷ decimal t.nodes ∷ [])) (shown_schedule m t.answer) (line (codes "end" ∷ [])) in
+    let words = verdict_told m s.answer t.answer _ _ hs ht whole in
+    let nodes = nodes_told s.nodes t.nodes _ _ ns nt words.1 in
+    let answer = same_answer m valid s.answer t.answer (line (codes "end" ∷ [])) hs ht words.0 nodes.1 in
+    ap (λ n. made_solved n s.answer) nodes.0 ∙ ap (made_solved t.nodes) answer
