@@ -1,43 +1,60 @@
 -- The settled slots, one by one.
-use Rattle.std.specs.Prelude.{◌≡◌, ℕ, zero, suc, ◌+◌, ◌^◌, ◌<◌, ◌≤◌, ◌-ℤ◌, Bool, true, false, not, ◌&&◌, List, [], ◌∷◌, Some, map, length, nat_le, slice_get, drop}
+use Rattle.std.specs.Prelude.{◌≡◌, ℕ, zero, suc, ◌+◌, ◌^◌, ◌<◌, ◌≤◌, ◌-ℤ◌, Bool, true, false, not, ◌&&◌, is_some, List, [], ◌∷◌, None, Some, map, length, slice_get, drop, replicate}
 use Rattle.std.specs.List.{list_all}
-use Rattle.std.proofs.Common.{refl, sym, subst, ◌∙◌, arith, get_or, add-one}
-use Rattle.std.proofs.lemmas.Bool.{ltb-true, leb-true, not-false}
+use Rattle.std.proofs.Common.{refl, sym, ap, subst, ◌∙◌, arith, get_or, add-one}
+use Rattle.std.proofs.lemmas.Bool.{not-false}
 use Rattle.std.proofs.lemmas.List.{get_or_past}
+use Rattle.std.proofs.lemmas.Option.{slice_get_past, slice_get-get_or}
 use Rattle.sched_model.specs.declared.types.Constraint.{Constraint}
-use Rattle.sched_model.specs.declared.types.Constraint.TheVariants.{Temporal}
 use Rattle.sched_model.specs.declared.types.Expr.{Expr}
-use Rattle.sched_model.specs.declared.types.Expr.TheVariants.{EndOf}
+use Rattle.sched_model.specs.declared.types.Expr.TheFolds.{fold-Expr}
 use Rattle.sched_model.specs.declared.types.Objective.{Objective}
 use Rattle.sched_model.specs.Data.{Data}
+use Rattle.sched_model.specs.Hull.{hull_of}
 use Rattle.sched_model.specs.Sentences.{holds}
-use Rattle.sched_model.specs.Valid.{IsValid, is_itv, is_small, is_expr, is_constraint}
+use Rattle.sched_model.specs.Valid.{IsValid, expr_step, is_expr, is_constraint}
 use Rattle.region.specs.Looks.{IsRegionOf, is_narrowed}
 use Rattle.region.specs.laws.Lists.{both_true, placewise-length}
 use Rattle.sched_base.specs.declared.ids.Itv.{Itv}
+use Rattle.sched_model.specs.declared.types.Slot.{Slot}
+use Rattle.sched_model.specs.declared.types.Segment.{Segment}
+use Rattle.sched_model.specs.declared.types.Assignment.{Assignment}
 use Rattle.sched_model.specs.declared.types.Slot.TheVariants as slot
-use Rattle.sched_model.specs.Words.{is_between, passes, passes_if_any}
+use Rattle.sched_model.specs.Words.{◌implies◌, is_between, is_empty, passes, passes_if_any}
 use Rattle.sched_model.specs.Value.{slot_of}
 use Rattle.region.specs.declared.types.Bounds.{Bounds}
 use Rattle.region.specs.declared.types.Presence.TheVariants as presence
-use Rattle.region.specs.Cells.{Region, unknown, bounds_of, settled_slot}
-use Rattle.refute_basic.specs.Leaf.{settled_assignment, fails_at, has_size, NamesWithin, SubjectWithin}
+use Rattle.region.specs.Cells.{Region, unknown, bounds_of, settled_slot, settled_slots}
+use Rattle.refute_basic.specs.Served.{is_of_slots}
+use Rattle.refute_basic.specs.Leaf.{empty_for_each, settled_assignment, is_unsized_at, fails_at, keeps, has_size}
+use Rattle.refute_basic.specs.laws.NoLeaf.{few_of}
 
 mapped : (bs : List Bounds) (n : ℕ) → settled_slot (get_or bs n unknown) ≡ get_or (map settled_slot bs) n slot.Absent
 mapped [] n = refl
 mapped (b ∷ bs) zero = refl
 mapped (b ∷ bs) (suc n) = mapped bs n
 
-pub settled_slot_of : (r : Region) (x : Itv) → settled_slot (bounds_of r x) ≡ slot_of (settled_assignment r) x
-settled_slot_of r x = mapped r.bounds x.0
+pub settled_slot_of : (m : Data) (r : Region) (x : Itv) → settled_slot (bounds_of r x) ≡ slot_of (settled_assignment m r) x
+settled_slot_of m r x = mapped r.bounds x.0
 
 -- the size of a present interval
 pub present_size : (c : Bounds) (b : Bool) → c.presence ≡ presence.Present → b ≡ is_between c.pmin c.pmax (c.emin -ℤ c.smin) → b ≡ has_size c
 present_size c b here is = rw here is
 
 -- an interval that isn't there has no size
-pub unknown_sized : (r : Region) (u : ℕ) → length r.bounds ≤ u → false ≡ not (has_size (bounds_of r (record { 0 = u })))
-unknown_sized r u past = rw (get_or_past r.bounds u unknown past) refl
+pub none_past : (r : Region) (u : ℕ) → length r.bounds ≤ u → false ≡ is_unsized_at r u
+none_past r u past = rw (slice_get_past r.bounds u past) refl
+
+pub one_within : (r : Region) (u : ℕ) → u < length r.bounds → not (has_size (bounds_of r (record { 0 = u }))) ≡ is_unsized_at r u
+one_within r u within = rw (slice_get-get_or r.bounds u unknown within) refl
+
+as_many : (bs : List Bounds) → length (map settled_slot bs) ≡ length bs
+as_many [] = refl
+as_many (b ∷ bs) = ap suc (as_many bs)
+
+-- nor a slot
+pub absent_past : (m : Data) (r : Region) (x : Itv) → length r.bounds ≤ x.0 → slot.Absent ≡ slot_of (settled_assignment m r) x
+absent_past m r x past = sym (get_or_past (map settled_slot r.bounds) x.0 slot.Absent (subst (λ n. n ≤ x.0) (sym (as_many r.bounds)) past))
 
 -- what a valid model says of a constraint that is listed
 listed : {X : Type 0} → (p : X → Bool) (xs : List X) (i : ℕ) (x : X) → list_all p xs ≡ true → slice_get xs i ≡ Some x → p x ≡ true
@@ -49,37 +66,67 @@ pub same_count : (m : Data) (r : Region) → IsRegionOf m r → length m.interva
 same_count m r of = placewise-length is_narrowed m.intervals r.bounds of.bounds
 
 pub few_intervals : (m : Data) (r : Region) → IsValid m → IsRegionOf m r → length r.bounds < 2 ^ 32
-few_intervals m r valid of = let few : length m.intervals ≤ 2000 = leb-true _ _ (both_true (nat_le (length m.intervals) 2000) (nat_le (length m.constraints) 20000) valid.limits).0 in
-    omega (arith, few, same_count m r of)
+few_intervals m r valid of = omega (arith, (few_of m valid).0, same_count m r of)
 
-within : (m : Data) (r : Region) (x : Itv) → IsRegionOf m r → is_itv m x ≡ true → x.0 < length r.bounds
-within m r x of h = omega (arith, ltb-true x.0 (length m.intervals) h, same_count m r of)
+pub few_constraints : (m : Data) → IsValid m → length m.constraints < 2 ^ 32
+few_constraints m valid = omega (arith, (few_of m valid).1)
 
-names_at : (m : Data) (r : Region) (c : Constraint) → IsRegionOf m r → is_constraint m c ≡ true → NamesWithin r c
-names_at m r (Temporal from to equal x y z) of h =
-    let two = both_true (is_itv m x && is_itv m y) (is_small z) h in
-    let names = both_true (is_itv m x) (is_itv m y) two.0 in
-    (within m r x of names.0, within m r y of names.1)
+pub valid_at : (m : Data) (cs : List Constraint) (i : ℕ) (c : Constraint) → IsValid m → cs ≡ m.constraints → slice_get cs i ≡ Some c → is_constraint m c ≡ true
+valid_at m cs i c valid same is = listed (is_constraint m) cs i c (subst (λ xs. list_all (is_constraint m) xs ≡ true) (sym same) valid.constraints) is
 
-pub names_within : (m : Data) (r : Region) (cs : List Constraint) (i : ℕ) (c : Constraint) → IsValid m → IsRegionOf m r → cs ≡ m.constraints → slice_get cs i ≡ Some c → NamesWithin r c
-names_within m r cs i c valid of same is = names_at m r c of (listed (is_constraint m) cs i c (subst (λ xs. list_all (is_constraint m) xs ≡ true) (sym same) valid.constraints) is)
+pub valid_objective : (m : Data) (o : Objective) → IsValid m → m.objective ≡ Some o → is_expr m o.expr ≡ true
+valid_objective m o valid is = subst (λ q. passes_if_any (λ p. is_expr m p.expr) q ≡ true) is valid.objective
 
-subject_at : (m : Data) (r : Region) (e : Expr) → IsRegionOf m r → is_expr m e ≡ true → SubjectWithin r e
-subject_at m r (EndOf x d) of h = within m r x of (both_true (is_itv m x) (is_small d) h).0
+-- a valid expression has a hull
+pub has_hull : (m : Data) (e : Expr) → is_expr m e ≡ true → is_some (hull_of m e) ≡ true
+has_hull m e h = (both_true (fold-Expr Bool (expr_step m) e) (is_some (hull_of m e)) h).1
 
-pub subject_within : (m : Data) (r : Region) (o : Objective) → IsValid m → IsRegionOf m r → m.objective ≡ Some o → SubjectWithin r o.expr
-subject_within m r o valid of is = subject_at m r o.expr of (subst (λ q. passes_if_any (λ p. is_expr m p.expr) q ≡ true) is valid.objective)
+-- a constraint that is listed fails where it is found to
+pub failing_at : (m : Data) (r : Region) (cs : List Constraint) (u : ℕ) (c : Constraint) (b : Bool) → cs ≡ m.constraints → slice_get cs u ≡ Some c → b ≡ (is_of_slots c && not (holds m (settled_assignment m r) c)) → b ≡ fails_at m r u
+failing_at m r cs u c b same is fails = rw (← same, is) fails
 
--- a constraint that is listed fails where it doesn't hold
-pub failing_at : (m : Data) (r : Region) (cs : List Constraint) (u : ℕ) (c : Constraint) (b : Bool) → cs ≡ m.constraints → slice_get cs u ≡ Some c → b ≡ holds m (settled_assignment r) c → not b ≡ fails_at m r u
-failing_at m r cs u c b same is holding = rw (← same, is, holding) refl
+pub missing_at : (m : Data) (r : Region) (cs : List Constraint) (u : ℕ) → cs ≡ m.constraints → slice_get cs u ≡ None → false ≡ fails_at m r u
+missing_at m r cs u same is = rw (← same, is) refl
 
 -- one step of a walk over the constraints
-hold_next_at : {X : Type 0} (p : X → Bool) (xs : List X) (u : ℕ) → u < length xs → false ≡ passes (λ x. not (p x)) (slice_get xs u) → list_all p (drop (suc u) xs) ≡ list_all p (drop u xs)
-hold_next_at p [] u within h = absurd (omega (arith, within))
-hold_next_at p (x ∷ xs) zero within h = rw (not-false (p x) (sym h)) refl
-hold_next_at p (x ∷ xs) (suc u) within h = hold_next_at p xs u (omega (arith, within)) h
+not_failing : (p q : Bool) → false ≡ (p && not q) → (p implies q) ≡ true
+not_failing true q h = not-false q (sym h)
+not_failing false q h = refl
 
-pub hold_next : (m : Data) (r : Region) (u : ℕ) (b : Bool) → u < length m.constraints → false ≡ fails_at m r u → list_all (holds m (settled_assignment r)) (drop u m.constraints) ≡ b
-    → list_all (holds m (settled_assignment r)) (drop (u + 1) m.constraints) ≡ b
-hold_next m r u b within h before = rw add-one (hold_next_at (holds m (settled_assignment r)) m.constraints u within h ∙ before)
+hold_next_at : (m : Data) (r : Region) (cs : List Constraint) (u : ℕ) → u < length cs → false ≡ passes (λ c. is_of_slots c && not (holds m (settled_assignment m r) c)) (slice_get cs u) → list_all (keeps m r) (drop (suc u) cs) ≡ list_all (keeps m r) (drop u cs)
+hold_next_at m r [] u within h = absurd (omega (arith, within))
+hold_next_at m r (c ∷ cs) zero within h = rw (not_failing (is_of_slots c) (holds m (settled_assignment m r) c) h) refl
+hold_next_at m r (c ∷ cs) (suc u) within h = hold_next_at m r cs u (omega (arith, within)) h
+
+pub hold_next : (m : Data) (r : Region) (u : ℕ) (b : Bool) → u < length m.constraints → false ≡ fails_at m r u → list_all (keeps m r) (drop u m.constraints) ≡ b → list_all (keeps m r) (drop (u + 1) m.constraints) ≡ b
+hold_next m r u b within h before = rw add-one (hold_next_at m r m.constraints u within h ∙ before)
+
+-- one step of a walk over the intervals
+sized_next_at : (bs : List Bounds) (u : ℕ) → u < length bs → false ≡ passes (λ c. not (has_size c)) (slice_get bs u) → list_all has_size (drop (suc u) bs) ≡ list_all has_size (drop u bs)
+sized_next_at [] u within h = absurd (omega (arith, within))
+sized_next_at (b ∷ bs) zero within h = rw (not-false (has_size b) (sym h)) refl
+sized_next_at (b ∷ bs) (suc u) within h = sized_next_at bs u (omega (arith, within)) h
+
+pub sized_next : (r : Region) (u : ℕ) (b : Bool) → u < length r.bounds → false ≡ is_unsized_at r u → list_all has_size (drop u r.bounds) ≡ b → list_all has_size (drop (u + 1) r.bounds) ≡ b
+sized_next r u b within h before = rw add-one (sized_next_at r.bounds u within h ∙ before)
+
+-- as many empty lists as elements
+pub empties : {X Y : Type 0} (xs : List X) → replicate (length xs) (let none : List Y = [] in none) ≡ empty_for_each xs
+empties [] = refl
+empties (x ∷ xs) = ap (λ ls. [] ∷ ls) (empties xs)
+
+-- a model with a sequence isn't served
+pub some_is_not_empty : {X : Type 0} (xs : List X) (q : Bool) → 0 < length xs → false ≡ (is_empty xs && q)
+some_is_not_empty [] q h = absurd (omega (arith, h))
+some_is_not_empty (x ∷ xs) q h = refl
+
+pub none_is_empty : {X : Type 0} (xs : List X) (q : Bool) → length xs ≤ 0 → q ≡ (is_empty xs && q)
+none_is_empty [] q h = refl
+none_is_empty (x ∷ xs) q h = absurd (omega (arith, h))
+
+pub settled_slot_at : (m : Data) (r : Region) (x : Itv) (c : Bounds) (s : Slot) → c ≡ bounds_of r x → s ≡ settled_slot c → s ≡ slot_of (settled_assignment m r) x
+settled_slot_at m r x c s is slot = slot ∙ ap settled_slot is ∙ settled_slot_of m r x
+
+pub assigned : (m : Data) (r : Region) (ss : List Slot) (os : List (List Itv)) (gs : List (List Segment)) → ss ≡ settled_slots r → os ≡ replicate (length m.sequences) [] → gs ≡ replicate (length m.states) []
+    → (let a : Assignment = record { slots = ss; orders = os; segs = gs } in a) ≡ settled_assignment m r
+assigned m r ss os gs first second third = rw (first, second ∙ empties m.sequences, third ∙ empties m.states) refl

@@ -1,4 +1,5 @@
 pub mod Witness
+pub mod Served
 pub mod Leaf
 pub mod Basic
 pub mod laws

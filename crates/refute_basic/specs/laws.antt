@@ -1,3 +1,4 @@
 pub mod Spelling
+pub mod SameSlots
 pub mod Settled
 pub mod NoLeaf

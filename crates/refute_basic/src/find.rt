@@ -1,13 +1,12 @@
-ghost use Rattle.std.specs.Prelude.{◌≡◌, ◌<◌, ◌^◌, ℕ, false, true, length, ◌++◌, IsTrue, IfSome, IfNone, IfOk, OnOk};
+ghost use Rattle.std.specs.Prelude.{◌≡◌, ◌<◌, ◌^◌, [], length, ◌++◌, replicate, IsTrue, IfSome, IfNone, IfOk, OnOk};
 ghost use Rattle.std.specs.List.{list_all};
-ghost use Rattle.sched_model.specs.Data.{Data};
-ghost use Rattle.sched_model.specs.Sentences.{holds};
-ghost use Rattle.region.specs.Cells.{bounds_of, is_settled, settled_slots, allows};
+ghost use Rattle.region.specs.Cells.{is_settled, settled_slots, allows};
 ghost use Rattle.region.specs.Looks.{IsRegionOf};
 ghost use Rattle.refute_basic.specs.Basic.{refutes};
-ghost use Rattle.refute_basic.specs.Leaf.{has_size, all_sized, fails_at, settled_assignment, Solves};
+ghost use Rattle.refute_basic.specs.Served.{is_served};
+ghost use Rattle.refute_basic.specs.Leaf.{all_sized, is_unsized_at, fails_at, keeps, settled_assignment, Solves};
 
-use crate::leaf::{fails_at, has_size, is_no_better};
+use crate::leaf::{fails_at, is_no_better, is_unsized_at};
 use crate::settled::settled_slot;
 use crate::witness::BasicWitness;
 use region::Look;
@@ -18,22 +17,24 @@ use std::alloc::Global;
 /// The first interval whose size is out of its range.
 fn first_unsized(look: &Look<'_>) -> Option<u32>
     requires { length look.now.region.bounds < 2 ^ 32 }
-    ensures some { IfSome result (λ u. has_size (bounds_of look.now.region (record { 0 = u })) ≡ false) }
+    ensures some { IfSome result (λ u. IsTrue (is_unsized_at look.now.region u)) }
     ensures none { IfNone result (IsTrue (all_sized look.now.region)) }
 {
     for n in 0..look.len() as u32 {
-        if !has_size(look.bounds(Itv(n))) {
+        if is_unsized_at(look, n) {
             return Some(n);
         }
     }
     None
 }
 
-/// The first constraint that fails at the settled values.
+/// The first precedence or expression that fails at the settled values.
 fn first_failing(model: &Model, look: &Look<'_>) -> Option<u32>
-    requires { IsRegionOf model.now look.now.region }
+    requires of { IsRegionOf model.now look.now.region }
+    requires settled { IsTrue (is_settled look.now.region) }
+    requires sized { IsTrue (all_sized look.now.region) }
     ensures some { IfSome result (λ u. IsTrue (fails_at model.now look.now.region u)) }
-    ensures none { IfNone result (IsTrue (list_all (holds model.now (settled_assignment look.now.region)) model.now.constraints)) }
+    ensures none { IfNone result (IsTrue (list_all (keeps model.now look.now.region) model.now.constraints)) }
 {
     for u in 0..model.constraints().len() as u32 {
         if fails_at(model, look, u) {
@@ -44,13 +45,13 @@ fn first_failing(model: &Model, look: &Look<'_>) -> Option<u32>
 }
 
 /// The first way in which LEAF refutes a settled look: by a size, by a constraint, or by the
-/// objective. Where there is none, the assignment at the settled values is a better solution. It
-/// reads each interval and each constraint once.
+/// objective. Where there is none and the model is served, the assignment at the settled values is
+/// a better solution. It reads each interval and each constraint once.
 pub fn find_leaf(model: &Model, look: &Look<'_>) -> Option<BasicWitness>
     requires of { IsRegionOf model.now look.now.region }
     requires settled { IsTrue (is_settled look.now.region) }
     ensures some { IfSome result (λ w. IsTrue (refutes model.now look.now w)) }
-    ensures none { IfNone result (Solves model.now look.now) }
+    ensures none { IfNone result (IsTrue (is_served model.now) → Solves model.now look.now) }
 {
     let _ = model.intervals();
     if let Some(u) = first_unsized(look) {
@@ -75,7 +76,19 @@ fn settled_slots(look: &Look<'_>, slots: &mut Vec<Slot>) -> Result<(), NoMemory>
     Ok(())
 }
 
-/// The assignment at the settled values, the one that a settled look allows.
+/// So many empty lists.
+fn empty_lists<T: Drop>(alloc: Global, n: usize) -> Result<List<List<T>>, NoMemory>
+    ensures { IfOk result (λ o. o ≡ replicate n []) }
+{
+    let mut lists = Vec::with_capacity(alloc, n)?;
+    for _ in 0..n {
+        lists.push(List::new(alloc))?;
+    }
+    Ok(List::from_vec(lists))
+}
+
+/// The assignment at the settled values, with an empty order for each sequence and no segment for
+/// any state function. A settled look of a model that is served allows no other solution.
 pub fn settled_assignment(
     alloc: Global,
     model: &Model,
@@ -83,7 +96,7 @@ pub fn settled_assignment(
 ) -> Result<Assignment, NoMemory>
     requires of { IsRegionOf model.now look.now.region }
     requires settled { IsTrue (is_settled look.now.region) }
-    ensures value { IfOk result (λ a. a ≡ settled_assignment look.now.region) }
+    ensures value { IfOk result (λ a. a ≡ settled_assignment model.now look.now.region) }
     ensures allowed { IfOk result (λ a. IsTrue (allows look.now.region a)) }
 {
     let _ = model.intervals();
@@ -91,68 +104,7 @@ pub fn settled_assignment(
     settled_slots(look, &mut slots)?;
     Ok(Assignment {
         slots: List::from_vec(slots),
-        orders: List::new(alloc),
-        segs: List::new(alloc),
+        orders: empty_lists(alloc, model.sequences().len())?,
+        segs: empty_lists(alloc, model.states().len())?,
     })
-}
-
-#[cfg(test)]
-mod tests {
-    use super::*;
-    use region::Region;
-    use sched_model::IntervalDef;
-    use std::test::Fail;
-
-    /// `a = intervalVar(size=1,start=0,end=1);`, or the same with size 2.
-    fn one_interval(alloc: Global, long: bool) -> Result<Model, NoMemory> {
-        let size = if long { 2 } else { 1 };
-        let mut model = Model::new(alloc);
-        let def = IntervalDef {
-            name: List::from_vec(Vec::from_slice(alloc, b"a")?),
-            optional: false,
-            start_lo: 0,
-            start_hi: 0,
-            end_lo: 1,
-            end_hi: 1,
-            size_lo: size,
-            size_hi: size,
-        };
-        model.add_interval(def)?;
-        Ok(model)
-    }
-
-    fn found(alloc: Global, model: &Model) -> Result<Option<BasicWitness>, NoMemory> {
-        let region = Region::root(alloc, model)?;
-        let look = region.look(None, None);
-        if !look.settled() {
-            return Ok(None);
-        }
-        Ok(find_leaf(model, &look))
-    }
-
-    fn first_slot(alloc: Global, model: &Model) -> Result<Option<Slot>, NoMemory> {
-        let region = Region::root(alloc, model)?;
-        let look = region.look(None, None);
-        if !look.settled() {
-            return Ok(None);
-        }
-        let a = settled_assignment(alloc, model, &look)?;
-        Ok(a.slots.as_slice().first().copied())
-    }
-
-    #[test]
-    fn finds_what_fails(rt: HostRuntime) -> Result<(), Fail> {
-        let wrong = one_interval(rt.alloc(), true)?;
-        assert_eq!(rt;
-            found(rt.alloc(), &wrong)?,
-            Some(BasicWitness::Leaf { k: 0, u: 0 })
-        );
-        let right = one_interval(rt.alloc(), false)?;
-        assert_eq!(rt; found(rt.alloc(), &right)?, None);
-        assert_eq!(rt;
-            first_slot(rt.alloc(), &right)?,
-            Some(Slot::Present { s: 0, e: 1 })
-        );
-        Ok(())
-    }
 }

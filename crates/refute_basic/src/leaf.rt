@@ -1,13 +1,13 @@
-ghost use Rattle.std.specs.Prelude.{◌≡◌, ◌<◌, ◌^◌, ◌-ℤ◌, length, not, IsTrue};
+ghost use Rattle.std.specs.Prelude.{◌≡◌, ◌<◌, ◌^◌, ◌-ℤ◌, length, IsTrue};
 ghost use Rattle.sched_model.specs.Words.{is_between};
 ghost use Rattle.sched_model.specs.Valid.{is_moment};
 ghost use Rattle.sched_model.specs.Solution.{beats};
-ghost use Rattle.region.specs.Cells.{bounds_of};
+ghost use Rattle.region.specs.Cells.{is_settled};
 ghost use Rattle.region.specs.Flat.{HasMoments};
 ghost use Rattle.region.specs.Looks.{IsRegionOf};
-ghost use Rattle.refute_basic.specs.Leaf.{has_size, all_sized, fails_at, is_no_better, leaf_row};
+ghost use Rattle.refute_basic.specs.Leaf.{has_size, all_sized, is_unsized_at, fails_at, is_no_better, leaf_row};
 
-use crate::settled::{holds_settled, value_settled};
+use crate::settled::{Settled, fails, value_settled};
 use region::{Bounds, Look, Presence};
 use sched_base::{Itv, at};
 use sched_model::{Model, Sense};
@@ -55,13 +55,14 @@ fn beats(sense: Sense, value: i64, best: i64) -> bool
 {
     match sense {
         Sense::Minimize => value < best,
+        Sense::Maximize => best < value,
     }
 }
 
 /// Whether the size of an interval is out of its range.
-#[tactic(auto, using(crate::proofs::Slots::unknown_sized))]
-fn fails_size(look: &Look<'_>, u: u32) -> bool
-    ensures { result ≡ not (has_size (bounds_of look.now.region (record { 0 = u }))) }
+#[tactic(auto, using(crate::proofs::Slots::none_past, crate::proofs::Slots::one_within))]
+pub fn is_unsized_at(look: &Look<'_>, u: u32) -> bool
+    ensures { result ≡ is_unsized_at look.now.region u }
 {
     if u as usize >= look.len() {
         return false;
@@ -69,20 +70,25 @@ fn fails_size(look: &Look<'_>, u: u32) -> bool
     !has_size(look.bounds(Itv(u)))
 }
 
-/// Whether a constraint fails at the settled values.
+/// Whether a constraint is a precedence or an expression, and fails at the settled values.
 pub fn fails_at(model: &Model, look: &Look<'_>, u: u32) -> bool
-    requires { IsRegionOf model.now look.now.region }
+    requires of { IsRegionOf model.now look.now.region }
+    requires settled { IsTrue (is_settled look.now.region) }
+    requires sized { IsTrue (all_sized look.now.region) }
     ensures { result ≡ fails_at model.now look.now.region u }
 {
+    let settled = Settled { model, look };
     match at(model.constraints(), u as usize) {
         None => false,
-        Some(c) => !holds_settled(look, *c),
+        Some(c) => fails(&settled, c),
     }
 }
 
 /// Whether the objective isn't better than the best value at the settled values.
 pub fn is_no_better(model: &Model, look: &Look<'_>) -> bool
-    requires { IsRegionOf model.now look.now.region }
+    requires of { IsRegionOf model.now look.now.region }
+    requires settled { IsTrue (is_settled look.now.region) }
+    requires sized { IsTrue (all_sized look.now.region) }
     ensures { result ≡ is_no_better model.now look.now }
 {
     let Some(best) = look.best() else {
@@ -91,9 +97,11 @@ pub fn is_no_better(model: &Model, look: &Look<'_>) -> bool
     let Some(o) = model.objective() else {
         return false;
     };
-    !beats(o.sense, value_settled(look, o.expr), best)
+    let settled = Settled { model, look };
+    !beats(o.sense, value_settled(&settled, &o.expr), best)
 }
 
+/// Whether the size of each interval is in its range.
 fn sized(model: &Model, look: &Look<'_>) -> bool
     requires { IsRegionOf model.now look.now.region }
     ensures { result ≡ all_sized look.now.region }
@@ -111,7 +119,7 @@ pub fn leaf(model: &Model, look: &Look<'_>, k: u32, u: u32) -> bool
         return false;
     }
     match k {
-        0 => fails_size(look, u),
+        0 => is_unsized_at(look, u),
         1 => sized(model, look) && fails_at(model, look, u),
         2 => u == 0 && sized(model, look) && is_no_better(model, look),
         _ => false,

@@ -4,10 +4,12 @@
 mod basic;
 mod find;
 mod leaf;
+mod served;
 mod settled;
 mod spelling;
 mod witness;
 
 pub use basic::Basic;
 pub use find::{find_leaf, settled_assignment};
+pub use served::is_served;
 pub use witness::BasicWitness;

@@ -1,14 +1,16 @@
-ghost use Rattle.std.specs.Prelude.{◌≡◌, ◌<◌, ◌&&◌, ◌+ℤ◌, if◌then◌else◌, int_le, length, Some, None};
-ghost use Rattle.sched_model.specs.Words.{◌implies◌};
-ghost use Rattle.sched_model.specs.Data.{Data};
-ghost use Rattle.sched_model.specs.Value.{is_here, point_in, slot_of, value_of};
-ghost use Rattle.sched_model.specs.Sentences.{holds, reaches};
-ghost use Rattle.region.specs.Cells.{settled_slot};
-ghost use Rattle.refute_basic.specs.Leaf.{NamesWithin, SubjectWithin, settled_assignment};
+ghost use Rattle.std.specs.Prelude.{◌≡◌, ◌&&◌, not, true};
+ghost use Rattle.sched_model.specs.Domain.{fits_def};
+ghost use Rattle.sched_model.specs.Sentences.{holds};
+ghost use Rattle.sched_model.specs.Valid.{is_constraint, is_expr};
+ghost use Rattle.sched_model.specs.Value.{value_of};
+ghost use Rattle.sched_model.specs.Words.{placewise};
+ghost use Rattle.region.specs.Cells.{settled_slot, settled_slots};
+ghost use Rattle.refute_basic.specs.Leaf.{settled_assignment};
+ghost use Rattle.refute_basic.specs.Served.{is_of_slots};
 
 use region::{Bounds, Look, Presence};
 use sched_base::Itv;
-use sched_model::{Constraint, End, Expr, Slot};
+use sched_model::{Constraint, Expr, Model, Slot, Slots, is_precedence, value_in};
 
 /// The slot that settled bounds leave.
 pub fn settled_slot(c: Bounds) -> Slot
@@ -24,71 +26,31 @@ pub fn settled_slot(c: Bounds) -> Slot
     }
 }
 
-/// An end point of a slot, if an interval is there.
-fn point(slot: Slot, end: End) -> Option<i64>
-    ensures { result ≡ (if is_here slot then Some (point_in end slot) else None) }
-{
-    match slot {
-        Slot::Absent => None,
-        Slot::Present { s, e } => match end {
-            End::Start => Some(s),
-            End::Finish => Some(e),
-        },
+/// A settled look at a region of a model, as the slots that it leaves.
+#[derive(Drop)]
+pub struct Settled<'a> {
+    pub model: &'a Model,
+    pub look: &'a Look<'a>,
+}
+
+impl<'a> Slots for Settled<'a> {
+    ghost use Rattle.refute_basic.specs.Leaf.{settled_assignment};
+
+    ghost meaning = { λ s. settled_assignment s.model.now s.look.now.region };
+
+    fn slot(&self, x: Itv) -> Slot {
+        if x.0 as usize >= self.look.len() {
+            return Slot::Absent;
+        }
+        settled_slot(self.look.bounds(x))
     }
 }
 
-/// Whether `first + z <= second`.
-fn is_at_most(first: i64, z: i64, second: i64) -> bool
-    ensures { result ≡ int_le (first +ℤ z) second }
-{
-    i128::from(first) + i128::from(z) <= i128::from(second)
-}
-
-/// Whether `first + z >= second`.
-fn is_at_least(first: i64, z: i64, second: i64) -> bool
-    ensures { result ≡ int_le second (first +ℤ z) }
-{
-    i128::from(second) <= i128::from(first) + i128::from(z)
-}
-
-fn reaches(equal: bool, first: i64, z: i64, second: i64) -> bool
-    ensures { result ≡ reaches equal (first +ℤ z) second }
-{
-    if !is_at_most(first, z, second) {
-        return false;
-    }
-    if !equal {
-        return true;
-    }
-    is_at_least(first, z, second)
-}
-
-/// Whether the sentence of a precedence constraint holds at two slots.
-fn is_kept(from: End, to: End, equal: bool, z: i64, x: Slot, y: Slot) -> bool
-    ensures { result ≡ (is_here x && is_here y) implies reaches equal (point_in from x +ℤ z) (point_in to y) }
-{
-    let Some(first) = point(x, from) else {
-        return true;
-    };
-    let Some(second) = point(y, to) else {
-        return true;
-    };
-    reaches(equal, first, z, second)
-}
-
-/// What a settled look leaves of an interval.
-#[tactic(auto, using(crate::proofs::Slots::settled_slot_of))]
-fn slot_in(look: &Look<'_>, x: Itv) -> Slot
-    requires { x.0 < length look.now.region.bounds }
-    ensures { result ≡ slot_of (settled_assignment look.now.region) x }
-{
-    settled_slot(look.bounds(x))
-}
-
-/// Whether the sentence of the constraint holds at the settled values.
-pub fn holds_settled(look: &Look<'_>, c: Constraint) -> bool
-    requires { NamesWithin look.now.region c }
-    ensures { (m : Data) → result ≡ holds m (settled_assignment look.now.region) c }
+/// Whether the constraint is a precedence or an expression, and fails at the settled values.
+pub fn fails(settled: &Settled<'_>, c: &Constraint) -> bool
+    requires valid { is_constraint settled.now.model.now c.now ≡ true }
+    requires fit { placewise fits_def settled.now.model.now.intervals (settled_slots settled.now.look.now.region) ≡ true }
+    ensures { result ≡ (is_of_slots c.now && not (holds settled.now.model.now (settled_assignment settled.now.model.now settled.now.look.now.region) c.now)) }
 {
     match c {
         Constraint::Temporal {
@@ -98,19 +60,18 @@ pub fn holds_settled(look: &Look<'_>, c: Constraint) -> bool
             a,
             b,
             z,
-        } => is_kept(from, to, equal, z, slot_in(look, a), slot_in(look, b)),
+        } => !is_precedence(settled, *from, *to, *equal, *a, *b, *z),
+        Constraint::Logic(e) => value_settled(settled, e) == 0,
+        _ => false,
     }
 }
 
 /// The value of an expression at the settled values.
-pub fn value_settled(look: &Look<'_>, e: Expr) -> i64
-    requires { SubjectWithin look.now.region e }
-    ensures { result ≡ value_of (settled_assignment look.now.region) e }
+#[tactic(auto, using(crate::proofs::Slots::has_hull))]
+pub fn value_settled(settled: &Settled<'_>, e: &Expr) -> i64
+    requires valid { is_expr settled.now.model.now e.now ≡ true }
+    requires fit { placewise fits_def settled.now.model.now.intervals (settled_slots settled.now.look.now.region) ≡ true }
+    ensures { result ≡ value_of (settled_assignment settled.now.model.now settled.now.look.now.region) e.now }
 {
-    match e {
-        Expr::EndOf(x, d) => match slot_in(look, x) {
-            Slot::Absent => d,
-            Slot::Present { s: _, e } => e,
-        },
-    }
+    value_in(settled.model, settled, e)
 }

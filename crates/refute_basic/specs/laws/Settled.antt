@@ -1,52 +1,47 @@
 -- LEAF leaves no better solution.
-use Rattle.std.specs.Prelude.{◌≡◌, ℕ, zero, suc, ℤ, ◌-ℤ◌, true, not, ◌&&◌, IsTrue, List, [], ◌∷◌, Option, Some, None, map, length, slice_get}
+use Rattle.std.specs.Prelude.{◌≡◌, ℕ, zero, suc, ℤ, ◌-ℤ◌, true, not, ◌&&◌, IsTrue, List, [], ◌∷◌, Option, Some, None, map, length, slice_get, All}
 use Rattle.std.specs.List.{list_all}
 use Rattle.std.specs.Ordering.{int_eq}
-use Rattle.std.proofs.Common.{refl, sym, subst, ◌∙◌, arith, get_or}
+use Rattle.std.proofs.Common.{refl, sym, ap, subst, ◌∙◌, arith}
 use Rattle.std.proofs.lemmas.Int.{ints}
 use Rattle.std.proofs.lemmas.Bool.{true≢false, both_ways, not-true}
-use Rattle.std.proofs.lemmas.List.Sums.{list_all-from_AllPass}
-use Rattle.sched_base.specs.declared.ids.Itv.{Itv}
+use Rattle.std.proofs.lemmas.Option.{slice_get_within, get_or_from_slice_get}
 use Rattle.sched_model.specs.declared.types.IntervalDef.{IntervalDef}
-use Rattle.sched_model.specs.declared.types.Slot.{Slot}
-use Rattle.sched_model.specs.declared.types.Segment.{Segment}
 use Rattle.sched_model.specs.declared.types.Assignment.{Assignment}
 use Rattle.sched_model.specs.declared.types.Constraint.{Constraint}
+use Rattle.sched_model.specs.declared.types.Constraint.TheVariants.{Temporal, Logic, Span, Alternative, Synchronize, NoOverlap, First, Last, Before, Prev, CumulIn, AlwaysEqual, AlwaysNoState}
 use Rattle.sched_model.specs.declared.types.Objective.{Objective}
-use Rattle.sched_model.specs.Words.{passes, is_between, is_empty, placewise}
+use Rattle.sched_model.specs.Words.{passes, is_between, placewise}
 use Rattle.sched_model.specs.Data.{Data}
 use Rattle.sched_model.specs.Value.{value_of}
 use Rattle.sched_model.specs.Domain.{fits_def}
-use Rattle.sched_model.specs.Sentences.{holds}
+use Rattle.sched_model.specs.Sentences.{Holds, holds}
 use Rattle.sched_model.specs.Solution.{IsSolution, is_better, beats}
 use Rattle.sched_model.specs.Valid.{IsValid}
 use Rattle.region.specs.declared.types.Presence.{Presence}
 use Rattle.region.specs.declared.types.Presence.TheVariants as presence
 use Rattle.region.specs.declared.types.Bounds.{Bounds}
-use Rattle.region.specs.Cells.{Region, unknown, is_settled, settled_slot, settled_slots, Allows}
+use Rattle.region.specs.Cells.{Region, is_settled, settled_slot, settled_slots, Allows}
 use Rattle.region.specs.Looks.{Seen, IsRegionOf, is_narrowed, HasNone}
 use Rattle.region.specs.laws.Lists.{both_true, true_both, placewise-length}
 use Rattle.region.specs.laws.Settling.{settled_choice, test_from_allowed}
 use Rattle.refute_basic.specs.declared.witness.BasicWitness.{BasicWitness}
 use Rattle.refute_basic.specs.declared.witness.BasicWitness.TheVariants.{Leaf}
 use Rattle.refute_basic.specs.Witness.{is_valid}
+use Rattle.refute_basic.specs.Served.{is_of_slots}
 use Rattle.refute_basic.specs.Leaf.{settled_assignment, has_size, all_sized, fails_at, is_no_better, leaf_case, leaf_row}
 use Rattle.refute_basic.specs.Basic.{refutes, row_of}
+use Rattle.refute_basic.specs.laws.SameSlots.{value_same, holds_same}
 
-empty_is : {X : Type 0} → (xs : List X) → is_empty xs ≡ true → xs ≡ []
-empty_is [] h = refl
-empty_is (x ∷ xs) h = cc
+-- each interval of a solution has a slot that fits
+pub slots_fit : (m : Data) (a : Assignment) → IsSolution m a → placewise fits_def m.intervals a.slots ≡ true
+slots_fit m a solution = (both_true _ _ (both_true _ _ solution.domain).0).0
 
--- a solution that a settled region of its model allows is the assignment at the settled values
-pub settled_is : (m : Data) (r : Region) (a : Assignment) → IsRegionOf m r → is_settled r ≡ true → IsSolution m a → Allows r a → a ≡ settled_assignment r
-settled_is m r a of settled solution allows =
-    let two = both_true (placewise fits_def m.intervals a.slots && is_empty a.orders) (is_empty a.segs) solution.domain in
-    let one = both_true (placewise fits_def m.intervals a.slots) (is_empty a.orders) two.0 in
-    let size : length r.bounds ≡ length a.slots = sym (placewise-length is_narrowed m.intervals r.bounds of.bounds) ∙ placewise-length fits_def m.intervals a.slots one.0 in
-    same a.slots a.orders a.segs (settled_slots r) (settled_choice r a settled (test_from_allowed r a size allows)) (empty_is a.orders one.1) (empty_is a.segs two.1)
-  where
-    same : (ss : List Slot) (os : List (List Itv)) (qs : List (List Segment)) (ts : List Slot) → ss ≡ ts → os ≡ [] → qs ≡ [] → (let b : Assignment = record { slots = ss; orders = os; segs = qs } in b) ≡ record { slots = ts; orders = []; segs = [] }
-    same ss os qs ts first second third = rw (first, second, third) refl
+-- a solution that a settled region of its model allows has the settled slots
+pub slots_settled : (m : Data) (r : Region) (a : Assignment) → IsRegionOf m r → is_settled r ≡ true → IsSolution m a → Allows r a → a.slots ≡ settled_slots r
+slots_settled m r a of settled solution allows =
+    let size : length r.bounds ≡ length a.slots = sym (placewise-length is_narrowed m.intervals r.bounds of.bounds) ∙ placewise-length fits_def m.intervals a.slots (slots_fit m a solution) in
+    settled_choice r a settled (test_from_allowed r a size allows)
 
 -- its sizes are in their ranges
 sized_slot : (p : Presence) (d : IntervalDef) (a b e f lo hi : ℤ)
@@ -73,42 +68,63 @@ fits_settled (d ∷ ds) (b ∷ bs) h k =
     let sizes = sizes_of d b first.0 in
     true_both (has_size b) (list_all has_size bs) (sized_slot b.presence d b.smin b.smax b.emin b.emax b.pmin b.pmax sizes.0 sizes.1 second.0) (fits_settled ds bs first.1 second.1)
 
--- so each interval has, an unknown one too
-sized_at : (bs : List Bounds) (n : ℕ) → list_all has_size bs ≡ true → has_size (get_or bs n unknown) ≡ true
-sized_at [] n h = refl
-sized_at (b ∷ bs) zero h = (both_true (has_size b) (list_all has_size bs) h).0
-sized_at (b ∷ bs) (suc n) h = sized_at bs n (both_true (has_size b) (list_all has_size bs) h).1
+-- so no interval has a wrong one
+none_unsized : (bs : List Bounds) (n : ℕ) → list_all has_size bs ≡ true → passes (λ c. not (has_size c)) (slice_get bs n) ≡ true → ⊥
+none_unsized [] n h k = true≢false (sym k)
+none_unsized (b ∷ bs) zero h k = both_ways (has_size b) (not-true (has_size b) k) (both_true (has_size b) (list_all has_size bs) h).0
+none_unsized (b ∷ bs) (suc n) h k = none_unsized bs n (both_true (has_size b) (list_all has_size bs) h).1 k
 
--- a constraint of the list holds
-holds_listed : (m : Data) (a : Assignment) (cs : List Constraint) (u : ℕ) → list_all (holds m a) cs ≡ true → passes (λ c. not (holds m a c)) (slice_get cs u) ≡ true → ⊥
-holds_listed m a [] u h k = true≢false (sym k)
-holds_listed m a (c ∷ cs) zero h k = both_ways (holds m a c) (not-true (holds m a c) k) (both_true (holds m a c) (list_all (holds m a) cs) h).0
-holds_listed m a (c ∷ cs) (suc u) h k = holds_listed m a cs u (both_true (holds m a c) (list_all (holds m a) cs) h).1 k
+-- of slots alone a sentence is as it is computed
+held : (m : Data) (a : Assignment) (c : Constraint) → is_of_slots c ≡ true → Holds m a c → holds m a c ≡ true
+held m a (Temporal from to equal x y z) of h = h
+held m a (Logic e) of h = h
+held m a (Span x parts) of h = cc
+held m a (Alternative x parts) of h = cc
+held m a (Synchronize x parts) of h = cc
+held m a (NoOverlap p matrix direct) of h = cc
+held m a (First p x) of h = cc
+held m a (Last p x) of h = cc
+held m a (Before p x y) of h = cc
+held m a (Prev p x y) of h = cc
+held m a (CumulIn f w lo hi) of h = cc
+held m a (AlwaysEqual g x v i j) of h = cc
+held m a (AlwaysNoState g x) of h = cc
 
-better_beats : (m : Data) (a : Assignment) (o : Option Objective) (best : ℤ) → passes (λ o. beats o.sense (value_of a o.expr) best) o ≡ true → passes (λ o. not (beats o.sense (value_of a o.expr) best)) o ≡ true → ⊥
-better_beats m a None best h k = true≢false (sym h)
-better_beats m a (Some o) best h k = both_ways (beats o.sense (value_of a o.expr) best) (not-true _ k) h
-
--- the cases of LEAF, at the assignment at the settled values
-refuted_case : (m : Data) (l : Seen) (k u : ℕ) → IsSolution m (settled_assignment l.region) → IsTrue (is_better m l.best (settled_assignment l.region)) → all_sized l.region ≡ true → leaf_case m l k u ≡ true → ⊥
-refuted_case m l zero u solution better sized h = both_ways (has_size (get_or l.region.bounds u unknown)) (not-true _ h) (sized_at l.region.bounds u sized)
-refuted_case m l (suc zero) u solution better sized h =
-    holds_listed m (settled_assignment l.region) m.constraints u (list_all-from_AllPass (holds m (settled_assignment l.region)) m.constraints solution.holds) (both_true (all_sized l.region) (fails_at m l.region u) h).1
-refuted_case m l (suc (suc zero)) zero solution better sized h = beaten l.best better (both_true (all_sized l.region) (is_no_better m l) h).1
+-- a constraint of slots alone that a solution keeps holds at the same slots
+none_fails : (m : Data) (a b : Assignment) (cs : List Constraint) (u : ℕ) → a.slots ≡ b.slots → All (Holds m a) cs → passes (λ c. is_of_slots c && not (holds m b c)) (slice_get cs u) ≡ true → ⊥
+none_fails m a b cs u same hold fails = at (slice_get cs u) refl fails
   where
-    beaten : (best : Option ℤ) → is_better m best (settled_assignment l.region) ≡ true → passes (λ best. passes (λ o. not (beats o.sense (value_of (settled_assignment l.region) o.expr) best)) m.objective) best ≡ true → ⊥
+    at : (o : Option Constraint) → slice_get cs u ≡ o → passes (λ c. is_of_slots c && not (holds m b c)) o ≡ true → ⊥
+    at None is h = true≢false (sym h)
+    at (Some c) is h =
+        let two = both_true (is_of_slots c) (not (holds m b c)) h in
+        let here : Holds m a c = subst (Holds m a) (get_or_from_slice_get cs u c c is) (hold u c (slice_get_within cs u c is)) in
+        both_ways (holds m b c) (not-true (holds m b c) two.1) (sym (holds_same m a b same c two.0) ∙ held m a c two.0 here)
+
+-- a better value at the same slots is better
+none_beats : (m : Data) (a b : Assignment) (o : Option Objective) (best : ℤ) → a.slots ≡ b.slots → passes (λ o. beats o.sense (value_of a o.expr) best) o ≡ true → passes (λ o. not (beats o.sense (value_of b o.expr) best)) o ≡ true → ⊥
+none_beats m a b None best same h k = true≢false (sym h)
+none_beats m a b (Some o) best same h k = both_ways (beats o.sense (value_of b o.expr) best) (not-true _ k) (ap (λ z. beats o.sense z best) (sym (value_same a b same o.expr)) ∙ h)
+
+-- the cases of LEAF, of a solution with the settled slots
+refuted_case : (m : Data) (l : Seen) (a : Assignment) (k u : ℕ) → IsSolution m a → IsTrue (is_better m l.best a) → a.slots ≡ settled_slots l.region → all_sized l.region ≡ true → leaf_case m l k u ≡ true → ⊥
+refuted_case m l a zero u solution better same sized h = none_unsized l.region.bounds u sized h
+refuted_case m l a (suc zero) u solution better same sized h =
+    none_fails m a (settled_assignment m l.region) m.constraints u same solution.holds (both_true (all_sized l.region) (fails_at m l.region u) h).1
+refuted_case m l a (suc (suc zero)) zero solution better same sized h = beaten l.best better (both_true (all_sized l.region) (is_no_better m l) h).1
+  where
+    beaten : (best : Option ℤ) → is_better m best a ≡ true → passes (λ best. passes (λ o. not (beats o.sense (value_of (settled_assignment m l.region) o.expr) best)) m.objective) best ≡ true → ⊥
     beaten None h k = true≢false (sym k)
-    beaten (Some best) h k = better_beats m (settled_assignment l.region) m.objective best h k
-refuted_case m l (suc (suc zero)) (suc u) solution better sized h = true≢false (sym h)
-refuted_case m l (suc (suc (suc k))) u solution better sized h = true≢false (sym h)
+    beaten (Some best) h k = none_beats m a (settled_assignment m l.region) m.objective best same h k
+refuted_case m l a (suc (suc zero)) (suc u) solution better same sized h = true≢false (sym h)
+refuted_case m l a (suc (suc (suc k))) u solution better same sized h = true≢false (sym h)
 
 pub leaf_sound : (m : Data) (l : Seen) (k u : ℕ) → IsRegionOf m l.region → leaf_row m l k u ≡ true → HasNone m l
 leaf_sound m l k u of h a solution better allows =
     let two = both_true (is_settled l.region) (leaf_case m l k u) h in
-    let is = settled_is m l.region a of two.0 solution allows in
-    let at : IsSolution m (settled_assignment l.region) = subst (IsSolution m) is solution in
-    let domain = both_true _ _ (both_true _ _ at.domain).0 in
-    refuted_case m l k u at (subst (λ b. IsTrue (is_better m l.best b)) is better) (fits_settled m.intervals l.region.bounds of.bounds domain.0) two.1
+    let same = slots_settled m l.region a of two.0 solution allows in
+    let fit : placewise fits_def m.intervals (settled_slots l.region) ≡ true = subst (λ ss. placewise fits_def m.intervals ss ≡ true) same (slots_fit m a solution) in
+    refuted_case m l a k u solution better same (fits_settled m.intervals l.region.bounds of.bounds fit) two.1
 
 pub sound_law : (m : Data) (l : Seen) (w : BasicWitness) → IsValid m → IsRegionOf m l.region → IsTrue (refutes m l w) → HasNone m l
 sound_law m l (Leaf k u) valid of h = leaf_sound m l k u of (both_true (is_valid (Leaf k u)) (row_of m l (Leaf k u)) h).1

@@ -1,8 +1,7 @@
 use Rattle.std.proofs.Common.{◌≡◌, drop}
 use Rattle.std.specs.List.{list_all}
-use Rattle.sched_model.specs.Sentences.{holds}
-use Rattle.refute_basic.specs.Leaf.{settled_assignment}
+use Rattle.refute_basic.specs.Leaf.{keeps}
 use Rattle.refute_basic.proofs.find.first_failing.Given as goal
 
 abbrev pub invariant-loop-u : goal.invariant-loop-u
-invariant-loop-u l = list_all (holds l.model (settled_assignment l.look.region)) (drop l.u l.model.constraints) ≡ list_all (holds l.model (settled_assignment l.look.region)) l.model.constraints
+invariant-loop-u l = list_all (keeps l.model l.look.region) (drop l.u l.model.constraints) ≡ list_all (keeps l.model l.look.region) l.model.constraints

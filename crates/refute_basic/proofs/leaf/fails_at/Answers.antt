@@ -1,9 +1,13 @@
 use Rattle.std.proofs.Common.{sym}
-use Rattle.refute_basic.proofs.Slots.{names_within, failing_at}
+use Rattle.refute_basic.specs.laws.NoLeaf.{settled_fits}
+use Rattle.refute_basic.proofs.Slots.{valid_at, failing_at}
 use Rattle.refute_basic.proofs.leaf.fails_at.Goals as goal
 
-pub holds_settled-requires : goal.holds_settled-requires
-holds_settled-requires c = names_within c.args.model.now c.args.look.now.region c.constraints.result.now c.args.u c.in-Some.c.now c.constraints.ensures.valid c.requires c.constraints.ensures.list (sym c.in-Some.ensures)
+pub fails-requires-clause-valid : goal.fails-requires-clause-valid
+fails-requires-clause-valid c = valid_at c.args.model.now c.constraints.result.now c.args.u c.in-Some.c.now c.constraints.ensures.valid c.constraints.ensures.list (sym c.in-Some.ensures)
+
+pub fails-requires-clause-fit : goal.fails-requires-clause-fit
+fails-requires-clause-fit c = settled_fits c.args.model.now c.args.look.now.region c.requires.of c.requires.settled c.requires.sized
 
 pub returns-in-Some : goal.returns-in-Some
-returns-in-Some c = failing_at c.args.model.now c.args.look.now.region c.constraints.result.now c.args.u c.in-Some.c.now c.holds_settled.result c.constraints.ensures.list (sym c.in-Some.ensures) (c.holds_settled.ensures c.args.model.now)
+returns-in-Some c = failing_at c.args.model.now c.args.look.now.region c.constraints.result.now c.args.u c.in-Some.c.now c.fails.result c.constraints.ensures.list (sym c.in-Some.ensures) c.fails.ensures
