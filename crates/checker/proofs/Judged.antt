@@ -173,6 +173,10 @@ pub accepted : (m : Data) (bytes cut : Bytes) → cut ≡ take log_limit bytes �
     → IsAccepted m bytes (verdict_of s) s.nodes
 accepted m bytes cut is_cut place to line s so_far at all = accepted_at m log_limit bytes cut is_cut place to line s so_far at all
 
+pub not_too_long : Spellings → (m : Data) (bytes cut : Bytes) → cut ≡ take log_limit bytes → (place to line : ℕ) (s : LogState) → Reached m cut place line s → IsEntryAt cut place to Finish → IsTooLong m bytes → ⊥
+not_too_long laws m bytes cut is_cut place to line s so_far at long =
+    other_way laws m log_limit bytes cut is_cut place line s long.state long.lines long.rest so_far (end_stops_at laws m log_limit bytes cut is_cut place to s at) (entry_whole laws cut place to Finish at) long.log long.text long.open_line
+
 pub too_long : (m : Data) (bytes cut : Bytes) → cut ≡ take log_limit bytes → (place line : ℕ) (s : LogState) → Reached m cut place line s → HasNoWholeLine (drop place cut) → log_limit ≤ length bytes → IsTooLong m bytes
 too_long m bytes cut is_cut place line s so_far open_one many = record {
   many = many;

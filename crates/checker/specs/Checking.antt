@@ -12,7 +12,7 @@ use Rattle.checker.specs.Judgement.{IsAccepted, IsRefused, IsTooLong, log_limit}
 
 -- the answer is the judgement of the bytes
 abbrev pub Judges : Data → Bytes → Result Checked CheckFault → Type 0
-Judges m bytes (Ok c) = IsAccepted m bytes c.verdict c.nodes
+Judges m bytes (Ok c) = IsAccepted m bytes c.verdict c.nodes × (IsTooLong m bytes → ⊥)
 Judges m bytes (Err (Refused k)) = IsRefused m bytes k × (IsTooLong m bytes → ⊥)
 Judges m bytes (Err TooLong) = IsTooLong m bytes
 Judges m bytes (Err Fault) = ⊤

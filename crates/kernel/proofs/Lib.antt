@@ -1,5 +1,5 @@
 pub mod Pending
-pub mod Tests
+pub mod LineTests
 pub mod Stepped
 pub mod Regions
 pub mod Sols

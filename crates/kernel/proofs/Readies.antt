@@ -97,7 +97,7 @@ gives_keeps m refutes (Err NotRefuted) s t line sound gives ready = subst (Ready
 gives_keeps m refutes (Err NotTight) s t line sound gives ready = subst (Ready m) (sym gives.1) ready
 gives_keeps m refutes (Err NotSplitting) s t line sound gives ready = subst (Ready m) (sym gives.1) ready
 gives_keeps m refutes (Err NotSolution) s t line sound gives ready = subst (Ready m) (sym gives.1) ready
-gives_keeps m refutes (Err NoMemory) s t line sound gives ready = subst (Ready m) (sym gives) ready
+gives_keeps m refutes (Err NoMemory) s t line sound gives ready = subst (Ready m) (sym gives.1) ready
 
 -- the opening state is ready
 pub opening_ready : (m : Data) → IsValid m → Ready m (opening m)
@@ -125,7 +125,7 @@ none_left m found (r ∷ rs) empty loses a solution wanted = cc
 
 best_means : (m : Data) (a : Assignment) (v : Option ℤ) → IsSolution m a → v ≡ objective_of m a → ((b : Assignment) → IsSolution m b → (is_some v && is_better m v b) ≡ true → ⊥) → Means m (best_verdict v)
 best_means m a None solution is none = (a, solution, sym is)
-best_means m a (Some v) solution is none = record { reached = (a, solution, sym is); greatest = λ b other better. none b other better }
+best_means m a (Some v) solution is none = record { reached = (a, solution, sym is); unbeaten = λ b other better. none b other better }
 
 closed_means : (m : Data) (found : Option Found) → IfFound m found → ((b : Assignment) → IsSolution m b → is_wanted m found b ≡ true → ⊥) → Means m (closed_verdict found)
 closed_means m None h none = λ a solution. none a solution refl

@@ -2,49 +2,41 @@
 use Rattle.std.proofs.Common.{◌≡◌, ℤ, true, false, ◌&&◌, List, [], ◌∷◌, length, Option, Some, None, inl, inr, refl, sym, ap, subst, ◌∙◌, arith, true≢false}
 use Rattle.std.specs.Prelude.{is_some, slice_index_or, option_map, if◌then◌else◌}
 use Rattle.std.proofs.lemmas.Int.{ints}
-use Rattle.std.specs.List.{list_all}
 use Rattle.std.proofs.lemmas.List.Elements.{All-nil, All-head, All-tail}
-use Rattle.std.proofs.lemmas.List.Sums.{AllPass-from_list_all}
 use Rattle.sched_model.specs.declared.types.Assignment.{Assignment}
-use Rattle.sched_model.specs.declared.types.Expr.{Expr}
-use Rattle.sched_model.specs.declared.types.Expr.TheVariants.{EndOf}
 use Rattle.sched_model.specs.declared.types.Objective.{Objective}
 use Rattle.sched_model.specs.declared.types.Sense.{Sense}
-use Rattle.sched_model.specs.declared.types.Sense.TheVariants.{Minimize}
-use Rattle.sched_model.specs.declared.types.Slot.TheVariants as slot
+use Rattle.sched_model.specs.declared.types.Sense.TheVariants.{Minimize, Maximize}
 use Rattle.sched_model.specs.Words.{passes}
 use Rattle.sched_model.specs.Data.{Data}
-use Rattle.sched_model.specs.Value.{value_of, end_or}
+use Rattle.sched_model.specs.Value.{value_of}
 use Rattle.sched_model.specs.Solution.{IsSolution, is_solution, is_better, beats, objective_of}
-use Rattle.sched_model.specs.Domain.{fits_def, is_in_domain}
-use Rattle.sched_model.specs.Sentences.{holds}
-use Rattle.sched_model.specs.Words.{placewise, is_empty}
+use Rattle.sched_model.specs.Domain.{fits_def}
 use Rattle.region.specs.Cells.{Region, Allows, allows, is_settled}
 use Rattle.region.specs.Looks.{IsRegionOf, is_narrowed}
 use Rattle.region.specs.Narrows.{HasPoint}
 use Rattle.region.specs.laws.Lists.{both_true, placewise-length}
 use Rattle.region.specs.laws.Settling.{test_from_allowed, same_choice}
+use Rattle.sched_model.proofs.Tested.{solution_from_test}
+use Rattle.refute_basic.specs.laws.SameSlots.{value_same}
+use Rattle.refute_basic.specs.laws.Settled.{slots_fit}
 use Rattle.kernel.specs.declared.types.Found.{Found}
 use Rattle.kernel.specs.Steps.{is_wanted, found_in, left_after}
 use Rattle.kernel.specs.Promises.{AreApart, IsFound}
 use Rattle.kernel.proofs.Regions.{Keeps, any_cases, pairs_tail}
 
--- the value of an expression is that of the slots
-same_value : (a b : Assignment) (e : Expr) → a.slots ≡ b.slots → value_of a e ≡ value_of b e
-same_value a b (EndOf x d) same = ap (λ ss. end_or d (slice_index_or ss x.0 slot.Absent)) same
-
+-- no value beats itself, and what beats is passed on
 never_below : (z : ℤ) (s : Sense) → beats s z z ≡ true → ⊥
 never_below z Minimize h = grind (arith, ints)
+never_below z Maximize h = grind (arith, ints)
 
 beats_through : (s : Sense) (x y z : ℤ) → beats s x y ≡ true → beats s y z ≡ true → beats s x z ≡ true
 beats_through Minimize x y z first second = grind (arith, ints)
+beats_through Maximize x y z first second = grind (arith, ints)
 
 -- of two solutions that a settled region allows neither is better
 slots_of_model : (m : Data) (r : Region) (a : Assignment) → IsRegionOf m r → IsSolution m a → length r.bounds ≡ length a.slots
-slots_of_model m r a of solution =
-    let parts = (both_true (placewise fits_def m.intervals a.slots && is_empty a.orders) (is_empty a.segs) solution.domain).0 in
-    let each = (both_true (placewise fits_def m.intervals a.slots) (is_empty a.orders) parts).0 in
-    sym (placewise-length is_narrowed m.intervals r.bounds of.bounds) ∙ placewise-length fits_def m.intervals a.slots each
+slots_of_model m r a of solution = sym (placewise-length is_narrowed m.intervals r.bounds of.bounds) ∙ placewise-length fits_def m.intervals a.slots (slots_fit m a solution)
 
 same_slots : (m : Data) (r : Region) (a b : Assignment) → IsRegionOf m r → is_settled r ≡ true → allows r a ≡ true → IsSolution m b → Allows r b → a.slots ≡ b.slots
 same_slots m r a b of settled allowed solution other = same_choice r a b settled allowed (test_from_allowed r b (slots_of_model m r b of solution) other)
@@ -83,12 +75,6 @@ wanted_before : (m : Data) (o : Objective) (found : Option Found) (a b : Assignm
 wanted_before m o None a b is old new = refl
 wanted_before m o (Some f) a b is old new = wanted_by_value m o a b f.value is old new
 
--- what passes the test is a solution
-solution_from_test : (m : Data) (a : Assignment) → is_solution m a ≡ true → IsSolution m a
-solution_from_test m a h =
-    let two = both_true (is_in_domain m a) (list_all (holds m a) m.constraints) h in
-    record { domain = two.0; holds = AllPass-from_list_all (holds m a) m.constraints two.1 }
-
 found_is : (m : Data) (a : Assignment) → is_solution m a ≡ true → IsFound m (found_in m a)
 found_is m a solution = record { solution = solution_from_test m a solution; value = refl }
 
@@ -114,7 +100,7 @@ sol_goes_on m o found a r rs is settled solution allowed wanted keeps =
         found_is = found_is m a solution;
         covers = λ b other better. let below = wanted_after m o a b is better in
             elim (any_cases (λ q. Allows q b) r rs (keeps.loses.covers b other (wanted_before m o found a b is wanted below))) [
-              | inl here ↦ absurd (never_below (value_of b o.expr) o.sense (subst (λ v. beats o.sense (value_of b o.expr) v ≡ true) (same_value a b o.expr (same_slots m r a b of settled allowed other here)) below))
+              | inl here ↦ absurd (never_below (value_of b o.expr) o.sense (subst (λ v. beats o.sense (value_of b o.expr) v ≡ true) (value_same a b (same_slots m r a b of settled allowed other here) o.expr) below))
               | inr others ↦ others
             ];
         has_points = All-tail HasPoint r rs keeps.loses.has_points;

@@ -1,11 +1,10 @@
 -- The tests of a line one after another, and the state after a line that passes them, by the first region.
-use Rattle.std.specs.Prelude.{◌&&◌, ℕ, ◌+◌, ◌++◌, is_some, option_map, ℤ, pos, ◌+ℤ◌, ◌-ℤ◌, Bool, if◌then◌else◌, int_le, Option, Some, None, Ok, Err}
+use Rattle.std.specs.Prelude.{◌&&◌, ℕ, ◌+◌, ◌++◌, is_some, option_map, ℤ, Bool, if◌then◌else◌, Option, Some, None, Ok, Err}
 use Rattle.sched_model.specs.declared.types.Assignment.{Assignment}
 use Rattle.sched_model.specs.Data.{Data}
 use Rattle.sched_model.specs.Solution.{is_solution}
 use Rattle.region.specs.declared.types.Guess.{Guess}
-use Rattle.region.specs.declared.types.Guess.TheVariants.{Present, Absent, StartLe, StartGe, EndLe, EndGe}
-use Rattle.region.specs.Cells.{Region, is_settled, allows, bounds_of}
+use Rattle.region.specs.Cells.{Region, is_settled, allows}
 use Rattle.region.specs.Guesses.{with_fact, looked_at, admits, splits}
 use Rattle.region.specs.Looks.{Seen}
 use Rattle.region.specs.Tight.{is_tight}
@@ -18,18 +17,6 @@ use Rattle.kernel.specs.declared.types.StepFault.TheVariants.{NothingLeft, NotRe
 use Rattle.kernel.specs.Refuting.{Refuting}
 use Rattle.kernel.specs.Agenda.{first_in, behind_in, parts_of}
 use Rattle.kernel.specs.Steps.{LogState, Outcome, found_in, left_after, best_of, is_wanted}
-
--- the next weaker guess of the same form, where that still says something of the region
-abbrev pub unless_past : Bool → Guess → Option Guess
-unless_past b g = if b then None else Some g
-
-abbrev pub weaker : Region → Guess → Option Guess
-weaker r (Present x) = None
-weaker r (Absent x) = None
-weaker r (StartLe x t) = unless_past (int_le (bounds_of r x).smax (t +ℤ pos 1)) (StartLe x (t +ℤ pos 1))
-weaker r (StartGe x t) = unless_past (int_le (t -ℤ pos 1) (bounds_of r x).smin) (StartGe x (t -ℤ pos 1))
-weaker r (EndLe x t) = unless_past (int_le (bounds_of r x).emax (t +ℤ pos 1)) (EndLe x (t +ℤ pos 1))
-weaker r (EndGe x t) = unless_past (int_le (t -ℤ pos 1) (bounds_of r x).emin) (EndGe x (t -ℤ pos 1))
 
 abbrev pub seen_at : Region → Option ℤ → Option Guess → Seen
 seen_at r best g = record { region = looked_at g r; best = best }

@@ -9,8 +9,7 @@ use Rattle.sched_model.specs.declared.types.Slot.TheVariants as slot
 use Rattle.sched_model.specs.Valid.{is_small}
 use Rattle.region.specs.declared.types.Guess.{Guess}
 use Rattle.region.specs.declared.types.Guess.TheVariants.{Present, Absent, StartLe, StartGe, EndLe, EndGe}
-use Rattle.refute_basic.specs.declared.witness.BasicWitness.{BasicWitness}
-use Rattle.refute_basic.specs.declared.witness.BasicWitness.TheVariants.{Leaf}
+use Rattle.refute_basic.specs.Witness.{is_valid}
 use Rattle.kernel.specs.declared.types.Witness.{Witness}
 use Rattle.kernel.specs.declared.types.Witness.TheVariants.{Basic, Extra}
 use Rattle.kernel.specs.declared.types.Line.{Line}
@@ -31,12 +30,9 @@ is_fit_guess (StartGe x t) = is_id x && is_small t
 is_fit_guess (EndLe x t) = is_id x && is_small t
 is_fit_guess (EndGe x t) = is_id x && is_small t
 
-abbrev pub is_fit_basic : BasicWitness → Bool
-is_fit_basic (Leaf k u) = is_count k && is_count u
-
--- an extra witness is fit where it is valid
+-- a witness is fit where it is valid
 abbrev pub is_fit_witness : {W : Type 0} → (W → Bool) → Witness W → Bool
-is_fit_witness valid (Basic w) = is_fit_basic w
+is_fit_witness valid (Basic w) = is_valid w
 is_fit_witness valid (Extra w) = valid w
 
 abbrev pub is_fit_slot : Slot → Bool

@@ -48,7 +48,7 @@ HasValue m v = (a : Assignment) × IsSolution m a × (objective_of m a ≡ Some 
 
 pub record IsOptimal (m : Data) (v : ℤ) : Type 0 where
   pub reached : HasValue m v
-  pub greatest : (a : Assignment) → IsSolution m a → IsTrue (is_better m (Some v) a) → ⊥
+  pub unbeaten : (a : Assignment) → IsSolution m a → IsTrue (is_better m (Some v) a) → ⊥
 
 abbrev pub Means : Data → Verdict → Type 0
 Means m (Optimal v) = IsOptimal m v

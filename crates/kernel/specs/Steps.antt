@@ -1,5 +1,5 @@
 -- The steps of a log over a list of whole regions.
-use Rattle.std.specs.Prelude.{◌≡◌, ℕ, ◌+◌, ℤ, Bool, true, ◌&&◌, if◌then◌else◌, List, [], ◌∷◌, ◌++◌, Option, Some, None, option_and_then, option_to_list, is_some, Result, Ok, Err}
+use Rattle.std.specs.Prelude.{◌≡◌, ℕ, ◌+◌, ℤ, Bool, true, false, ◌&&◌, if◌then◌else◌, List, [], ◌∷◌, ◌++◌, Option, Some, None, option_and_then, option_to_list, is_some, Result, Ok, Err, IsOk}
 use Rattle.sched_model.specs.declared.types.Assignment.{Assignment}
 use Rattle.sched_model.specs.Words.{is_empty}
 use Rattle.sched_model.specs.Data.{Data}
@@ -105,11 +105,17 @@ pub data Steps {W : Type 0} (refutes : Refuting (Witness W)) (m : Data) : LogSta
   done : {s : LogState} → Steps refutes m s [] s
   more : {s t u : LogState} {line : Line W} {lines : List (Line W)} → step refutes m line s ≡ Ok t → Steps refutes m t lines u → Steps refutes m s (line ∷ lines) u
 
--- a call did what the step gives; a refusal changes nothing, and want of memory is free
+-- a call did what the step gives; a refusal changes nothing, and only a line that steps can want for memory
 abbrev pub Gives : Result (Unit {0}) StepFault → Outcome → LogState → LogState → Type 0
 Gives (Ok u) out old new = out ≡ Ok new
-Gives (Err NoMemory) out old new = new ≡ old
+Gives (Err NoMemory) out old new = IsOk out × (new ≡ old)
 Gives (Err fault) out old new = (out ≡ Err fault) × (new ≡ old)
+
+-- a line that closes its region takes no memory
+abbrev pub takes_memory : {W : Type 0} → Line W → Bool
+takes_memory (Derive g w) = true
+takes_memory (Split g) = true
+takes_memory _ = false
 
 abbrev pub open_regions : LogState → List Region
 open_regions s = option_to_list s.current ++ s.waiting

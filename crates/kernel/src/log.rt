@@ -1,4 +1,4 @@
-ghost use Rattle.std.specs.Prelude.{◌≡◌, ◌<◌, ◌^◌, IsTrue, IfOk, IsOk, OnOk, OnErr, Ok, true, None, IfSome, IsSome, option_copied, option_map};
+ghost use Rattle.std.specs.Prelude.{◌≡◌, ◌<◌, ◌^◌, IsTrue, IfOk, IsOk, OnOk, OnErr, Ok, Err, true, false, None, IfSome, IsSome, option_copied, option_map};
 ghost use Rattle.sched_model.specs.Data.{Data};
 ghost use Rattle.sched_model.specs.Domain.{is_in_domain};
 ghost use Rattle.sched_model.specs.Valid.{IsValid};
@@ -6,10 +6,11 @@ ghost use Rattle.sched_model.specs.Words.{passes};
 ghost use Rattle.region.specs.Guesses.{admits, splits};
 ghost use Rattle.region.specs.Looks.{IsRegionOf};
 ghost use Rattle.kernel.specs.Refuting.{refutes_with};
-ghost use Rattle.kernel.specs.Steps.{opening, step, Gives, best_of, best_verdict, verdict_of};
+ghost use Rattle.kernel.specs.Steps.{opening, step, takes_memory, Gives, best_of, best_verdict, verdict_of};
 ghost use Rattle.kernel.specs.Faults.{derive_fault, fault_at, fault_in, nodes_in, derived, failed, cut, solved, after};
 ghost use Rattle.kernel.specs.Promises.{Ready, Means};
 ghost use Rattle.kernel.specs.Agenda.{first_in};
+ghost use Rattle.kernel.specs.declared.types.StepFault.TheVariants.{NoMemory as Memory};
 
 use crate::agenda::Agenda;
 use crate::refuting::{is_tight, refutes};
@@ -140,12 +141,14 @@ impl<X: Refuter> Kernel<X> {
     /// refutes the region, under the guess of a `Derive`, which is open (`NotRefuted`); the guess is
     /// tight (`NotTight`); it splits the region (`NotSplitting`); the assignment is a solution that
     /// the settled region allows, and better than the one found before (`NotSolution`). A line that
-    /// is refused, for want of memory too, changes nothing, and its node isn't counted. A step costs
-    /// what it changes, beside the sentence of its witness and the test of its assignment.
+    /// is refused, for want of memory too, changes nothing, and its node isn't counted. Only a
+    /// `Derive` or a `Split` that steps can want for memory. A step costs what it changes, beside
+    /// the sentence of its witness and the test of its assignment.
     pub fn step(&mut self, model: &Model, line: Line<X::Witness>) -> Result<(), StepFault>
         requires nodes { self.old.nodes < 2 ^ 63 }
         requires ready { Ready model.now self.old }
         ensures step { Gives result (step (refutes_with X.refuting) model.now line self.old) self.old self.new }
+        ensures memory { takes_memory line ≡ false → result ≡ Err Memory → ⊥ }
         ensures ready { Ready model.now self.new }
     {
         self.apply(model, line)
@@ -294,6 +297,7 @@ impl<X: Refuter> Kernel<X> {
         requires passed { fault_in (refutes_with X.refuting) model.now (first_in self.old.current self.old.waiting) self.old.found line ≡ None }
         ensures ok { OnOk result (self.new ≡ after model.now self.old line) }
         ensures err { OnErr result (self.new ≡ self.old) }
+        ensures memory { takes_memory line ≡ false → IsOk result }
     {
         match line {
             Line::Derive(g, _) => self.derive(g),
@@ -316,6 +320,7 @@ impl<X: Refuter> Kernel<X> {
         requires steps { IsOk (step (refutes_with X.refuting) model.now line self.old) }
         ensures ok { OnOk result (step (refutes_with X.refuting) model.now line self.old ≡ Ok self.new) }
         ensures err { OnErr result (self.new ≡ self.old) }
+        ensures memory { takes_memory line ≡ false → IsOk result }
         ensures ready { Ready model.now self.new }
     {
         self.take(model, line)
@@ -324,7 +329,8 @@ impl<X: Refuter> Kernel<X> {
     fn apply(&mut self, model: &Model, line: Line<X::Witness>) -> Result<(), StepFault>
         requires nodes { self.old.nodes < 2 ^ 63 }
         requires ready { Ready model.now self.old }
-        ensures { Gives result (step (refutes_with X.refuting) model.now line self.old) self.old self.new }
+        ensures step { Gives result (step (refutes_with X.refuting) model.now line self.old) self.old self.new }
+        ensures memory { takes_memory line ≡ false → result ≡ Err Memory → ⊥ }
     {
         if let Some(fault) = self.fault(model, &line) {
             return Err(fault);
@@ -332,186 +338,6 @@ impl<X: Refuter> Kernel<X> {
         if self.take(model, line).is_err() {
             return Err(StepFault::NoMemory);
         }
-        Ok(())
-    }
-}
-
-#[cfg(test)]
-mod tests {
-    use super::*;
-    use crate::no_extra::{NoExtra, NoWitness};
-    use refute_basic::BasicWitness;
-    use sched_base::{Itv, List};
-    use sched_model::{Expr, IntervalDef, Objective, Sense, Slot};
-    use std::test::Fail;
-
-    const A: Itv = Itv(0);
-
-    /// One interval of size 1 that starts at 0 or 1 and ends at 1 or 2, as early as it can
-    /// where this is asked for.
-    fn one_interval(alloc: Global, early: bool) -> Result<Model, NoMemory> {
-        let mut model = Model::new(alloc);
-        let def = IntervalDef {
-            name: List::from_vec(Vec::from_slice(alloc, b"a")?),
-            optional: false,
-            start_lo: 0,
-            start_hi: 1,
-            end_lo: 1,
-            end_hi: 2,
-            size_lo: 1,
-            size_hi: 1,
-        };
-        model.add_interval(def)?;
-        if early {
-            model.set_objective(Objective {
-                sense: Sense::Minimize,
-                expr: Expr::EndOf(A, 0),
-            });
-        }
-        Ok(model)
-    }
-
-    fn placed(alloc: Global, s: i64, e: i64) -> Result<Line<NoWitness>, NoMemory> {
-        let mut slots = Vec::new(alloc);
-        slots.push(Slot::Present { s, e })?;
-        Ok(Line::Sol(Assignment {
-            slots: List::from_vec(slots),
-            orders: List::from_vec(Vec::new(alloc)),
-            segs: List::from_vec(Vec::new(alloc)),
-        }))
-    }
-
-    fn leaf(k: u32) -> Witness<NoWitness> {
-        Witness::Basic(BasicWitness::Leaf { k, u: 0 })
-    }
-
-    fn step(
-        kernel: &mut Kernel<NoExtra>,
-        model: &Model,
-        line: Line<NoWitness>,
-    ) -> Result<(), StepFault>
-        requires { Ready model.now kernel.old }
-        ensures { Ready model.now kernel.new }
-    {
-        if kernel.nodes() > 100 {
-            return Err(StepFault::NoMemory);
-        }
-        kernel.step(model, line)
-    }
-
-    #[test]
-    fn finds_a_solution(rt: HostRuntime) -> Result<(), Fail> {
-        let model = one_interval(rt.alloc(), false)?;
-        let mut kernel = Kernel::<NoExtra>::new(rt.alloc(), &model)?;
-        assert_eq!(rt; kernel.verdict(), Verdict::Unclosed { best: None });
-        assert_eq!(rt;
-            step(&mut kernel, &model, Line::Split(Guess::StartLe(A, 0))),
-            Ok(())
-        );
-        assert_eq!(rt;
-            step(&mut kernel, &model, Line::Split(Guess::Present(A))),
-            Err(StepFault::NotSplitting)
-        );
-        assert_eq!(rt; kernel.nodes(), 1);
-        assert_eq!(rt;
-            step(&mut kernel, &model, Line::Split(Guess::EndLe(A, 1))),
-            Ok(())
-        );
-        assert_eq!(rt;
-            step(&mut kernel, &model, placed(rt.alloc(), 0, 2)?),
-            Err(StepFault::NotSolution)
-        );
-        assert_eq!(rt;
-            step(&mut kernel, &model, placed(rt.alloc(), 0, 1)?),
-            Ok(())
-        );
-        assert_eq!(rt; kernel.nodes(), 3);
-        assert_eq!(rt; kernel.verdict(), Verdict::Feasible);
-        assert_eq!(rt;
-            step(&mut kernel, &model, Line::Fail(leaf(0))),
-            Err(StepFault::NothingLeft)
-        );
-        assert!(rt; kernel.first().is_none());
-        let found = kernel.into_found().ok_or("none")?;
-        assert_eq!(rt; found.value, None);
-        Ok(())
-    }
-
-    #[test]
-    fn derives_from_what_is_refuted(rt: HostRuntime) -> Result<(), Fail> {
-        let model = one_interval(rt.alloc(), false)?;
-        let mut kernel = Kernel::<NoExtra>::new(rt.alloc(), &model)?;
-        assert_eq!(rt;
-            step(&mut kernel, &model, Line::Split(Guess::EndLe(A, 1))),
-            Ok(())
-        );
-        assert_eq!(rt;
-            step(
-                &mut kernel,
-                &model,
-                Line::Derive(Guess::StartGe(A, 1), leaf(1))
-            ),
-            Err(StepFault::NotRefuted)
-        );
-        assert_eq!(rt;
-            step(&mut kernel, &model, Line::Fail(Witness::Extra(NoWitness))),
-            Err(StepFault::NotRefuted)
-        );
-        assert_eq!(rt; kernel.nodes(), 1);
-        assert_eq!(rt;
-            step(
-                &mut kernel,
-                &model,
-                Line::Derive(Guess::StartGe(A, 1), leaf(0))
-            ),
-            Ok(())
-        );
-        assert_eq!(rt; kernel.nodes(), 2);
-        assert_eq!(rt;
-            step(&mut kernel, &model, placed(rt.alloc(), 0, 1)?),
-            Ok(())
-        );
-        assert_eq!(rt; kernel.nodes(), 2);
-        Ok(())
-    }
-
-    #[test]
-    fn closes_all_but_the_best(rt: HostRuntime) -> Result<(), Fail> {
-        let model = one_interval(rt.alloc(), true)?;
-        let mut kernel = Kernel::<NoExtra>::new(rt.alloc(), &model)?;
-        assert_eq!(rt;
-            step(&mut kernel, &model, Line::Split(Guess::StartLe(A, 0))),
-            Ok(())
-        );
-        assert_eq!(rt;
-            step(
-                &mut kernel,
-                &model,
-                Line::Derive(Guess::EndGe(A, 2), leaf(0))
-            ),
-            Ok(())
-        );
-        assert_eq!(rt;
-            step(&mut kernel, &model, placed(rt.alloc(), 0, 1)?),
-            Ok(())
-        );
-        assert_eq!(rt; kernel.best(), Some(1));
-        assert_eq!(rt; kernel.verdict(), Verdict::Unclosed { best: Some(1) });
-        assert_eq!(rt;
-            step(
-                &mut kernel,
-                &model,
-                Line::Derive(Guess::EndLe(A, 1), leaf(0))
-            ),
-            Ok(())
-        );
-        assert_eq!(rt;
-            step(&mut kernel, &model, placed(rt.alloc(), 1, 2)?),
-            Err(StepFault::NotSolution)
-        );
-        assert_eq!(rt; step(&mut kernel, &model, Line::Fail(leaf(2))), Ok(()));
-        assert_eq!(rt; kernel.nodes(), 3);
-        assert_eq!(rt; kernel.verdict(), Verdict::Optimal(1));
         Ok(())
     }
 }

@@ -1,11 +1,10 @@
 ghost use Rattle.std.specs.Prelude.{◌≡◌, IsTrue, IfSome, ℤ, Option};
 ghost use Rattle.sched_model.specs.Words.{passes_if_any};
-ghost use Rattle.region.specs.Cells.{bounds_of};
 ghost use Rattle.region.specs.Guesses.{admits};
 ghost use Rattle.region.specs.Looks.{IsRegionOf};
-ghost use Rattle.region.specs.Tight.{is_tight};
+ghost use Rattle.region.specs.Tight.{is_tight, weaker};
 ghost use Rattle.kernel.specs.Refuting.{refutes_with};
-ghost use Rattle.kernel.specs.Faults.{seen_at, weaker};
+ghost use Rattle.kernel.specs.Faults.{seen_at};
 
 use crate::types::Witness;
 use refute_basic::Basic;

@@ -1,7 +1,7 @@
 ghost use Rattle.std.specs.Prelude.{◌≡◌, ◌<◌, ◌^◌, ◌&&◌, not, Some, length, true, IsTrue};
 ghost use Rattle.sched_model.specs.declared.types.Slot.TheVariants.{Present};
 ghost use Rattle.sched_model.specs.Domain.{is_in_domain};
-ghost use Rattle.sched_model.specs.Solution.{is_solution, is_better};
+ghost use Rattle.sched_model.specs.Solution.{is_solution, is_better, beats};
 ghost use Rattle.sched_model.specs.Valid.{IsValid};
 ghost use Rattle.sched_model.specs.Words.{is_between, placewise};
 ghost use Rattle.region.specs.Cells.{fits_bounds, says_absent, is_settled, allows};
@@ -11,7 +11,7 @@ ghost use Rattle.kernel.specs.Steps.{is_wanted};
 use crate::types::Found;
 use region::{Bounds, Look, Presence, Region};
 use sched_base::Itv;
-use sched_model::{Assignment, Model, Slot, is_solution, value};
+use sched_model::{Assignment, Model, Sense, Slot, is_solution, value};
 
 fn is_between(lo: i64, hi: i64, z: i64) -> bool
     ensures { result ≡ is_between lo hi z }
@@ -25,7 +25,7 @@ fn may_be_present(presence: Presence) -> bool
     presence != Presence::Absent
 }
 
-#[tactic(auto, using(crate::proofs::Tests::first_fails, crate::proofs::Tests::second_fails, crate::proofs::Tests::third_decides))]
+#[tactic(auto, using(crate::proofs::LineTests::first_fails, crate::proofs::LineTests::second_fails, crate::proofs::LineTests::third_decides))]
 fn fits_moments(c: Bounds, s: i64, e: i64) -> bool
     ensures { result ≡ fits_bounds c (Present s e) }
 {
@@ -64,14 +64,27 @@ fn all_fit(look: &Look<'_>, slots: &[Slot]) -> bool
     true
 }
 
+fn beats(sense: Sense, value: i64, best: i64) -> bool
+    ensures { result ≡ beats sense value best }
+{
+    match sense {
+        Sense::Minimize => value < best,
+        Sense::Maximize => best < value,
+    }
+}
+
+#[tactic(auto, using(crate::proofs::LineTests::no_value, crate::proofs::LineTests::beats_best))]
 fn is_better(model: &Model, best: i64, a: &Assignment) -> bool
     requires { is_in_domain model.now a.now ≡ true }
     ensures { result ≡ is_better model.now (Some best) a.now }
 {
-    match value(model, a) {
-        None => false,
-        Some(value) => value < best,
-    }
+    let Some(o) = model.objective() else {
+        return false;
+    };
+    let Some(value) = value(model, a) else {
+        return false;
+    };
+    beats(o.sense, value, best)
 }
 
 /// Whether the assignment is better than what was found, if anything was.

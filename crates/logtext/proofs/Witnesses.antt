@@ -7,7 +7,8 @@ use Rattle.std.proofs.lemmas.List.Concat.{flat_map_single}
 use Rattle.sched_model.specs.Valid.{is_small}
 use Rattle.refute_basic.specs.declared.witness.BasicWitness.TheVariants.{Leaf}
 use Rattle.kernel.specs.declared.types.Witness.TheVariants.{Basic, Extra}
-use Rattle.kernel.specs.Fit.{is_count, is_fit_basic, is_fit_witness}
+use Rattle.refute_basic.specs.Witness.{is_valid}
+use Rattle.kernel.specs.Fit.{is_count, is_fit_witness}
 use Rattle.logtext.proofs.Values.{same_length, length_same}
 use Rattle.textline.specs.Lines.{Bytes}
 use Rattle.textline.specs.laws.Lines.{both_true, true_both}
@@ -50,7 +51,7 @@ pub if_some : {A : Type 0} (Q : A → Type 0) (o : Option A) (w : A) → o ≡ S
 if_some Q None w e h = cc
 if_some Q (Some x) w e h = let same : x ≡ w = cc in subst Q same h
 
-pub no_leaf : {W : Type 0} (numbers : W → List ℤ) (valid : W → Bool) (old ws : List Bytes) → old ≡ codes "LEAF" ∷ ws → NoneStands leaf_words is_fit_basic ws → NoneStands (witness_words numbers) (is_fit_witness valid) old
+pub no_leaf : {W : Type 0} (numbers : W → List ℤ) (valid : W → Bool) (old ws : List Bytes) → old ≡ codes "LEAF" ∷ ws → NoneStands leaf_words is_valid ws → NoneStands (witness_words numbers) (is_fit_witness valid) old
 no_leaf numbers valid old ws is none (Basic (Leaf k u)) rest fit e = none (Leaf k u) rest fit (behind _ _ _ _ (sym is ∙ e))
 no_leaf numbers valid old ws is none (Extra w) rest fit e = absurd (omega (arith, ap tag (sym is ∙ e)))
 

@@ -1,5 +1,6 @@
 ghost use Rattle.sched_model.specs.Valid.{is_small};
-ghost use Rattle.kernel.specs.Fit.{is_fit_guess, is_fit_basic, is_fit_witness};
+ghost use Rattle.refute_basic.specs.Witness.{is_valid};
+ghost use Rattle.kernel.specs.Fit.{is_fit_guess, is_fit_witness};
 ghost use Rattle.logtext.specs.Spelling.{guess_words, witness_words};
 ghost use Rattle.logtext.specs.Reads.{Takes, Reads, are_so_many, leaf_words, number_words, extra_words};
 
@@ -60,7 +61,7 @@ pub fn take_guess(words: &mut Words<'_>) -> Option<Guess>
 
 /// Takes the two counts of a leaf.
 fn take_leaf(words: &mut Words<'_>) -> Option<BasicWitness>
-    ensures { Takes leaf_words is_fit_basic words.old words.new result }
+    ensures { Takes leaf_words is_valid words.old words.new result }
 {
     let Some(k) = take_count(words) else {
         return None;

@@ -12,7 +12,8 @@ use Rattle.kernel.specs.declared.types.Witness.{Witness}
 use Rattle.kernel.specs.declared.types.Witness.TheVariants.{Basic, Extra}
 use Rattle.kernel.specs.declared.types.Line.{Line}
 use Rattle.kernel.specs.declared.types.Line.TheVariants.{Derive, Fail, Split, Sol}
-use Rattle.kernel.specs.Fit.{is_count, is_fit, is_fit_guess, is_fit_basic, is_fit_witness}
+use Rattle.refute_basic.specs.Witness.{is_valid}
+use Rattle.kernel.specs.Fit.{is_count, is_fit, is_fit_guess, is_fit_witness}
 use Rattle.textline.specs.Lines.{Bytes, line}
 use Rattle.textline.specs.Words.{are_words}
 use Rattle.textline.specs.laws.Lines.{both_true, true_both, line_told}
@@ -37,7 +38,7 @@ all_small (z ∷ zs) h = true_both (is_small z) (list_all is_small zs) (h zero z
 pub few_is_count : (n : ℕ) → n < 2 ^ 32 → is_count n ≡ true
 few_is_count n h = grind (arith, nat_tests)
 
-pub basic_told : Tells basic_words is_fit_basic
+pub basic_told : Tells basic_words is_valid
 basic_told (Leaf k u) (Leaf l v) x y ha hb e =
     let h = both_true (is_count k) (is_count u) ha in
     let i = both_true (is_count l) (is_count v) hb in

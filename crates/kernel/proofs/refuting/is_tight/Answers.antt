@@ -1,7 +1,7 @@
 use Rattle.std.proofs.Common.{Some, rules}
 use Rattle.kernel.specs.Refuting.{refutes_with}
 use Rattle.kernel.specs.Faults.{seen_at}
-use Rattle.kernel.proofs.Tests.{tight_from}
+use Rattle.kernel.proofs.LineTests.{tight_from}
 use Rattle.kernel.proofs.refuting.is_tight.Goals as goal
 
 pub returns-in-Some : goal.returns-in-Some

@@ -1,7 +1,7 @@
 use Rattle.std.proofs.Common.{not, rules}
 use Rattle.sched_model.specs.Words.{is_between}
 use Rattle.region.specs.Cells.{says_absent}
-use Rattle.kernel.proofs.Tests.{third_decides}
+use Rattle.kernel.proofs.LineTests.{third_decides}
 use Rattle.kernel.proofs.solution.fits_moments.Goals as goal
 
 pub returns : goal.returns

@@ -1,5 +1,5 @@
 use Rattle.std.proofs.Common.{sym}
-use Rattle.kernel.proofs.Tests.{few_slots}
+use Rattle.kernel.proofs.LineTests.{few_slots}
 use Rattle.kernel.proofs.solution.is_wanted_solution.Goals as goal
 
 pub all_fit-requires : goal.all_fit-requires
