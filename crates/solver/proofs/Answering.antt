@@ -13,10 +13,10 @@ use Rattle.kernel.specs.declared.types.Found.{Found}
 use Rattle.kernel.specs.declared.types.Verdict.TheVariants.{Unclosed}
 use Rattle.kernel.specs.Promises.{IsFound, Means, IfFound}
 use Rattle.kernel.specs.Steps.{LogState, open_regions, best_of, closed_verdict, best_verdict, verdict_of}
-use Rattle.logtext.specs.Logs.{PlainLine, IsPlainLog, plain_log}
+use Rattle.logtext.specs.Logs.{PlainLine, plain_log}
 use Rattle.solver.specs.Answers.{IsAnswer, verdict_in, shown_in, is_unfinished, IfFound as IfValued}
 use Rattle.solver.specs.Solving.{Solves}
-use Rattle.solver.specs.Searching.{IsBetween, IsEnded, valued, best_answer, closed_answer, answer_from}
+use Rattle.solver.specs.Searching.{IsBetween, IsSearchLog, IsEnded, valued, best_answer, closed_answer, answer_from}
 
 -- what has no value has no objective
 no_objective : (o : Option Objective) (value : Objective → ℤ) → option_map value o ≡ None → o ≡ None
@@ -26,7 +26,7 @@ no_objective (Some o) value h = cc
 -- with a log that is closed
 best_is : (m : Data) (f : Found) (v : Option ℤ) → f.value ≡ v → IsFound m f → Means m (best_verdict v) → IsAnswer m (best_answer v f.assignment)
 best_is m f None is found means = record { solution = found.solution; plain = no_objective m.objective _ (sym found.value ∙ is) }
-best_is m f (Some v) is found means = record { is_one = record { solution = found.solution; value = sym found.value ∙ is }; none_better = means.greatest }
+best_is m f (Some v) is found means = record { is_one = record { solution = found.solution; value = sym found.value ∙ is }; none_better = means.unbeaten }
 
 closed_is : (m : Data) (found : Option Found) → IfFound m found → Means m (closed_verdict found) → IsAnswer m (closed_answer found)
 closed_is m None is means = means
@@ -116,12 +116,12 @@ shows m limit s solved between ended means same =
 
 -- the whole log was written
 pub solved_with : (m : Data) (limit : ℕ) (s : LogState) (solved : Solved) (old new : State) → IsBetween m s → IsEnded limit s → Means m (verdict_of s) → solved.nodes ≡ s.nodes → solved.answer ≡ answer_from (verdict_of s) s.found
-    → (lines : List PlainLine) × IsPlainLog m lines s × (new ≡ record old { logged = appended (plain_log lines) old.logged }) → Solves m limit solved old new
+    → (lines : List PlainLine) × IsSearchLog m lines s × (new ≡ record old { logged = appended (plain_log lines) old.logged }) → Solves m limit solved old new
 solved_with m limit s solved old new between ended means nodes same written =
     let says = shows m limit s solved between ended means same in
     record {
       lines = written.0;
       state = s;
-      is = record { log = written.1; nodes = nodes; few = ended.few; closed = between.closed; verdict = says.verdict; shown = says.shown; limited = says.limited; answer = says.answer };
+      is = record { log = written.1.log; cuts = written.1.cuts; nodes = nodes; few = ended.few; closed = between.closed; verdict = says.verdict; shown = says.shown; limited = says.limited; answer = says.answer };
       logged = written.2;
     }

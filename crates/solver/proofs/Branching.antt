@@ -18,7 +18,8 @@ use Rattle.region.specs.Cells.{Region, unknown, bounds_of, is_fixed, says_presen
 use Rattle.region.specs.Guesses.{subject, is_open_at, is_ready_at, splits}
 use Rattle.region.specs.Looks.{IsRegionOf, is_narrowed}
 use Rattle.region.specs.laws.Lists.{both_true, true_both}
-use Rattle.solver.specs.Searching.{IsMiddle, IsCut, Cuts, is_ordered}
+use Rattle.solver.specs.Cuts.{IsMiddle, IsCut}
+use Rattle.solver.specs.Searching.{Cuts, is_ordered}
 
 -- half, rounded down
 half_below : (z : ℤ) → (int_div_euclid z (pos 2) +ℤ int_div_euclid z (pos 2)) ≤ℤ z

@@ -1,5 +1,5 @@
 -- The lines of the search are lines that a log may hold.
-use Rattle.std.proofs.Common.{◌≡◌, ℕ, zero, suc, ◌+◌, ◌*◌, ◌<◌, ◌≤◌, ◌^◌, ℤ, pos, negsuc, Bool, true, false, ◌&&◌, List, [], ◌∷◌, ◌++◌, length, refl, sym, ap, subst, arith, length-append, append-nil, get_or}
+use Rattle.std.proofs.Common.{◌≡◌, ℕ, zero, suc, ◌+◌, ◌*◌, ◌<◌, ◌≤◌, ◌^◌, ℤ, pos, negsuc, Bool, true, false, ◌&&◌, List, [], ◌∷◌, ◌++◌, length, refl, sym, ap, subst, arith, length-append, get_or}
 use Rattle.std.specs.Prelude.{flat_map, nat_le, nat_lt, int_le, int_lt}
 use Rattle.std.specs.Fmt.{decimal, signed_decimal}
 use Rattle.std.specs.Int.Signed.{mag}
@@ -29,13 +29,14 @@ use Rattle.refute_basic.specs.declared.witness.BasicWitness.{BasicWitness}
 use Rattle.refute_basic.specs.declared.witness.BasicWitness.TheVariants.{Leaf}
 use Rattle.refute_basic.specs.Basic.{refutes, row_of}
 use Rattle.refute_basic.specs.Witness.{is_valid as is_valid_basic, is_number}
-use Rattle.refute_basic.specs.Leaf.{settled_assignment}
+use Rattle.refute_basic.specs.Leaf.{empty_for_each, settled_assignment}
+use Rattle.refute_basic.specs.laws.NoLeaf.{few_of}
 use Rattle.kernel.specs.declared.types.Line.TheVariants.{Fail, Split, Sol}
 use Rattle.kernel.specs.declared.types.Witness.TheVariants.{Basic}
 use Rattle.kernel.specs.NoExtra.{numbers_of, is_valid}
-use Rattle.kernel.specs.Fit.{is_count, is_id, is_fit, is_fit_guess, is_fit_slot}
+use Rattle.kernel.specs.Fit.{is_count, is_id, is_fit, is_fit_guess, is_fit_slot, is_fit_order, are_fit_segments}
 use Rattle.textline.specs.Lines.{Bytes, line}
-use Rattle.logtext.specs.Spelling.{line_words, guess_words, slot_words, assignment_words}
+use Rattle.logtext.specs.Spelling.{line_words, guess_words, slot_words, order_words, segments_words}
 use Rattle.logtext.specs.Logs.{PlainLine, IsLine}
 
 -- words of at most 20 bytes
@@ -126,8 +127,8 @@ fit_open (StartGe x t) c named h w = true_both (is_id x) (is_small t) named (aft
 fit_open (EndLe x t) c named h w = true_both (is_id x) (is_small t) named (between_small c.emin c.emax t _ w.emin w.emax h)
 fit_open (EndGe x t) c named h w = true_both (is_id x) (is_small t) named (after_small c.emin c.emax t _ w.emin w.emax h)
 
-pub few_intervals : (m : Data) → IsValid m → length m.intervals ≤ 2000
-few_intervals m valid = leb-true _ _ (both_true (nat_le (length m.intervals) 2000) (nat_le (length m.constraints) 20000) valid.limits).0
+few_intervals : (m : Data) → IsValid m → length m.intervals ≤ 2000
+few_intervals m valid = (few_of m valid).0
 
 id_of : (n k : ℕ) → n < k → k ≤ 2000 → is_count n ≡ true
 id_of n k h few = grind (arith, nat_tests)
@@ -191,14 +192,48 @@ slots_short (s ∷ ss) h =
       omega (arith, ap (λ (ws : List Bytes). length ws) (flat_map-cons slot_words s ss), length-append (slot_words s) (flat_map slot_words ss), first.1, rest.1),
     )
 
-pub sol_line : (m : Data) (r : Region) → IsValid m → is_solution m (settled_assignment r) ≡ true → IsLine numbers_of is_valid (Sol (settled_assignment r))
+-- empty lists are fit, and spelled by a letter and 0 each
+few_lists : (m : Data) → IsValid m → (length m.sequences ≤ 200) × (length m.states ≤ 200)
+few_lists m valid =
+    let h7 = (both_true _ _ valid.limits).0 in
+    let h6 = (both_true _ (nat_le (length m.constraints) 20000) (both_true _ _ h7).0).0 in
+    let h5 = both_true _ (nat_le (length m.states) 200) h6 in
+    let h3 = (both_true _ _ (both_true _ _ h5.0).0).0 in
+    (leb-true _ _ (both_true (nat_le (length m.intervals) 2000) (nat_le (length m.sequences) 200) h3).1, leb-true _ _ h5.1)
+
+empty_fit : {X Y : Type 0} (fit : List Y → Bool) → fit [] ≡ true → (xs : List X) → list_all fit (empty_for_each xs) ≡ true
+empty_fit fit h [] = refl
+empty_fit fit h (x ∷ xs) = true_both (fit []) _ h (empty_fit fit h xs)
+
+empty_short : {X Y : Type 0} (spell : List Y → List Bytes) → AreShort (spell []) → length (spell []) ≤ 2 → (xs : List X)
+    → AreShort (flat_map spell (empty_for_each xs)) × (length (flat_map spell (empty_for_each xs)) ≤ 2 * length xs)
+empty_short spell short few [] = (tt, omega arith)
+empty_short spell short few (x ∷ xs) =
+    let rest = empty_short spell short few xs in (
+      subst AreShort (sym (flat_map-cons spell [] (empty_for_each xs))) (short_append (spell []) (flat_map spell (empty_for_each xs)) short rest.0),
+      omega (arith, ap (λ (ws : List Bytes). length ws) (flat_map-cons spell [] (empty_for_each xs)), length-append (spell []) (flat_map spell (empty_for_each xs)), few, rest.1),
+    )
+
+pub sol_line : (m : Data) (r : Region) → IsValid m → is_solution m (settled_assignment m r) ≡ true → IsLine numbers_of is_valid (Sol (settled_assignment m r))
 sol_line m r valid h =
-    let domain = (both_true (is_in_domain m (settled_assignment r)) (list_all (holds m (settled_assignment r)) m.constraints) h).0 in
-    let each = (both_true (placewise fits_def m.intervals (settled_slots r)) true (both_true _ true domain).0).0 in
+    let domain = (both_true (is_in_domain m (settled_assignment m r)) (list_all (holds m (settled_assignment m r)) m.constraints) h).0 in
+    let each : placewise fits_def m.intervals (settled_slots r) ≡ true = (both_true _ _ (both_true _ _ domain).0).0 in
     let fit = fit_slots m.intervals (settled_slots r) valid.intervals each in
     let words = slots_short (settled_slots r) fit in
-    let few = few_intervals m valid in
-    let same : assignment_words (settled_assignment r) ≡ flat_map slot_words (settled_slots r) = append-nil (flat_map slot_words (settled_slots r)) in
-    line_is (Sol (settled_assignment r)) (true_both _ true (true_both _ true fit refl) refl)
-    (omega arith, subst AreShort (sym same) words.0)
-    (omega (arith, ap (λ (ws : List Bytes). length ws) same, words.1, few, placewise-length fits_def m.intervals (settled_slots r) each))
+    let orders = empty_short order_words (omega arith, (count_short 0 refl, tt)) (omega arith) m.sequences in
+    let segments = empty_short segments_words (omega arith, (count_short 0 refl, tt)) (omega arith) m.states in
+    let few = few_lists m valid in
+    line_is (Sol (settled_assignment m r)) (true_both _ _ (true_both _ _ fit (empty_fit is_fit_order refl m.sequences)) (empty_fit are_fit_segments refl m.states))
+    (omega arith, short_append (flat_map slot_words (settled_slots r)) _ words.0 (short_append (flat_map order_words (empty_for_each m.sequences)) _ orders.0 segments.0))
+    (omega (
+      arith,
+      length-append (flat_map slot_words (settled_slots r)) (flat_map order_words (empty_for_each m.sequences) ++ flat_map segments_words (empty_for_each m.states)),
+      length-append (flat_map order_words (empty_for_each m.sequences)) (flat_map segments_words (empty_for_each m.states)),
+      words.1,
+      orders.1,
+      segments.1,
+      few_intervals m valid,
+      few.0,
+      few.1,
+      placewise-length fits_def m.intervals (settled_slots r) each,
+    ))

@@ -9,8 +9,8 @@ use Rattle.sched_model.specs.Solution.{is_solution, is_better, objective_of}
 use Rattle.sched_model.specs.Valid.{IsValid}
 use Rattle.sched_model.specs.Value.{value_of}
 use Rattle.region.specs.declared.types.Guess.{Guess}
-use Rattle.region.specs.Cells.{Region, is_settled, allows}
-use Rattle.region.specs.Guesses.{splits}
+use Rattle.region.specs.Cells.{Region, is_settled, allows, bounds_of}
+use Rattle.region.specs.Guesses.{splits, subject}
 use Rattle.region.specs.Looks.{Seen, IsRegionOf}
 use Rattle.region.specs.laws.Lists.{true_both}
 use Rattle.refute_basic.specs.Basic.{refutes}
@@ -24,7 +24,8 @@ use Rattle.kernel.specs.Promises.{Ready, IfFound, IsFound}
 use Rattle.kernel.specs.Steps.{LogState, unless, best_of, is_wanted, found_in}
 use Rattle.kernel.specs.NoExtra.{numbers_of, is_valid}
 use Rattle.logtext.specs.Logs.{PlainLine, IsLine}
-use Rattle.solver.specs.Searching.{IsBetween, IsNext, IsLeafLine, closes, plain_step}
+use Rattle.solver.specs.Cuts.{IsCut, IsWellCut, plain_step}
+use Rattle.solver.specs.Searching.{IsBetween, IsNext, IsLeafLine, closes}
 use Rattle.solver.proofs.Fitting.{split_line, fail_line, sol_line}
 
 unless_true : (b : Bool) (f : StepFault) (t : LogState) → b ≡ true → IsOk (unless b f (Ok t))
@@ -93,6 +94,12 @@ leaf_ends m l (Derive g w) h = absurd h
 leaf_ends m l (Split g) h = refl
 leaf_ends m l (Sol a) h = refl
 
+leaf_cuts : (m : Data) (l : Seen) (line : PlainLine) (o : Option Region) → IsLeafLine m l line → IsWellCut line o
+leaf_cuts m l (Fail w) o h = tt
+leaf_cuts m l (Derive g w) o h = tt
+leaf_cuts m l (Split g) o h = absurd h
+leaf_cuts m l (Sol a) o h = tt
+
 pub leaf_next : (m : Data) (s : LogState) (l : Seen) (line : PlainLine) → IsBetween m s → first_in s.current s.waiting ≡ Some l.region → l.best ≡ best_of s.found → is_settled l.region ≡ true
     → IsLeafLine m l line → IsNext m s line
 leaf_next m s l line between first best settled h =
@@ -102,15 +109,17 @@ leaf_next m s l line between first best settled h =
           (leaf_steps m l l.region rest.0 s.nodes s.found line refl best settled between.ready.loses_nothing.found_is (never_last m s l.region rest.0 between rest.1) h);
       is = leaf_fits m l line between.ready.valid h;
       ends = leaf_ends m l line h;
+      cuts = leaf_cuts m l line (first_in s.current s.waiting) h;
     }
 
-pub split_next : (m : Data) (s : LogState) (r : Region) (g : Guess) → IsBetween m s → first_in s.current s.waiting ≡ Some r → IsRegionOf m r → splits r g ≡ true → IsNext m s (Split g)
-split_next m s r g between first of h =
+pub split_next : (m : Data) (s : LogState) (r : Region) (g : Guess) → IsBetween m s → first_in s.current s.waiting ≡ Some r → IsRegionOf m r → splits r g ≡ true → IsCut (bounds_of r (subject g)) g → IsNext m s (Split g)
+split_next m s r g between first of h cut =
     let rest = first_waits s.current s.waiting r between.closed first in
     record {
       steps = subst (λ (t : LogState). IsOk (plain_step m (Split g) t)) (sym (state_is s r rest.0 between.closed rest.1)) (unless_true (splits r g) NotSplitting _ h);
       is = split_line m r g between.ready.valid of h;
       ends = refl;
+      cuts = subst (IsWellCut (Split g)) (sym first) cut;
     }
 
 -- where there is no first region none waits

@@ -16,12 +16,14 @@ use Rattle.kernel.specs.Refuting.{refutes_with}
 use Rattle.kernel.specs.Steps.{LogState, Outcome, Steps, done, more, opening}
 use Rattle.textline.specs.Lines.{Bytes}
 use Rattle.logtext.specs.Spelling.{head_text, end_text}
-use Rattle.logtext.specs.Logs.{PlainLine, IsLine, IsPlainLog, plain_text, plain_lines, plain_log}
+use Rattle.kernel.specs.Agenda.{first_in}
+use Rattle.logtext.specs.Logs.{PlainLine, IsLine, plain_text, plain_lines, plain_log}
 use Rattle.logtext.specs.Writing.{Gathers}
 use Rattle.solver.specs.declared.search.SolveFault.{SolveFault}
 use Rattle.solver.specs.declared.search.SolveFault.TheVariants.{Fault}
 use Rattle.solver.specs.Solving.{BeginsLog, CausesStop, Gives}
-use Rattle.solver.specs.Searching.{IsWritten, GoesOn, front_text, plain_step}
+use Rattle.solver.specs.Cuts.{IsWellCut, CutFrom, plain_step}
+use Rattle.solver.specs.Searching.{IsSearchLog, IsWritten, GoesOn, front_text}
 
 -- bytes that went and bytes that are held, with more behind them
 pub take_more : (xs ts : Bytes) (n k : ℕ) → n ≤ length xs → take n xs ++ take k (drop n xs ++ ts) ≡ take (n + k) (xs ++ ts)
@@ -53,11 +55,22 @@ steps_push : (m : Data) {s t u : LogState} {lines : List PlainLine} (l : PlainLi
 steps_push m l done is = more is done
 steps_push m l (more first rest) is = more first (steps_push m l rest is)
 
-log_push : (m : Data) (lines : List PlainLine) (l : PlainLine) (s t : LogState) → IsPlainLog m lines s → IsLine numbers_of is_valid l → plain_step m l s ≡ Ok t → IsPlainLog m (lines ++ l ∷ []) t
-log_push m lines l s t log fit is = record { each = All-push (IsLine numbers_of is_valid) lines l log.each fit; steps = steps_push m l log.steps is }
+same_ok : (s t : LogState) → ◌≡◌ {A = Outcome} (Ok s) (Ok t) → s ≡ t
+same_ok s t h = cc
 
-pub no_lines : (m : Data) → IsPlainLog m [] (opening m)
-no_lines m = record { each = All-nil (IsLine numbers_of is_valid); steps = done }
+cuts_push : (m : Data) {s t : LogState} {lines : List PlainLine} (l : PlainLine) → Steps (refutes_with refutes_none) m s lines t → CutFrom m s lines → IsWellCut l (first_in t.current t.waiting) → CutFrom m s (lines ++ l ∷ [])
+cuts_push m l done cut here = (here, λ u is. tt)
+cuts_push m l (more {s} {t} {u} {line} {lines} first rest) cut here =
+    (cut.0, λ v is. subst (λ (w : LogState). CutFrom m w (lines ++ l ∷ [])) (same_ok t v (sym first ∙ is)) (cuts_push m l rest (cut.1 t first) here))
+
+log_push : (m : Data) (lines : List PlainLine) (l : PlainLine) (s t : LogState) → IsSearchLog m lines s → IsLine numbers_of is_valid l → IsWellCut l (first_in s.current s.waiting) → plain_step m l s ≡ Ok t → IsSearchLog m (lines ++ l ∷ []) t
+log_push m lines l s t log fit cut is = record {
+  log = record { each = All-push (IsLine numbers_of is_valid) lines l log.log.each fit; steps = steps_push m l log.log.steps is };
+  cuts = cuts_push m l log.log.steps log.cuts cut;
+}
+
+pub no_lines : (m : Data) → IsSearchLog m [] (opening m)
+no_lines m = record { log = record { each = All-nil (IsLine numbers_of is_valid); steps = done }; cuts = tt }
 
 -- the desk after a call, as after another
 same_but : (start old new : State) (x : Option Bytes) → old ≡ record start { logged = x } → new ≡ record old { logged = new.logged; faults = new.faults } → new ≡ record start { logged = new.logged; faults = new.faults }
@@ -135,12 +148,13 @@ failed whole front text held kept n start old new f same within is held_is gathe
     }
 
 -- a front part of the front is one of the whole log
-begins : (m : Data) (lines : List PlainLine) (s : LogState) (start new : State) (n : ℕ) → IsPlainLog m lines s → n ≤ length (front_text lines) → new.logged ≡ appended (take n (front_text lines)) start.logged
+begins : (m : Data) (lines : List PlainLine) (s : LogState) (start new : State) (n : ℕ) → IsSearchLog m lines s → n ≤ length (front_text lines) → new.logged ≡ appended (take n (front_text lines)) start.logged
     → new ≡ record start { logged = new.logged; faults = new.faults } → start.faults ≤ new.faults → BeginsLog m start new
 begins m lines s start new n log within logged only later = record {
   lines = lines;
   state = s;
-  log = log;
+  log = log.log;
+  cuts = log.cuts;
   part = (
     n,
     omega (arith, within, ap (λ (b : Bytes). length b) (log_is lines), length-append (front_text lines) end_text),
@@ -159,30 +173,30 @@ written_begins m s held start now w =
     begins m w.lines s start now w.count w.log w.within (ap (λ (s : State). s.logged) w.logged) (logged_is start now _ w.logged) (omega (arith, same_faults start now _ w.logged))
 
 -- a line is written
-pub line_written : (m : Data) (s t : LogState) (l : PlainLine) (held kept : Bytes) (start old new : State) → IsLine numbers_of is_valid l → plain_step m l s ≡ Ok t
+pub line_written : (m : Data) (s t : LogState) (l : PlainLine) (held kept : Bytes) (start old new : State) → IsLine numbers_of is_valid l → IsWellCut l (first_in s.current s.waiting) → plain_step m l s ≡ Ok t
     → Gathers (plain_text l) (Ok tt) held kept old new → IsWritten m s held start old → IsWritten m t kept start new
-line_written m s t l held kept start old new fit is gathers w =
+line_written m s t l held kept start old new fit cut_at is gathers w =
     let after = gathered (front_text (w.lines ++ l ∷ [])) (front_text w.lines) (plain_text l) held kept w.count start old new (front_more w.lines l) w.within w.logged w.holds gathers in
-    record { lines = w.lines ++ l ∷ []; log = log_push m w.lines l s t w.log fit is; count = after.count; within = after.within; logged = after.logged; holds = after.holds }
+    record { lines = w.lines ++ l ∷ []; log = log_push m w.lines l s t w.log fit cut_at is; count = after.count; within = after.within; logged = after.logged; holds = after.holds }
 
 -- a line that steps has a state behind it
 stepped_to : (o : Outcome) → IsOk o → (t : LogState) × (o ≡ Ok t)
 stepped_to (Ok t) h = (t, refl)
 stepped_to (Err f) h = cc
 
-pub line_failed : (m : Data) (s : LogState) (l : PlainLine) (held kept : Bytes) (start old new : State) (f : Failed) → IsLine numbers_of is_valid l → IsOk (plain_step m l s)
+pub line_failed : (m : Data) (s : LogState) (l : PlainLine) (held kept : Bytes) (start old new : State) (f : Failed) → IsLine numbers_of is_valid l → IsWellCut l (first_in s.current s.waiting) → IsOk (plain_step m l s)
     → Gathers (plain_text l) (Err f) held kept old new → IsWritten m s held start old → BeginsLog m start new × CausesStop Fault start new
-line_failed m s l held kept start old new f fit steps gathers w =
+line_failed m s l held kept start old new f fit cut_at steps gathers w =
     let to = stepped_to (plain_step m l s) steps in
     let cut = failed (front_text (w.lines ++ l ∷ [])) (front_text w.lines) (plain_text l) held kept w.count start old new f (front_more w.lines l) w.within w.logged w.holds gathers in
-    (begins m (w.lines ++ l ∷ []) to.0 start new cut.count (log_push m w.lines l s to.0 w.log fit to.1) cut.within cut.logged cut.only cut.later, (cut.rose, cut.calm))
+    (begins m (w.lines ++ l ∷ []) to.0 start new cut.count (log_push m w.lines l s to.0 w.log fit cut_at to.1) cut.within cut.logged cut.only cut.later, (cut.rose, cut.calm))
 
 -- where memory is refused behind a written line, the log is begun with it
-pub line_kept : (m : Data) (s : LogState) (l : PlainLine) (held kept : Bytes) (start old new : State) → IsLine numbers_of is_valid l → IsOk (plain_step m l s)
+pub line_kept : (m : Data) (s : LogState) (l : PlainLine) (held kept : Bytes) (start old new : State) → IsLine numbers_of is_valid l → IsWellCut l (first_in s.current s.waiting) → IsOk (plain_step m l s)
     → Gathers (plain_text l) (Ok tt) held kept old new → IsWritten m s held start old → BeginsLog m start new
-line_kept m s l held kept start old new fit steps gathers w =
+line_kept m s l held kept start old new fit cut_at steps gathers w =
     let to = stepped_to (plain_step m l s) steps in
-    written_begins m to.0 kept start new (line_written m s to.0 l held kept start old new fit to.1 gathers w)
+    written_begins m to.0 kept start new (line_written m s to.0 l held kept start old new fit cut_at to.1 gathers w)
 
 -- the head is written
 head_is : [] ++ head_text ≡ front_text []
@@ -214,7 +228,7 @@ all_taken : (xs : Bytes) (n : ℕ) → n ≤ length xs → [] ≡ drop n xs → 
 all_taken xs n within none = sym (append-nil (take n xs)) ∙ ap (λ ys. take n xs ++ ys) none ∙ take-append-drop n xs
 
 pub end_written : (m : Data) (s : LogState) (held kept : Bytes) (start old new : State) → kept ≡ [] → Gathers end_text (Ok tt) held kept old new → IsWritten m s held start old
-    → (lines : List PlainLine) × IsPlainLog m lines s × (new ≡ record start { logged = appended (plain_log lines) start.logged })
+    → (lines : List PlainLine) × IsSearchLog m lines s × (new ≡ record start { logged = appended (plain_log lines) start.logged })
 end_written m s held kept start old new none gathers w =
     let after = gathered (plain_log w.lines) (front_text w.lines) end_text held kept w.count start old new (log_is w.lines) w.within w.logged w.holds gathers in
     (w.lines, w.log, after.logged ∙ ap (λ b. let t : State = record start { logged = appended b start.logged } in t) (all_taken (plain_log w.lines) after.count after.within (sym none ∙ after.holds)))
@@ -224,7 +238,7 @@ pub end_failed : (m : Data) (s : LogState) (held kept : Bytes) (start old new : 
     → BeginsLog m start new × CausesStop Fault start new
 end_failed m s held kept start old new f gathers w =
     let cut = failed (plain_log w.lines) (front_text w.lines) end_text held kept w.count start old new f (log_is w.lines) w.within w.logged w.holds gathers in
-    (record { lines = w.lines; state = s; log = w.log; part = (cut.count, cut.within, cut.logged); only = cut.only; later = cut.later }, (cut.rose, cut.calm))
+    (record { lines = w.lines; state = s; log = w.log.log; cuts = w.log.cuts; part = (cut.count, cut.within, cut.logged); only = cut.only; later = cut.later }, (cut.rose, cut.calm))
 
 -- a fault that is handed on
 pub stops : {T : Type 0} (m : Data) (r : Result T SolveFault) (why : SolveFault) (s : LogState) (held : Bytes) (start now : State) → IsErrAnd r (λ f. f ≡ why) → BeginsLog m start now × CausesStop why start now → GoesOn m r s held start now

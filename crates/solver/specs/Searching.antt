@@ -1,5 +1,5 @@
 -- The search under way: from node to node, each closed by one line, and what was written so far.
-use Rattle.std.specs.Prelude.{◌≡◌, ℕ, ◌+◌, ◌≤◌, ℤ, ◌+ℤ◌, ◌≤ℤ◌, ◌<ℤ◌, pos, Bool, true, false, ◌&&◌, List, [], ◌++◌, length, take, drop, int_le, Option, Some, None, option_map, Result, Ok, Err, IsOk, IsTrue}
+use Rattle.std.specs.Prelude.{◌≡◌, ℕ, ◌+◌, ◌≤◌, ℤ, Bool, true, false, ◌&&◌, List, [], ◌++◌, length, take, drop, int_le, Option, Some, None, option_map, Result, Ok, Err, IsOk, IsTrue}
 use Rattle.sched_base.specs.declared.ids.Itv.{Itv}
 use Rattle.sched_base.specs.State.{State}
 use Rattle.sched_base.specs.Calls.{appended}
@@ -9,7 +9,6 @@ use Rattle.sched_model.specs.declared.types.Answer.TheVariants.{Optimal, Feasibl
 use Rattle.sched_model.specs.Data.{Data}
 use Rattle.region.specs.declared.types.Bounds.{Bounds}
 use Rattle.region.specs.declared.types.Guess.{Guess}
-use Rattle.region.specs.declared.types.Guess.TheVariants as guess
 use Rattle.region.specs.Guesses.{subject, is_open_at, is_ready_at}
 use Rattle.region.specs.Looks.{Seen}
 use Rattle.refute_basic.specs.Basic.{refutes}
@@ -19,29 +18,18 @@ use Rattle.kernel.specs.declared.types.Line.TheVariants.{Derive, Fail, Split, So
 use Rattle.kernel.specs.declared.types.Verdict.{Verdict}
 use Rattle.kernel.specs.declared.types.Verdict.TheVariants as verdict
 use Rattle.kernel.specs.declared.types.Witness.TheVariants.{Basic, Extra}
-use Rattle.kernel.specs.NoExtra.{numbers_of, is_valid, refutes_none}
-use Rattle.kernel.specs.Refuting.{refutes_with}
-use Rattle.kernel.specs.Steps.{LogState, Outcome, step}
+use Rattle.kernel.specs.NoExtra.{numbers_of, is_valid}
+use Rattle.kernel.specs.Agenda.{first_in}
+use Rattle.kernel.specs.Steps.{LogState, opening}
 use Rattle.kernel.specs.Promises.{Ready}
 use Rattle.textline.specs.Lines.{Bytes}
 use Rattle.logtext.specs.Spelling.{head_text}
 use Rattle.logtext.specs.Logs.{PlainLine, IsLine, IsPlainLog, plain_lines}
 use Rattle.solver.specs.declared.search.SolveFault.{SolveFault}
+use Rattle.solver.specs.Cuts.{IsCut, IsWellCut, CutFrom, plain_step}
 use Rattle.solver.specs.Solving.{BeginsLog, CausesStop}
 
 -- Where a region is cut.
-
--- t is half of lo + hi, rounded down
-pub record IsMiddle (lo hi t : ℤ) : Type 0 where
-  pub below : (t +ℤ t) ≤ℤ (lo +ℤ hi)
-  pub above : (lo +ℤ hi) <ℤ (t +ℤ t +ℤ pos 2)
-
--- a presence, or a bound at the middle, the earlier half first
-abbrev pub IsCut : Bounds → Guess → Type 0
-IsCut c (guess.Present x) = Unit {0}
-IsCut c (guess.StartLe x t) = IsMiddle c.smin c.smax t
-IsCut c (guess.EndLe x t) = IsMiddle c.emin c.emax t
-IsCut c _ = ⊥
 
 -- no range is empty
 abbrev pub is_ordered : Bounds → Bool
@@ -56,9 +44,6 @@ pub record Cuts (x : Itv) (c : Bounds) (g : Guess) : Type 0 where
 
 -- Lines.
 
-abbrev pub plain_step : Data → PlainLine → LogState → Outcome
-plain_step m line s = step (refutes_with refutes_none) m line s
-
 -- the line ends a node
 abbrev pub closes : PlainLine → Bool
 closes (Derive g w) = false
@@ -70,7 +55,7 @@ closes (Sol a) = true
 abbrev pub IsLeafLine : Data → Seen → PlainLine → Type 0
 IsLeafLine m l (Fail (Basic w)) = IsTrue (refutes m l w)
 IsLeafLine m l (Fail (Extra w)) = ⊥
-IsLeafLine m l (Sol a) = (a ≡ settled_assignment l.region) × Solves m l
+IsLeafLine m l (Sol a) = (a ≡ settled_assignment m l.region) × Solves m l
 IsLeafLine m l (Derive g w) = ⊥
 IsLeafLine m l (Split g) = ⊥
 
@@ -80,11 +65,12 @@ pub record IsBetween (m : Data) (s : LogState) : Type 0 where
   pub closed : s.current ≡ None
   pub last : (f : Found) → s.found ≡ Some f → f.value ≡ None → s.waiting ≡ []
 
--- a line that a log may hold, that steps here and ends a node
+-- a line that a log may hold, that steps here, cuts at the middle and ends a node
 pub record IsNext (m : Data) (s : LogState) (line : PlainLine) : Type 0 where
   pub steps : IsOk (plain_step m line s)
   pub is : IsLine numbers_of is_valid line
   pub ends : IsTrue (closes line)
+  pub cuts : IsWellCut line (first_in s.current s.waiting)
 
 -- one more node was opened; or none, since no region waits
 abbrev pub Opens : Bool → LogState → LogState → Type 0
@@ -102,10 +88,15 @@ pub record IsEnded (limit : ℕ) (s : LogState) : Type 0 where
 abbrev pub front_text : List PlainLine → Bytes
 front_text lines = head_text ++ plain_lines lines
 
+-- a log whose splits cut at the middle
+pub record IsSearchLog (m : Data) (lines : List PlainLine) (s : LogState) : Type 0 where
+  pub log : IsPlainLog m lines s
+  pub cuts : CutFrom m (opening m) lines
+
 -- the lines lead to this state; of their text the first bytes were appended, and the others are still held
 pub record IsWritten (m : Data) (s : LogState) (held : Bytes) (start now : State) : Type 0 where
   pub lines : List PlainLine
-  pub log : IsPlainLog m lines s
+  pub log : IsSearchLog m lines s
   pub count : ℕ
   pub within : count ≤ length (front_text lines)
   pub logged : now ≡ record start { logged = appended (take count (front_text lines)) start.logged }

@@ -4,17 +4,19 @@ use Rattle.sched_base.specs.State.{State}
 use Rattle.sched_base.specs.Calls.{Rose, appended}
 use Rattle.sched_model.specs.declared.types.Solved.{Solved}
 use Rattle.sched_model.specs.Data.{Data}
-use Rattle.kernel.specs.Steps.{LogState, verdict_of}
+use Rattle.kernel.specs.Steps.{LogState, opening, verdict_of}
 use Rattle.logtext.specs.Logs.{PlainLine, IsPlainLog, plain_log}
 use Rattle.logtext.specs.Writing.{AppendedFrom}
 use Rattle.solver.specs.declared.search.SolveFault.{SolveFault}
 use Rattle.solver.specs.declared.search.SolveFault.TheVariants.{Fault, NoMemory}
+use Rattle.solver.specs.Cuts.{CutFrom}
 use Rattle.solver.specs.Answers.{IsAnswer, verdict_in, shown_in, is_unfinished}
 
--- the lines are a log of the model that ends with this answer; it is unfinished only once the limit of nodes was opened,
--- each of them closed, and a region waits
+-- the lines are a log of the model that ends with this answer, and each of its splits on a bound cuts at the middle; it is
+-- unfinished only once the limit of nodes was opened, each of them closed, and a region waits
 pub record IsSolved (m : Data) (limit : ℕ) (lines : List PlainLine) (s : LogState) (solved : Solved) : Type 0 where
   pub log : IsPlainLog m lines s
+  pub cuts : CutFrom m (opening m) lines
   pub nodes : solved.nodes ≡ s.nodes
   pub few : s.nodes ≤ limit
   pub closed : s.current ≡ None
@@ -30,11 +32,12 @@ pub record Solves (m : Data) (limit : ℕ) (solved : Solved) (old new : State) :
   pub is : IsSolved m limit lines state solved
   pub logged : new ≡ record old { logged = appended (plain_log lines) old.logged }
 
--- a front part of the text of some log of the model was appended
+-- a front part of the text of some log of the model was appended, whose splits cut so too
 pub record BeginsLog (m : Data) (old new : State) : Type 0 where
   pub lines : List PlainLine
   pub state : LogState
   pub log : IsPlainLog m lines state
+  pub cuts : CutFrom m (opening m) lines
   pub part : AppendedFrom (plain_log lines) old.logged new.logged
   pub only : new ≡ record old { logged = new.logged; faults = new.faults }
   pub later : old.faults ≤ new.faults

@@ -5,7 +5,8 @@ ghost use Rattle.region.specs.Cells.{is_fixed, is_settled, bounds_of};
 ghost use Rattle.region.specs.Flat.{HasMoments};
 ghost use Rattle.region.specs.Guesses.{splits, subject};
 ghost use Rattle.region.specs.Looks.{IsRegionOf};
-ghost use Rattle.solver.specs.Searching.{IsMiddle, IsCut, Cuts, is_ordered};
+ghost use Rattle.solver.specs.Cuts.{IsMiddle, IsCut};
+ghost use Rattle.solver.specs.Searching.{Cuts, is_ordered};
 
 use region::{Bounds, Guess, Look, Presence};
 use sched_base::Itv;

@@ -5,7 +5,5 @@ mod answer;
 mod branch;
 mod line;
 mod search;
-#[cfg(test)]
-mod tests;
 
 pub use search::{SolveFault, solve};

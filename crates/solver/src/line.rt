@@ -1,6 +1,7 @@
 ghost use Rattle.std.specs.Prelude.{◌≡◌, ◌<◌, ◌^◌, [], IsTrue, IfOk, IfSome, IfNone};
 ghost use Rattle.region.specs.Cells.{is_settled};
 ghost use Rattle.region.specs.Looks.{IsRegionOf};
+ghost use Rattle.refute_basic.specs.Served.{is_served};
 ghost use Rattle.solver.specs.Searching.{IsBetween, IsNext, IsLeafLine};
 
 use crate::branch::first_cut;
@@ -13,6 +14,7 @@ use std::alloc::Global;
 
 /// What closes a settled region: the witness that refutes it, or else its one solution.
 fn leaf_line(alloc: Global, model: &Model, look: &Look<'_>) -> Result<Line<NoWitness>, NoMemory>
+    requires served { IsTrue (is_served model.now) }
     requires of { IsRegionOf model.now look.now.region }
     requires settled { IsTrue (is_settled look.now.region) }
     ensures { IfOk result (λ line. IsLeafLine model.now look.now line) }
@@ -29,7 +31,8 @@ pub fn next_line(
     model: &Model,
     kernel: &Kernel<NoExtra>,
 ) -> Result<Option<Line<NoWitness>>, NoMemory>
-    requires { IsBetween model.now kernel.now }
+    requires served { IsTrue (is_served model.now) }
+    requires between { IsBetween model.now kernel.now }
     ensures some { IfOk result (λ o. IfSome o (λ line. IsNext model.now kernel.now line)) }
     ensures none { IfOk result (λ o. IfNone o (kernel.now.waiting ≡ [])) }
 {

@@ -1,7 +1,8 @@
-ghost use Rattle.std.specs.Prelude.{◌≡◌, ◌+◌, ◌<◌, ◌≤◌, ◌^◌, Ok, true, IfOk, OnOk};
+ghost use Rattle.std.specs.Prelude.{◌≡◌, ◌+◌, ◌<◌, ◌≤◌, ◌^◌, true, IsTrue, IfOk, OnOk};
 ghost use Rattle.sched_base.specs.State.{State};
+ghost use Rattle.refute_basic.specs.Served.{is_served};
 ghost use Rattle.solver.specs.Solving.{Gives};
-ghost use Rattle.solver.specs.Searching.{IsBetween, IsNext, IsWritten, IsEnded, GoesOn, Opens, plain_step};
+ghost use Rattle.solver.specs.Searching.{IsBetween, IsNext, IsWritten, IsEnded, GoesOn, Opens};
 
 use crate::answer::answer_from;
 use crate::line::next_line;
@@ -74,6 +75,7 @@ fn visit<D: Desk>(
     writer: &mut LogWriter,
     desk: &mut D,
 ) -> Result<bool, SolveFault>
+    requires served { IsTrue (is_served model.now) }
     requires nodes { kernel.old.nodes < 2 ^ 63 }
     requires between { IsBetween model.now kernel.old }
     requires created { (D.state desk.old).created ≡ true }
@@ -99,6 +101,7 @@ fn search<D: Desk>(
     writer: &mut LogWriter,
     desk: &mut D,
 ) -> Result<(), SolveFault>
+    requires served { IsTrue (is_served model.now) }
     requires few { nodes ≤ 2 ^ 62 }
     requires none { kernel.old.nodes ≡ 0 }
     requires between { IsBetween model.now kernel.old }
@@ -118,7 +121,8 @@ fn search<D: Desk>(
     Ok(())
 }
 
-/// Looks for a best solution by branch and bound, and writes the log of the search. It opens at most
+/// Looks for a best solution of a model that is served (`refute_basic::is_served` tells) by branch
+/// and bound, and writes the log of the search. It opens at most
 /// `nodes` nodes, and keeps one region with saves, so its memory grows with the depth of the search.
 /// A region is split at its first open interval: at the presence, or else at the middle of the
 /// start, or else of the end, and its earlier half comes first. `Fault` comes only where the desk
@@ -129,6 +133,7 @@ pub fn solve<D: Desk>(
     nodes: u64,
     desk: &mut D,
 ) -> Result<Solved, SolveFault>
+    requires served { IsTrue (is_served model.now) }
     requires some { 0 < nodes }
     requires few { nodes ≤ 2 ^ 62 }
     requires created { (D.state desk.old).created ≡ true }

@@ -7,13 +7,13 @@ pub returns-in_err-write_line-clause-written : goal.returns-in_err-write_line-cl
 returns-in_err-write_line-clause-written g c = λ start w.
     stops c.args.model.now c.from_residual.result Fault c.args.kernel.now c.write_line.new.self start (g.D.Desk.state c.write_line.new.desk) c.from_residual.ensures.1
     (line_failed c.args.model.now c.args.kernel.now c.args.line c.args.writer.now c.write_line.new.self start (g.D.Desk.state c.args.desk.now) (g.D.Desk.state c.write_line.new.desk) c.in_err-write_line.field-0.0
-    c.requires.next.is c.requires.next.steps c.in_err-write_line.ensures w)
+    c.requires.next.is c.requires.next.cuts c.requires.next.steps c.in_err-write_line.ensures w)
 
 pub returns-in_err-advance-clause-written : goal.returns-in_err-advance-clause-written
 returns-in_err-advance-clause-written g c = λ start w.
     stops c.args.model.now c.from_residual-in_err-advance.result NoMemory c.advance.new.self c.write_line.new.self start (g.D.Desk.state c.write_line.new.desk) c.from_residual-in_err-advance.ensures.1 (
       line_kept c.args.model.now c.args.kernel.now c.args.line c.args.writer.now c.write_line.new.self start (g.D.Desk.state c.args.desk.now) (g.D.Desk.state c.write_line.new.desk)
-          c.requires.next.is c.requires.next.steps c.in_ok-write_line.ensures w,
+          c.requires.next.is c.requires.next.cuts c.requires.next.steps c.in_ok-write_line.ensures w,
       tt,
     )
 
@@ -26,4 +26,4 @@ returns-clause-node g c = (after_next c.args.model.now c.args.kernel.now c.advan
 pub returns-clause-written : goal.returns-clause-written
 returns-clause-written g c = λ start w.
     line_written c.args.model.now c.args.kernel.now c.advance.new.self c.args.line c.args.writer.now c.write_line.new.self start (g.D.Desk.state c.args.desk.now) (g.D.Desk.state c.write_line.new.desk)
-    c.requires.next.is c.in_ok-advance.ensures.ok c.in_ok-write_line.ensures w
+    c.requires.next.is c.requires.next.cuts c.in_ok-advance.ensures.ok c.in_ok-write_line.ensures w
