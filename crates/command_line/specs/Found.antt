@@ -1,5 +1,5 @@
 -- What the values that a parse found say.
-use Rattle.std.specs.Prelude.{List, [], ◌∷◌, Option, Some, None}
+use Rattle.std.specs.Prelude.{ℕ, ◌≤◌, List, [], ◌∷◌, Option, Some, None, ⊤}
 use Rattle.command_line.specs.Commands.{Command, Solve, Check, Show, Word, limit_of, solve_in}
 use Rattle.command_line.specs.declared.commands.Command as code
 use Rattle.command_line.specs.declared.commands.Command.TheVariants as view
@@ -21,3 +21,12 @@ abbrev pub seen_of : code.Command → Command
 seen_of (view.Solve model log nodes) = Solve model.now log.now nodes
 seen_of (view.Check model log) = Check model.now log.now
 seen_of (view.Show model) = Show model.now
+
+-- from 1 to 10,000,000
+abbrev pub IsLimit : ℕ → Type 0
+IsLimit n = (1 ≤ n) × (n ≤ 10000000)
+
+-- so is the limit on nodes in a command
+abbrev pub HasLimit : Command → Type 0
+HasLimit (Solve model log nodes) = IsLimit nodes
+HasLimit _ = ⊤

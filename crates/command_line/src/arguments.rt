@@ -1,7 +1,7 @@
 ghost use Rattle.std.specs.Prelude.{◌≡◌, ◌⊎◌, IfOk, IfErr, Some, None, Err, codes, map, string_bytes};
 ghost use Rattle.clap.specs.Words.{first_value, found_of, kind_of};
 ghost use Rattle.command_line.specs.Commands.{Solve, one_of, two_of, solve_of};
-ghost use Rattle.command_line.specs.Found.{two_found, solve_found};
+ghost use Rattle.command_line.specs.Found.{IsLimit, two_found, solve_found};
 
 use crate::commands::WordsFault;
 use crate::limit::limit;
@@ -118,6 +118,7 @@ fn solve_matched<'a>(alloc: Global, words: &'a [String]) -> Result<ArgMatches<'a
 /// The arguments of `solve`. A `--nodes` whose word is no limit is a fault.
 pub fn read_solve<'a>(alloc: Global, words: &'a [String]) -> Result<SolveWords<'a>, WordsFault>
     ensures ok { IfOk result (λ s. solve_of (map string_bytes words.entry.now) ≡ Some (Solve s.model.now s.log.now s.nodes)) }
+    ensures within { IfOk result (λ s. IsLimit s.nodes) }
     ensures usage { result ≡ Err WordsFault.Usage → solve_of (map string_bytes words.entry.now) ≡ None }
 {
     match solve_matched(alloc, words) {

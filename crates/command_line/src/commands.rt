@@ -34,11 +34,12 @@ pub enum Command<'a> {
     },
 }
 
-ghost use Rattle.command_line.specs.Found.{seen_of};
+ghost use Rattle.command_line.specs.Found.{HasLimit, seen_of};
 
-/// The command of the words after the program's name.
+/// The command of the words after the program's name. A limit on nodes is from 1 to 10,000,000.
 pub fn read_command<'a>(alloc: Global, words: &'a [String]) -> Result<Command<'a>, WordsFault>
     ensures ok { IfOk result (λ c. command_of (map string_bytes words.entry.now) ≡ Some (seen_of c)) }
+    ensures within { IfOk result (λ c. HasLimit (seen_of c)) }
     ensures usage { result ≡ Err WordsFault.Usage → command_of (map string_bytes words.entry.now) ≡ None }
 {
     let Some((first, rest)) = words.split_first() else {

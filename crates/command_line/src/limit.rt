@@ -1,6 +1,6 @@
-ghost use Rattle.std.specs.Prelude.{◌≡◌, ◌∷◌, [], option_map};
+ghost use Rattle.std.specs.Prelude.{◌≡◌, ◌∷◌, [], option_map, IfSome};
 ghost use Rattle.command_line.specs.Commands.{limit_of};
-ghost use Rattle.command_line.specs.Found.{listed};
+ghost use Rattle.command_line.specs.Found.{IsLimit, listed};
 
 const MOST_DIGITS: usize = 8;
 
@@ -13,7 +13,8 @@ const NODES: u32 = 100_000;
 
 /// The limit that these digits are.
 fn limit_in(digits: &str) -> Option<u32>
-    ensures { result ≡ limit_of (digits.now ∷ []) }
+    ensures is { result ≡ limit_of (digits.now ∷ []) }
+    ensures within { IfSome result IsLimit }
 {
     if digits.len() > MOST_DIGITS || digits.starts_with('+') {
         return None;
@@ -29,7 +30,8 @@ fn limit_in(digits: &str) -> Option<u32>
 
 /// The limit on nodes by the word that `--nodes` gives, if there is one.
 pub fn limit(word: Option<&str>) -> Option<u32>
-    ensures { result ≡ limit_of (listed (option_map (λ w. w.now) word.entry)) }
+    ensures is { result ≡ limit_of (listed (option_map (λ w. w.now) word.entry)) }
+    ensures within { IfSome result IsLimit }
 {
     match word {
         None => Some(NODES),

@@ -1,19 +1,26 @@
 -- What checking a file has done, from what its steps did.
+use Rattle.sched_base.specs.declared.desk.Failed.{Failed}
+use Rattle.sched_base.specs.declared.desk.Port.TheVariants.{Out}
+use Rattle.schedtool.specs.declared.ended.Ended.TheVariants as end
+use Rattle.schedtool.specs.declared.stop.Stop.TheVariants as stop
+use Rattle.schedtool.specs.CheckText.{check_text}
 use Rattle.std.proofs.Common.{◌≡◌, ◌≤◌, ◌+◌, ℕ, true, List, Option, Some, None, Ok, Err, length, take, refl, sym, ap, subst, ◌∙◌, inl, inr, arith}
 use Rattle.std.specs.Prelude.{IfSome, option_and_then}
 use Rattle.sched_base.specs.declared.desk.File.{File}
 use Rattle.sched_base.specs.declared.desk.Inlet.TheVariants.{Log}
 use Rattle.sched_base.specs.State.{State, bytes_of, left_in}
-use Rattle.sched_base.specs.Calls.{Opens, Rose}
+use Rattle.sched_base.specs.Calls.{Opens, Rose, Writes, appended}
 use Rattle.sched_model.specs.Data.{Data}
 use Rattle.textline.specs.Lines.{Bytes}
+use Rattle.kernel.specs.Promises.{Means}
+use Rattle.checker.specs.declared.judging.Checked.{Checked}
 use Rattle.checker.specs.declared.judging.CheckFault.{CheckFault}
 use Rattle.checker.specs.declared.judging.CheckFault.TheVariants as fault
 use Rattle.checker.specs.Judgement.{IsRefused, IsTooLong}
 use Rattle.checker.specs.Checking.{Checks, Judges, log_bytes}
-use Rattle.schedtool.specs.Runs.{IfFile, HasFile}
+use Rattle.schedtool.specs.Runs.{IfFile, HasFile, FileServes, AcceptsLog}
 use Rattle.schedtool.specs.Stops.{stop_of_check}
-use Rattle.schedtool.specs.Tries.{JudgesFile}
+use Rattle.schedtool.specs.Tries.{OnlyReads, OnlyJudges, JudgesFile, TriesCheck}
 
 in_file : (files : Option (List File)) (name : Bytes) (P : Bytes → Type 0) → IfSome (option_and_then (λ fs. bytes_of fs name) files) P → IfSome files (λ fs. IfSome (bytes_of fs name) P)
 in_file None name P is = tt
@@ -21,6 +28,13 @@ in_file (Some fs) name P is = is
 
 judged_file : (s o : State) (log : Bytes) (u : Unit {0}) (P : Bytes → Type 0) → Opens Log log (Ok u) s o → IfSome (left_in Log o) P → IfFile s log P
 judged_file s o log u P opens is = (opens.there, in_file s.files log P (subst (λ left. IfSome left P) (ap (λ (x : State). left_in Log x) opens.opened) is))
+
+pub accepted_file : (m : Data) (log : Bytes) (c : Checked) (u : Unit {0}) (s o t : State) → Opens Log log (Ok u) s o → Checks m (Ok c) o t → Means m c.verdict → JudgesFile m log (Ok c) s t
+accepted_file m log c u s o t opens checks means = (
+  checks.counts ∙ ap (λ (x : State). x.faults) opens.opened,
+  judged_file s o log u (λ bytes. Judges m (log_bytes bytes) (Ok c)) opens checks.judgement,
+  means,
+)
 
 pub not_accepted : (m : Data) (log : Bytes) (e : CheckFault) (u : Unit {0}) (s o t : State) → Opens Log log (Ok u) s o → Checks m (Err e) o t → JudgesFile m log (Err (stop_of_check e)) s t
 not_accepted m log (fault.Refused k) u s o t opens checks = judged_file s o log u (λ bytes. Judges m (log_bytes bytes) (Err (fault.Refused k))) opens checks.judgement
@@ -30,3 +44,54 @@ not_accepted m log fault.Fault u s o t opens checks = record {
   calm = λ calm there. checks.counts.1 (ap (λ (x : State). x.calm) opens.opened ∙ calm);
 }
 not_accepted m log fault.NoMemory u s o t opens checks = tt
+
+-- The model and its log were read, and the log is accepted.
+
+accepts : (m : Data) (model log : Bytes) (c : Checked) (old s t : State) → OnlyReads old s → FileServes old model m → JudgesFile m log (Ok c) s t → AcceptsLog model log c.verdict c.nodes old
+accepts m model log c old s t reads deserved judges = record {
+  m = m;
+  deserved = deserved;
+  judged = subst (λ (files : Option (List File)). IfFile (record old { files = files }) log (λ bytes. Judges m (log_bytes bytes) (Ok c))) (ap (λ (x : State). x.files) reads.only) judges.1;
+  means = judges.2;
+}
+
+both_only : (old s t : State) → OnlyReads old s → OnlyJudges s t → t ≡ record old { model = s.model; log = t.log; faults = t.faults }
+both_only old s t reads judged = judged.only ∙ ap (λ (x : State). record x { log = t.log; faults = t.faults }) reads.only
+
+-- the text that says so was printed
+pub accept_printed : (m : Data) (model log bytes : Bytes) (c : Checked) (u : Unit {0}) (old s t w : State) → OnlyReads old s → s.faults ≡ old.faults → FileServes old model m → OnlyJudges s t → JudgesFile m log (Ok c) s t
+    → bytes ≡ check_text c.verdict c.nodes → Writes Out bytes (Ok u) t w → TriesCheck model log (Ok end.Accepted) old w
+accept_printed m model log bytes c u old s t w reads kept deserved judged judges spelt writes =
+    let text : Bytes = check_text c.verdict c.nodes in
+    let faults : t.faults ≡ old.faults = judges.0 ∙ kept in
+    let is : w ≡ record old { model = s.model; log = t.log; out = appended text old.out; faults = t.faults } =
+    writes.written
+    ∙ ap (λ bs. record t { out = appended bs t.out }) spelt
+    ∙ ap (λ (x : State). record x { out = appended text x.out }) (both_only old s t reads judged) in
+    subst (TriesCheck model log (Ok end.Accepted) old) (sym is) (record {
+      only = refl;
+      later = subst (λ n. old.faults ≤ n) (sym faults) (omega arith);
+      tried = (faults, refl, record { verdict = c.verdict; nodes = c.nodes; accepts = accepts m model log c old s t reads deserved judges; printed = refl });
+    })
+
+-- or a front part of it
+pub accept_half_printed : (m : Data) (model log bytes : Bytes) (c : Checked) (e : Failed) (old s t w : State) → OnlyReads old s → s.faults ≡ old.faults → FileServes old model m → OnlyJudges s t → JudgesFile m log (Ok c) s t
+    → bytes ≡ check_text c.verdict c.nodes → Writes Out bytes (Err e) t w → TriesCheck model log (Err stop.Fault) old w
+accept_half_printed m model log bytes c e old s t w reads kept deserved judged judges spelt writes =
+    let text : Bytes = check_text c.verdict c.nodes in
+    let n : ℕ = writes.failed.0 in
+    let here = both_only old s t reads judged in
+    let faults : t.faults ≡ old.faults = judges.0 ∙ kept in
+    let is : w ≡ record old { model = s.model; log = t.log; out = appended (take n text) old.out; faults = w.faults } =
+    writes.failed.2
+    ∙ ap (λ bs. record t { out = appended (take n bs) t.out; faults = w.faults }) spelt
+    ∙ ap (λ (x : State). record x { out = appended (take n text) x.out; faults = w.faults }) here in
+    subst (TriesCheck model log (Err stop.Fault) old) (sym is) (record {
+      only = refl;
+      later = subst (λ k. k ≤ w.faults) faults writes.count.later;
+      tried = (
+        subst (λ k. Rose k w.faults) faults writes.count.failed,
+        (λ calm model_there log_there. let ok = writes.calm (ap (λ (x : State). x.calm) here ∙ calm) in cc),
+        inr (c.verdict, c.nodes, accepts m model log c old s t reads deserved judges, (n, subst (λ bs. n ≤ length bs) spelt writes.failed.1, refl)),
+      );
+    })

@@ -5,22 +5,23 @@ use Rattle.sched_base.specs.Calls.{Rose, appended}
 use Rattle.sched_model.specs.declared.types.Answer.{Answer}
 use Rattle.sched_model.specs.declared.types.Answer.TheVariants as answer
 use Rattle.cpo_text.specs.declared.text.Refusal.{Refusal}
-use Rattle.cpo_elab.specs.Answers.Answer.{Refused}
+use Rattle.command_line.specs.Commands.{Command, Solve, Check, Show}
 use Rattle.textline.specs.Lines.{Bytes}
 use Rattle.logtext.specs.Writing.{AppendedFrom}
 use Rattle.schedtool.specs.declared.ended.Ended.{Ended}
 use Rattle.schedtool.specs.declared.ended.Ended.TheVariants as end
 use Rattle.schedtool.specs.declared.stop.Stop.{Stop}
 use Rattle.schedtool.specs.declared.stop.Stop.TheVariants as stop
-use Rattle.schedtool.specs.AnswerText.{answer_text, check_text}
-use Rattle.schedtool.specs.Command.{Command}
-use Rattle.schedtool.specs.Command.Command.{Solve, Check}
+use Rattle.sched_text.specs.Answers.{answer_text}
+use Rattle.sched_text.specs.Canonical.{canonical_text}
+use Rattle.schedtool.specs.CheckText.{check_text}
 use Rattle.schedtool.specs.Ended.{is_success}
-use Rattle.schedtool.specs.Told.{Tells, Reports, fault_line, memory_line, refusal_line, log_line, too_long_line}
-use Rattle.schedtool.specs.Runs.{RunPromise, EveryRun, HasFiles, FileDeserves, RefusesModel, LogPromise, HoldsBegunLog, CutShort, AnswerPromise, AcceptsPart, ending_of, SolveEnds, SolvePromise, CheckEnds, CheckPromise}
+use Rattle.schedtool.specs.Told.{Tells, Reports, usage_line, fault_line, memory_line, refusal_line, log_line, too_long_line}
+use Rattle.schedtool.specs.Runs.{RunPromise, EveryRun, CommandPromise, HasFiles, FileRefuses, RefusesBy, FileDeserves, ShowsPart, ShowPromise, LogPromise, HoldsBegunLog, CutShort, AnswerPromise, AcceptsPart, ending_of, SolveEnds, SolvePromise, CheckEnds, CheckPromise}
 use Rattle.schedtool.specs.Runs.CutShort.{before_log, in_log, in_answer}
+use Rattle.cpo_elab.specs.Answers.Answer.{Refused}
 use Rattle.schedtool.specs.Runs.RefusesLog.{at_line, too_long}
-use Rattle.schedtool.specs.Tries.{OnlyReads, TriesSolve, TriesCheck, EndsStopped}
+use Rattle.schedtool.specs.Tries.{OnlyReads, TriesSolve, TriesCheck, TriesShow, EndsStopped}
 
 -- A line on standard error behind whatever a command has done.
 
@@ -41,7 +42,7 @@ not_so e f other won is = let both : true ≡ false = sym won ∙ ap is_success 
 succeeded : (k : Command) (e : Ended) (old new : State) → is_success e ≡ true → new.faults ≡ old.faults → new.err ≡ old.err → EveryRun (Some k) e old new
 succeeded k e old new won kept err = record {
   later = subst (λ n. old.faults ≤ n) (sym kept) (omega arith);
-  usage = (λ h. absurd (not_so e end.Usage refl won h), λ h. cc);
+  usage = λ enough. (λ h. absurd (not_so e end.Usage refl won h), λ h. cc);
   unopened = λ h. absurd (not_so e end.Usage refl won h);
   fault = λ h. absurd (not_so e end.Fault refl won h);
   calm = λ calm there h. not_so e end.Fault refl won h;
@@ -54,7 +55,7 @@ succeeded k e old new won kept err = record {
 faulted : (k : Command) (old s new : State) → s.err ≡ old.err → old.faults ≤ s.faults → Rose old.faults s.faults → (old.calm ≡ true → HasFiles (Some k) old → ⊥) → Reports fault_line s new → EveryRun (Some k) end.Fault old new
 faulted k old s new err later rose calm reports = record {
   later = omega (arith, later, reports.later);
-  usage = (λ h. cc, λ h. cc);
+  usage = λ enough. (λ h. cc, λ h. cc);
   unopened = λ h. cc;
   fault = λ h. omega (arith, rose, reports.later);
   calm = λ is there h. calm is there;
@@ -67,7 +68,7 @@ faulted k old s new err later rose calm reports = record {
 no_memory : (k : Command) (old s new : State) → s.err ≡ old.err → s.out ≡ old.out → old.faults ≤ s.faults → Reports memory_line s new → EveryRun (Some k) end.NoMemory old new
 no_memory k old s new err out later reports = record {
   later = omega (arith, later, reports.later);
-  usage = (λ h. cc, λ h. cc);
+  usage = λ enough. (λ h. cc, λ h. cc);
   unopened = λ h. cc;
   fault = λ h. cc;
   calm = λ is there h. cc;
@@ -80,7 +81,7 @@ no_memory k old s new err out later reports = record {
 model_refused : (k : Command) (text : Bytes) (old s new : State) → s.out ≡ old.out → old.faults ≤ s.faults → Reports text s new → EveryRun (Some k) end.ModelRefused old new
 model_refused k text old s new out later reports = record {
   later = omega (arith, later, reports.later);
-  usage = (λ h. cc, λ h. cc);
+  usage = λ enough. (λ h. cc, λ h. cc);
   unopened = λ h. cc;
   fault = λ h. cc;
   calm = λ is there h. cc;
@@ -93,7 +94,7 @@ model_refused k text old s new out later reports = record {
 log_refused : (k : Command) (text : Bytes) (old s new : State) → s.out ≡ old.out → old.faults ≤ s.faults → Reports text s new → EveryRun (Some k) end.LogRefused old new
 log_refused k text old s new out later reports = record {
   later = omega (arith, later, reports.later);
-  usage = (λ h. cc, λ h. cc);
+  usage = λ enough. (λ h. cc, λ h. cc);
   unopened = λ h. cc;
   fault = λ h. cc;
   calm = λ is there h. cc;
@@ -126,24 +127,24 @@ refused_only : (text : Bytes) (old s new : State) → OnlyReads old s → Report
 refused_only text old s new reads reports =
     subst (OnlyRefuses old) (sym (reports.only ∙ ap (λ (x : State). record x { err = new.err; faults = new.faults }) reads.only)) refl
 
-cut_told : (name text : Bytes) (old s new : State) → CutShort name old s → Reports text s new → CutShort name old new
-cut_told name text old s new (before_log only) reports =
+cut_told : (name : Bytes) (limit : ℕ) (text : Bytes) (old s new : State) → CutShort name limit old s → Reports text s new → CutShort name limit old new
+cut_told name limit text old s new (before_log only) reports =
     before_log (subst (OnlyRefuses old) (sym (reports.only ∙ ap (λ (x : State). record x { err = new.err; faults = new.faults }) only)) refl)
-cut_told name text old s new (in_log m deserved created holds out) reports =
+cut_told name limit text old s new (in_log m deserved created holds out) reports =
     in_log m deserved (ap (λ (x : State). x.created) reports.only ∙ created) (subst (λ b. HoldsBegunLog m old.logged b) (sym (ap (λ (x : State). x.logged) reports.only)) holds)
     (ap (λ (x : State). x.out) reports.only ∙ out)
-cut_told name text old s new (in_answer m solved deserved answer created log part) reports =
-    in_answer m solved deserved answer (ap (λ (x : State). x.created) reports.only ∙ created) (subst (λ b. LogPromise m solved old.logged b) (sym (ap (λ (x : State). x.logged) reports.only)) log)
+cut_told name limit text old s new (in_answer m solved deserved answer created log part) reports =
+    in_answer m solved deserved answer (ap (λ (x : State). x.created) reports.only ∙ created) (subst (λ b. LogPromise m limit solved old.logged b) (sym (ap (λ (x : State). x.logged) reports.only)) log)
     (subst (λ b. AppendedFrom (answer_text m solved) old.out b) (sym (ap (λ (x : State). x.out) reports.only)) part)
 
 part_told : (model log text : Bytes) (old s new : State) → AcceptsPart model log old s → Reports text s new → AcceptsPart model log old new
 part_told model log text old s new (inl out) reports = inl (ap (λ (x : State). x.out) reports.only ∙ out)
 part_told model log text old s new (inr part) reports = inr (part.0, part.1, part.2, subst (λ b. AppendedFrom (check_text part.0 part.1) old.out b) (sym (ap (λ (x : State). x.out) reports.only)) part.3)
 
-refuses : (name : Bytes) (old s new : State) → OnlyReads old s → (r : Refusal) → FileDeserves old name (Refused r) → Reports (refusal_line r) s new → RefusesModel name old new
-refuses name old s new reads r deserved reports = record {
+refuses : (IsDue : Refusal → Type 0) (old s new : State) → OnlyReads old s → (r : Refusal) → IsDue r → Reports (refusal_line r) s new → RefusesBy IsDue old new
+refuses IsDue old s new reads r due reports = record {
   refusal = r;
-  deserved = deserved;
+  due = due;
   told = tells_on (refusal_line r) old s new (ap (λ (x : State). x.err) reads.only) reads.later reports;
   only = refused_only (refusal_line r) old s new reads reports;
 }
@@ -156,52 +157,52 @@ never_accepted (answer.Feasible a) is = cc
 never_accepted answer.Infeasible is = cc
 never_accepted (answer.Unfinished found) is = cc
 
-solve_ends : (model : Bytes) (e : Ended) (old new : State) → is_success e ≡ true → AnswerPromise model e old new → SolveEnds model e old new
-solve_ends model end.Done old new won promise = promise
-solve_ends model end.Infeasible old new won promise = promise
-solve_ends model end.Unfinished old new won promise = promise
-solve_ends model end.Accepted old new won promise = never_accepted promise.solved.answer promise.ending
-solve_ends model end.Usage old new won promise = cc
-solve_ends model end.ModelRefused old new won promise = absurd cc
-solve_ends model end.Fault old new won promise = absurd cc
-solve_ends model end.LogRefused old new won promise = cc
-solve_ends model end.NoMemory old new won promise = absurd cc
+solve_ends : (model : Bytes) (limit : ℕ) (e : Ended) (old new : State) → is_success e ≡ true → AnswerPromise model limit e old new → SolveEnds model limit e old new
+solve_ends model limit end.Done old new won promise = promise
+solve_ends model limit end.Infeasible old new won promise = promise
+solve_ends model limit end.Unfinished old new won promise = promise
+solve_ends model limit end.Accepted old new won promise = never_accepted promise.solved.answer promise.ending
+solve_ends model limit end.Usage old new won promise = cc
+solve_ends model limit end.ModelRefused old new won promise = absurd cc
+solve_ends model limit end.Fault old new won promise = absurd cc
+solve_ends model limit end.LogRefused old new won promise = cc
+solve_ends model limit end.NoMemory old new won promise = absurd cc
 
-pub solved : (model log : Bytes) (e : Ended) (old new : State) → TriesSolve model (Ok e) old new → RunPromise (Some (Solve model log)) e old new
-solved model log e old new tries = record {
-  every = succeeded (Solve model log) e old new tries.tried.1 tries.tried.0 (ap (λ (x : State). x.err) tries.only);
+pub solved : (model log : Bytes) (limit : ℕ) (e : Ended) (old new : State) → TriesSolve model limit (Ok e) old new → RunPromise (Some (Solve model log limit)) e old new
+solved model log limit e old new tries = record {
+  every = succeeded (Solve model log limit) e old new tries.tried.1 tries.tried.0 (ap (λ (x : State). x.err) tries.only);
   its_own = record {
     only = subst (OnlySolves old) (sym tries.only) refl;
-    ends = solve_ends model e old new tries.tried.1 tries.tried.2;
+    ends = solve_ends model limit e old new tries.tried.1 tries.tried.2;
   };
 }
 
-solve_no_memory : (model log : Bytes) (old s new : State) → s ≡ record old { model = s.model; out = s.out; logged = s.logged; created = s.created; faults = s.faults } → old.faults ≤ s.faults → s.out ≡ old.out → CutShort model old s
-    → Reports memory_line s new → RunPromise (Some (Solve model log)) end.NoMemory old new
-solve_no_memory model log old s new only later out cut reports = record {
-  every = no_memory (Solve model log) old s new (ap (λ (x : State). x.err) only) out later reports;
-  its_own = record { only = solve_only memory_line old s new only reports; ends = cut_told model memory_line old s new cut reports };
+solve_no_memory : (model log : Bytes) (limit : ℕ) (old s new : State) → s ≡ record old { model = s.model; out = s.out; logged = s.logged; created = s.created; faults = s.faults } → old.faults ≤ s.faults → s.out ≡ old.out → CutShort model limit old s
+    → Reports memory_line s new → RunPromise (Some (Solve model log limit)) end.NoMemory old new
+solve_no_memory model log limit old s new only later out cut reports = record {
+  every = no_memory (Solve model log limit) old s new (ap (λ (x : State). x.err) only) out later reports;
+  its_own = record { only = solve_only memory_line old s new only reports; ends = cut_told model limit memory_line old s new cut reports };
 }
 
-pub solve_stopped : (model log : Bytes) (e : Stop) (ended : Ended) (old s new : State) → TriesSolve model (Err e) old s → EndsStopped e ended s new → RunPromise (Some (Solve model log)) ended old new
-solve_stopped model log stop.Fault ended old s new tries ends = subst (λ x. RunPromise (Some (Solve model log)) x old new) (sym ends.0) (record {
-  every = faulted (Solve model log) old s new (ap (λ (x : State). x.err) tries.only) tries.later tries.tried.0.rose tries.tried.0.calm ends.1;
-  its_own = record { only = solve_only fault_line old s new tries.only ends.1; ends = cut_told model fault_line old s new tries.tried.1 ends.1 };
+pub solve_stopped : (model log : Bytes) (limit : ℕ) (e : Stop) (ended : Ended) (old s new : State) → TriesSolve model limit (Err e) old s → EndsStopped e ended s new → RunPromise (Some (Solve model log limit)) ended old new
+solve_stopped model log limit stop.Fault ended old s new tries ends = subst (λ x. RunPromise (Some (Solve model log limit)) x old new) (sym ends.0) (record {
+  every = faulted (Solve model log limit) old s new (ap (λ (x : State). x.err) tries.only) tries.later tries.tried.0.rose tries.tried.0.calm ends.1;
+  its_own = record { only = solve_only fault_line old s new tries.only ends.1; ends = cut_told model limit fault_line old s new tries.tried.1 ends.1 };
 })
-solve_stopped model log stop.NoMemory ended old s new tries ends = subst (λ x. RunPromise (Some (Solve model log)) x old new) (sym ends.0)
-    (solve_no_memory model log old s new tries.only tries.later tries.tried.0 tries.tried.1 ends.1)
-solve_stopped model log (stop.ModelRefused r) ended old s new tries (inl ends) =
+solve_stopped model log limit stop.NoMemory ended old s new tries ends = subst (λ x. RunPromise (Some (Solve model log limit)) x old new) (sym ends.0)
+    (solve_no_memory model log limit old s new tries.only tries.later tries.tried.0 tries.tried.1 ends.1)
+solve_stopped model log limit (stop.ModelRefused r) ended old s new tries (inl ends) =
     let reads = tries.tried.0 in
-    subst (λ x. RunPromise (Some (Solve model log)) x old new) (sym ends.0) (record {
-      every = model_refused (Solve model log) (refusal_line r) old s new (ap (λ (x : State). x.out) reads.only) reads.later ends.1;
-      its_own = record { only = solve_only (refusal_line r) old s new tries.only ends.1; ends = refuses model old s new reads r tries.tried.2 ends.1 };
+    subst (λ x. RunPromise (Some (Solve model log limit)) x old new) (sym ends.0) (record {
+      every = model_refused (Solve model log limit) (refusal_line r) old s new (ap (λ (x : State). x.out) reads.only) reads.later ends.1;
+      its_own = record { only = solve_only (refusal_line r) old s new tries.only ends.1; ends = refuses (FileRefuses old model) old s new reads r tries.tried.2 ends.1 };
     })
-solve_stopped model log (stop.ModelRefused r) ended old s new tries (inr ends) =
+solve_stopped model log limit (stop.ModelRefused r) ended old s new tries (inr ends) =
     let reads = tries.tried.0 in
-    subst (λ x. RunPromise (Some (Solve model log)) x old new) (sym ends.0)
-    (solve_no_memory model log old s new tries.only tries.later (ap (λ (x : State). x.out) reads.only) (before_log (subst (OnlyRefuses old) (sym reads.only) refl)) ends.1)
-solve_stopped model log (stop.LogRefused k) ended old s new tries ends = absurd tries.tried
-solve_stopped model log stop.LogTooLong ended old s new tries ends = absurd tries.tried
+    subst (λ x. RunPromise (Some (Solve model log limit)) x old new) (sym ends.0)
+    (solve_no_memory model log limit old s new tries.only tries.later (ap (λ (x : State). x.out) reads.only) (before_log (subst (OnlyRefuses old) (sym reads.only) refl)) ends.1)
+solve_stopped model log limit (stop.LogRefused k) ended old s new tries ends = absurd tries.tried
+solve_stopped model log limit stop.LogTooLong ended old s new tries ends = absurd tries.tried
 
 -- `check`.
 
@@ -229,7 +230,7 @@ check_stopped model log (stop.ModelRefused r) ended old s new tries (inl ends) =
     let reads = tries.tried.0 in
     subst (λ x. RunPromise (Some (Check model log)) x old new) (sym ends.0) (record {
       every = model_refused (Check model log) (refusal_line r) old s new (ap (λ (x : State). x.out) reads.only) reads.later ends.1;
-      its_own = record { only = check_only (refusal_line r) old s new tries.only ends.1; ends = refuses model old s new reads r tries.tried.2 ends.1 };
+      its_own = record { only = check_only (refusal_line r) old s new tries.only ends.1; ends = refuses (FileRefuses old model) old s new reads r tries.tried.2 ends.1 };
     })
 check_stopped model log (stop.ModelRefused r) ended old s new tries (inr ends) = subst (λ x. RunPromise (Some (Check model log)) x old new) (sym ends.0)
     (check_no_memory model log old s new tries.only tries.later (ap (λ (x : State). x.out) tries.tried.0.only) ends.1)
@@ -249,3 +250,96 @@ check_stopped model log stop.LogTooLong ended old s new tries ends = subst (λ x
     ends = too_long tries.tried.1.0 tries.tried.1.1 tries.tried.1.2 (tells_on too_long_line old s new (ap (λ (x : State). x.err) tries.only) tries.later ends.1);
   };
 })
+
+-- `show`.
+
+abbrev pub OnlyShows : State → State → Type 0
+OnlyShows old new = new ≡ record old { model = new.model; out = new.out; err = new.err; faults = new.faults }
+
+show_only : (text : Bytes) (old s new : State) → s ≡ record old { model = s.model; out = s.out; faults = s.faults } → Reports text s new → OnlyShows old new
+show_only text old s new only reports =
+    subst (OnlyShows old) (sym (reports.only ∙ ap (λ (x : State). record x { err = new.err; faults = new.faults }) only)) refl
+
+shown_told : (model text : Bytes) (old s new : State) → ShowsPart model old s → Reports text s new → ShowsPart model old new
+shown_told model text old s new (inl out) reports = inl (ap (λ (x : State). x.out) reports.only ∙ out)
+shown_told model text old s new (inr part) reports = inr (part.0, part.1, subst (λ b. AppendedFrom (canonical_text part.0) old.out b) (sym (ap (λ (x : State). x.out) reports.only)) part.2)
+
+pub shown : (model : Bytes) (e : Ended) (old new : State) → TriesShow model (Ok e) old new → RunPromise (Some (Show model)) e old new
+shown model e old new tries = subst (λ x. RunPromise (Some (Show model)) x old new) (sym tries.tried.1) (record {
+  every = succeeded (Show model) end.Done old new refl tries.tried.0 (ap (λ (x : State). x.err) tries.only);
+  its_own = record { only = subst (OnlyShows old) (sym tries.only) refl; ends = tries.tried.2 };
+})
+
+show_no_memory : (model : Bytes) (old s new : State) → s ≡ record old { model = s.model; out = s.out; faults = s.faults } → old.faults ≤ s.faults → s.out ≡ old.out
+    → Reports memory_line s new → RunPromise (Some (Show model)) end.NoMemory old new
+show_no_memory model old s new only later out reports = record {
+  every = no_memory (Show model) old s new (ap (λ (x : State). x.err) only) out later reports;
+  its_own = record { only = show_only memory_line old s new only reports; ends = ap (λ (x : State). x.out) reports.only ∙ out };
+}
+
+pub show_stopped : (model : Bytes) (e : Stop) (ended : Ended) (old s new : State) → TriesShow model (Err e) old s → EndsStopped e ended s new → RunPromise (Some (Show model)) ended old new
+show_stopped model stop.Fault ended old s new tries ends = subst (λ x. RunPromise (Some (Show model)) x old new) (sym ends.0) (record {
+  every = faulted (Show model) old s new (ap (λ (x : State). x.err) tries.only) tries.later tries.tried.0.rose tries.tried.0.calm ends.1;
+  its_own = record { only = show_only fault_line old s new tries.only ends.1; ends = shown_told model fault_line old s new tries.tried.1 ends.1 };
+})
+show_stopped model stop.NoMemory ended old s new tries ends = subst (λ x. RunPromise (Some (Show model)) x old new) (sym ends.0)
+    (show_no_memory model old s new tries.only tries.later tries.tried ends.1)
+show_stopped model (stop.ModelRefused r) ended old s new tries (inl ends) =
+    let reads = tries.tried.0 in
+    subst (λ x. RunPromise (Some (Show model)) x old new) (sym ends.0) (record {
+      every = model_refused (Show model) (refusal_line r) old s new (ap (λ (x : State). x.out) reads.only) reads.later ends.1;
+      its_own = record { only = show_only (refusal_line r) old s new tries.only ends.1; ends = refuses (λ k. FileDeserves old model (Refused k)) old s new reads r tries.tried.2 ends.1 };
+    })
+show_stopped model (stop.ModelRefused r) ended old s new tries (inr ends) = subst (λ x. RunPromise (Some (Show model)) x old new) (sym ends.0)
+    (show_no_memory model old s new tries.only tries.later (ap (λ (x : State). x.out) tries.tried.0.only) ends.1)
+show_stopped model (stop.LogRefused k) ended old s new tries ends = absurd tries.tried
+show_stopped model stop.LogTooLong ended old s new tries ends = absurd tries.tried
+
+-- Words that are no command, and words for which memory was refused.
+
+pub no_command : (old new : State) → Reports usage_line old new → RunPromise None end.Usage old new
+no_command old new reports = record {
+  every = record {
+    later = reports.later;
+    usage = λ enough. (λ h. refl, λ h. refl);
+    unopened = λ h. reports;
+    fault = λ h. cc;
+    calm = λ is there h. cc;
+    kept = λ h. cc;
+    quiet = λ h other. ap (λ (x : State). x.out) reports.only;
+    fault_told = λ h. cc;
+    memory_told = λ h. cc;
+  };
+  its_own = reports;
+}
+
+unread : (command : Option Command) (old new : State) → Reports memory_line old new → EveryRun command end.NoMemory old new
+unread command old new reports = record {
+  later = reports.later;
+  usage = λ enough. absurd (enough refl);
+  unopened = λ h. cc;
+  fault = λ h. cc;
+  calm = λ is there h. cc;
+  kept = λ h. cc;
+  quiet = λ h other. ap (λ (x : State). x.out) reports.only;
+  fault_told = λ h. cc;
+  memory_told = λ h. reports.tells;
+}
+
+unread_own : (command : Option Command) (old new : State) → Reports memory_line old new → CommandPromise command end.NoMemory old new
+unread_own None old new reports = reports
+unread_own (Some (Solve model log limit)) old new reports = record {
+  only = subst (OnlySolves old) (sym reports.only) refl;
+  ends = before_log (subst (OnlyRefuses old) (sym reports.only) refl);
+}
+unread_own (Some (Check model log)) old new reports = record {
+  only = subst (OnlyChecks old) (sym reports.only) refl;
+  ends = ap (λ (x : State). x.out) reports.only;
+}
+unread_own (Some (Show model)) old new reports = record {
+  only = subst (OnlyShows old) (sym reports.only) refl;
+  ends = ap (λ (x : State). x.out) reports.only;
+}
+
+pub words_unread : (command : Option Command) (old new : State) → Reports memory_line old new → RunPromise command end.NoMemory old new
+words_unread command old new reports = record { every = unread command old new reports; its_own = unread_own command old new reports }

@@ -1,3 +1,4 @@
+pub mod Loaded
 pub mod Lines
 pub mod Logged
 pub mod Searched

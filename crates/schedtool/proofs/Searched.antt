@@ -24,15 +24,15 @@ created_empty : (text : Bytes) (before : Option Bytes) → appended text (option
 created_empty text None = refl
 created_empty text (Some bs) = refl
 
-log_promise : (m : Data) (solved : Solved) (lines : List PlainLine) (state : LogState) (before : Option Bytes) → IsSolved m 100000 lines state solved → LogPromise m solved before (option_map (λ bs. plain_log lines) before)
-log_promise m solved lines state before is = record {
+log_promise : (m : Data) (limit : ℕ) (solved : Solved) (lines : List PlainLine) (state : LogState) (before : Option Bytes) → IsSolved m limit lines state solved → LogPromise m limit solved before (option_map (λ bs. plain_log lines) before)
+log_promise m limit solved lines state before is = record {
   lines = lines;
   state = state;
   steps = is.log;
   written = refl;
   accepted = record { lines = lines; state = state; log = is.log; text = refl; verdict = sym is.verdict; nodes = is.nodes };
   schedule = last_shown (refutes_with refutes_none) m lines (opening m) state _ is.log.steps refl is.shown;
-  few = subst (λ n. n ≤ 100000) (sym is.nodes) is.few;
+  few = subst (λ n. n ≤ limit) (sym is.nodes) is.few;
   limited = λ open_one. (
     is.nodes ∙ is.limited open_one,
     is.closed,
@@ -40,14 +40,14 @@ log_promise m solved lines state before is = record {
   );
 }
 
-pub searched : (m : Data) (solved : Solved) (s c t : State) (u : Unit {0}) → Creates (Ok u) s c → Solves m 100000 solved c t → Searches m (Ok solved) s t
-searched m solved s c t u creates solves =
+pub searched : (m : Data) (limit : ℕ) (solved : Solved) (s c t : State) (u : Unit {0}) → Creates (Ok u) s c → Solves m limit solved c t → Searches m limit (Ok solved) s t
+searched m limit solved s c t u creates solves =
     let text : Bytes = plain_log solves.lines in
     let is : t ≡ record s { logged = option_map (λ bs. text) s.logged; created = true } =
     solves.logged
     ∙ ap (λ (x : State). record x { logged = appended text x.logged }) creates.created
     ∙ ap (λ l. record s { logged = l; created = true }) (created_empty text s.logged) in
-    subst (Searches m (Ok solved) s) (sym is) (log_promise m solved solves.lines solves.state s.logged solves.is, solves.is.answer, refl)
+    subst (Searches m limit (Ok solved) s) (sym is) (log_promise m limit solved solves.lines solves.state s.logged solves.is, solves.is.answer, refl)
 
 -- a whole log is a begun one
 whole_part : (text : Bytes) (before after : Option Bytes) → after ≡ option_map (λ bs. text) before → AppendedFrom text (option_map (λ bs. []) before) after
@@ -57,5 +57,5 @@ whole_part text before after is = (
   is ∙ sym (created_empty text before) ∙ ap (λ bs. appended bs (option_map (λ bs. []) before)) (sym (take_all (length text) text (omega arith))),
 )
 
-pub whole_begun : (m : Data) (solved : Solved) (before after : Option Bytes) → LogPromise m solved before after → HoldsBegunLog m before after
-whole_begun m solved before after promise = record { lines = promise.lines; state = promise.state; steps = promise.steps; part = whole_part (plain_log promise.lines) before after promise.written }
+pub whole_begun : (m : Data) (limit : ℕ) (solved : Solved) (before after : Option Bytes) → LogPromise m limit solved before after → HoldsBegunLog m before after
+whole_begun m limit solved before after promise = record { lines = promise.lines; state = promise.state; steps = promise.steps; part = whole_part (plain_log promise.lines) before after promise.written }

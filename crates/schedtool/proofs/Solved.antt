@@ -1,24 +1,29 @@
 -- What solving a file has done, from what its steps did.
-use Rattle.std.proofs.Common.{◌≡◌, ◌≤◌, ◌+◌, ℕ, true, List, [], ◌∷◌, Option, Some, None, Ok, Err, length, take, refl, sym, ap, subst, ◌∙◌, inl, inr, arith}
+use Rattle.std.proofs.Common.{◌≡◌, ◌≤◌, ◌+◌, ℕ, true, List, [], ◌∷◌, Option, Some, None, Result, Ok, Err, length, take, refl, sym, ap, subst, ◌∙◌, inl, inr, arith}
+use Rattle.std.specs.Result.{IsErr, IsErrAnd}
 use Rattle.sched_base.specs.declared.desk.Failed.{Failed}
 use Rattle.sched_base.specs.declared.desk.Port.TheVariants.{Out}
 use Rattle.sched_base.specs.State.{State}
 use Rattle.sched_base.specs.Calls.{Writes, Rose, appended}
 use Rattle.sched_model.specs.declared.types.Solved.{Solved}
 use Rattle.sched_model.specs.Data.{Data}
-use Rattle.cpo_elab.specs.Answers.Answer.{Accepted}
 use Rattle.textline.specs.Lines.{Bytes}
 use Rattle.logtext.specs.Writing.{AppendedFrom}
 use Rattle.solver.specs.Answers.{IsAnswer}
 use Rattle.schedtool.specs.declared.ended.Ended.{Ended}
 use Rattle.schedtool.specs.declared.stop.Stop.{Stop}
 use Rattle.schedtool.specs.declared.stop.Stop.TheVariants as stop
-use Rattle.schedtool.specs.AnswerText.{answer_text}
+use Rattle.sched_text.specs.Answers.{answer_text}
 use Rattle.schedtool.specs.Ended.{is_success}
-use Rattle.schedtool.specs.Runs.{FileDeserves, HasFile, LogPromise, HoldsBegunLog, CutShort, ending_of}
+use Rattle.schedtool.specs.Runs.{FileServes, HasFile, LogPromise, HoldsBegunLog, CutShort, ending_of}
 use Rattle.schedtool.specs.Runs.CutShort.{before_log, in_log, in_answer}
 use Rattle.schedtool.specs.Tries.{OnlyReads, IsFault, BeginsSearch, Searches, TriesSolve}
 use Rattle.schedtool.proofs.Searched.{whole_begun}
+
+-- the error that a `?` hands on
+pub err_is : (r : Result Ended Stop) (s : Stop) → IsErr r → IsErrAnd r (λ x. x ≡ s) → r ≡ Err s
+err_is (Ok e) s is and = cc
+err_is (Err x) s is and = ap (λ y. let r : Result Ended Stop = Err y in r) and
 
 -- the search has begun behind the reading of the model
 pub begun_only : (m : Data) (old s t : State) → OnlyReads old s → BeginsSearch m s t → t ≡ record old { model = t.model; out = t.out; logged = t.logged; created = t.created; faults = t.faults }
@@ -33,85 +38,85 @@ pub begun_out : (m : Data) (old s t : State) → OnlyReads old s → BeginsSearc
 begun_out m old s t reads (inl same) = ap (λ (x : State). x.out) same ∙ ap (λ (x : State). x.out) reads.only
 begun_out m old s t reads (inr begun) = ap (λ (x : State). x.out) begun.1 ∙ ap (λ (x : State). x.out) reads.only
 
-pub begun_cut : (m : Data) (name : Bytes) (old s t : State) → OnlyReads old s → FileDeserves old name (Accepted m) → BeginsSearch m s t → CutShort name old t
-begun_cut m name old s t reads deserved (inl same) =
+pub begun_cut : (m : Data) (limit : ℕ) (name : Bytes) (old s t : State) → OnlyReads old s → FileServes old name m → BeginsSearch m s t → CutShort name limit old t
+begun_cut m limit name old s t reads deserved (inl same) =
     let is : t ≡ record old { model = s.model; faults = t.faults } = same ∙ ap (λ (x : State). record x { faults = t.faults }) reads.only in
-    subst (CutShort name old) (sym is) (before_log refl)
-begun_cut m name old s t reads deserved (inr begun) =
+    subst (CutShort name limit old) (sym is) (before_log refl)
+begun_cut m limit name old s t reads deserved (inr begun) =
     in_log m deserved (ap (λ (x : State). x.created) begun.1) (subst (λ b. HoldsBegunLog m b t.logged) (ap (λ (x : State). x.logged) reads.only) begun.0)
     (begun_out m old s t reads (inr begun))
 
 -- the search came to no answer
-pub stopped : (m : Data) (name : Bytes) (e : Stop) (old s t : State) → OnlyReads old s → s.faults ≡ old.faults → FileDeserves old name (Accepted m) → Searches m (Err e) s t → TriesSolve name (Err e) old t
-stopped m name stop.Fault old s t reads kept deserved says = record {
+pub stopped : (m : Data) (limit : ℕ) (name : Bytes) (e : Stop) (old s t : State) → OnlyReads old s → s.faults ≡ old.faults → FileServes old name m → Searches m limit (Err e) s t → TriesSolve name limit (Err e) old t
+stopped m limit name stop.Fault old s t reads kept deserved says = record {
   only = begun_only m old s t reads says.3;
   later = omega (arith, reads.later, says.2);
   tried = (
     record { rose = subst (λ n. Rose n t.faults) kept says.0; calm = λ calm there. says.1 (ap (λ (x : State). x.calm) reads.only ∙ calm) },
-    begun_cut m name old s t reads deserved says.3,
+    begun_cut m limit name old s t reads deserved says.3,
   );
 }
-stopped m name stop.NoMemory old s t reads kept deserved says = record {
+stopped m limit name stop.NoMemory old s t reads kept deserved says = record {
   only = begun_only m old s t reads says.1;
   later = omega (arith, reads.later, says.0);
-  tried = (begun_out m old s t reads says.1, begun_cut m name old s t reads deserved says.1);
+  tried = (begun_out m old s t reads says.1, begun_cut m limit name old s t reads deserved says.1);
 }
-stopped m name (stop.ModelRefused r) old s t reads kept deserved says = absurd says
-stopped m name (stop.LogRefused k) old s t reads kept deserved says = absurd says
-stopped m name stop.LogTooLong old s t reads kept deserved says = absurd says
+stopped m limit name (stop.ModelRefused r) old s t reads kept deserved says = absurd says
+stopped m limit name (stop.LogRefused k) old s t reads kept deserved says = absurd says
+stopped m limit name stop.LogTooLong old s t reads kept deserved says = absurd says
 
 -- the answer is there: what stands on the desk by then
-answered : (m : Data) (solved : Solved) (old s t : State) → OnlyReads old s → Searches m (Ok solved) s t → t ≡ record old { model = s.model; logged = t.logged; created = true; faults = s.faults }
-answered m solved old s t reads says = says.2 ∙ ap (λ (x : State). record x { logged = t.logged; created = true }) reads.only
+answered : (m : Data) (limit : ℕ) (solved : Solved) (old s t : State) → OnlyReads old s → Searches m limit (Ok solved) s t → t ≡ record old { model = s.model; logged = t.logged; created = true; faults = s.faults }
+answered m limit solved old s t reads says = says.2 ∙ ap (λ (x : State). record x { logged = t.logged; created = true }) reads.only
 
-answered_log : (m : Data) (solved : Solved) (old s t : State) → OnlyReads old s → Searches m (Ok solved) s t → LogPromise m solved old.logged t.logged
-answered_log m solved old s t reads says = subst (λ b. LogPromise m solved b t.logged) (ap (λ (x : State). x.logged) reads.only) says.0
+answered_log : (m : Data) (limit : ℕ) (solved : Solved) (old s t : State) → OnlyReads old s → Searches m limit (Ok solved) s t → LogPromise m limit solved old.logged t.logged
+answered_log m limit solved old s t reads says = subst (λ b. LogPromise m limit solved b t.logged) (ap (λ (x : State). x.logged) reads.only) says.0
 
 -- memory was refused for its text
-pub unspelt : (m : Data) (solved : Solved) (name : Bytes) (old s t : State) → OnlyReads old s → FileDeserves old name (Accepted m) → Searches m (Ok solved) s t → TriesSolve name (Err stop.NoMemory) old t
-unspelt m solved name old s t reads deserved says =
-    let is = answered m solved old s t reads says in
+pub unspelt : (m : Data) (limit : ℕ) (solved : Solved) (name : Bytes) (old s t : State) → OnlyReads old s → FileServes old name m → Searches m limit (Ok solved) s t → TriesSolve name limit (Err stop.NoMemory) old t
+unspelt m limit solved name old s t reads deserved says =
+    let is = answered m limit solved old s t reads says in
     record {
       only = subst (λ x. x ≡ record old { model = x.model; out = x.out; logged = x.logged; created = x.created; faults = x.faults }) (sym is) refl;
       later = subst (λ (x : State). old.faults ≤ x.faults) (sym is) reads.later;
       tried = (
         ap (λ (x : State). x.out) is,
-        in_log m deserved (ap (λ (x : State). x.created) is) (whole_begun m solved old.logged t.logged (answered_log m solved old s t reads says)) (ap (λ (x : State). x.out) is),
+        in_log m deserved (ap (λ (x : State). x.created) is) (whole_begun m limit solved old.logged t.logged (answered_log m limit solved old s t reads says)) (ap (λ (x : State). x.out) is),
       );
     }
 
 -- it was printed
-pub printed : (m : Data) (solved : Solved) (name bytes : Bytes) (ended : Ended) (u : Unit {0}) (old s t w : State) → OnlyReads old s → s.faults ≡ old.faults → FileDeserves old name (Accepted m) → Searches m (Ok solved) s t
-    → bytes ≡ answer_text m solved → Writes Out bytes (Ok u) t w → ended ≡ ending_of solved.answer → is_success ended ≡ true → TriesSolve name (Ok ended) old w
-printed m solved name bytes ended u old s t w reads kept deserved says spelt writes ending success =
+pub printed : (m : Data) (limit : ℕ) (solved : Solved) (name bytes : Bytes) (ended : Ended) (u : Unit {0}) (old s t w : State) → OnlyReads old s → s.faults ≡ old.faults → FileServes old name m → Searches m limit (Ok solved) s t
+    → bytes ≡ answer_text m solved → Writes Out bytes (Ok u) t w → ended ≡ ending_of solved.answer → is_success ended ≡ true → TriesSolve name limit (Ok ended) old w
+printed m limit solved name bytes ended u old s t w reads kept deserved says spelt writes ending success =
     let text : Bytes = answer_text m solved in
     let is : w ≡ record old { model = s.model; out = appended text old.out; logged = t.logged; created = true; faults = s.faults } =
     writes.written
     ∙ ap (λ bs. record t { out = appended bs t.out }) spelt
-    ∙ ap (λ (x : State). record x { out = appended text x.out }) (answered m solved old s t reads says) in
-    subst (TriesSolve name (Ok ended) old) (sym is) (record {
+    ∙ ap (λ (x : State). record x { out = appended text x.out }) (answered m limit solved old s t reads says) in
+    subst (TriesSolve name limit (Ok ended) old) (sym is) (record {
       only = refl;
       later = reads.later;
       tried = (
         kept,
         success,
-        record { m = m; solved = solved; deserved = deserved; answer = says.1; ending = ending; printed = refl; created = refl; log = answered_log m solved old s t reads says },
+        record { m = m; solved = solved; deserved = deserved; answer = says.1; ending = ending; printed = refl; created = refl; log = answered_log m limit solved old s t reads says },
       );
     })
 
 -- or a front part of it
-pub half_printed : (m : Data) (solved : Solved) (name bytes : Bytes) (e : Failed) (old s t w : State) → OnlyReads old s → s.faults ≡ old.faults → FileDeserves old name (Accepted m) → Searches m (Ok solved) s t
-    → bytes ≡ answer_text m solved → Writes Out bytes (Err e) t w → TriesSolve name (Err stop.Fault) old w
-half_printed m solved name bytes e old s t w reads kept deserved says spelt writes =
+pub half_printed : (m : Data) (limit : ℕ) (solved : Solved) (name bytes : Bytes) (e : Failed) (old s t w : State) → OnlyReads old s → s.faults ≡ old.faults → FileServes old name m → Searches m limit (Ok solved) s t
+    → bytes ≡ answer_text m solved → Writes Out bytes (Err e) t w → TriesSolve name limit (Err stop.Fault) old w
+half_printed m limit solved name bytes e old s t w reads kept deserved says spelt writes =
     let text : Bytes = answer_text m solved in
     let n : ℕ = writes.failed.0 in
-    let here = answered m solved old s t reads says in
+    let here = answered m limit solved old s t reads says in
     let faults : t.faults ≡ old.faults = ap (λ (x : State). x.faults) here ∙ kept in
     let is : w ≡ record old { model = s.model; out = appended (take n text) old.out; logged = t.logged; created = true; faults = w.faults } =
     writes.failed.2
     ∙ ap (λ bs. record t { out = appended (take n bs) t.out; faults = w.faults }) spelt
     ∙ ap (λ (x : State). record x { out = appended (take n text) x.out; faults = w.faults }) here in
-    subst (TriesSolve name (Err stop.Fault) old) (sym is) (record {
+    subst (TriesSolve name limit (Err stop.Fault) old) (sym is) (record {
       only = refl;
       later = subst (λ k. k ≤ w.faults) faults writes.count.later;
       tried = (
@@ -119,6 +124,6 @@ half_printed m solved name bytes e old s t w reads kept deserved says spelt writ
           rose = subst (λ k. Rose k w.faults) faults writes.count.failed;
           calm = λ calm there. let ok = writes.calm (ap (λ (x : State). x.calm) here ∙ calm) in cc;
         },
-        in_answer m solved deserved says.1 refl (answered_log m solved old s t reads says) (n, subst (λ bs. n ≤ length bs) spelt writes.failed.1, refl),
+        in_answer m solved deserved says.1 refl (answered_log m limit solved old s t reads says) (n, subst (λ bs. n ≤ length bs) spelt writes.failed.1, refl),
       );
     })

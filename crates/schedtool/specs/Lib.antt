@@ -1,6 +1,4 @@
-pub mod AnswerText
-pub mod Asked
-pub mod Command
+pub mod CheckText
 pub mod Ended
 pub mod LastSchedule
 pub mod Real

@@ -1,10 +1,11 @@
 -- What each step of a command does to the desk on the way.
-use Rattle.std.specs.Prelude.{◌≡◌, ◌⊎◌, ℕ, ◌≤◌, true, List, Result, Ok, Err, Option, IfSome, ⊤}
+use Rattle.std.specs.Prelude.{◌≡◌, ◌⊎◌, ℕ, ◌≤◌, true, false, IsTrue, List, Result, Ok, Err, Option, IfSome, ⊤}
 use Rattle.sched_base.specs.State.{State, with_faults}
 use Rattle.sched_base.specs.Calls.{Rose}
 use Rattle.sched_model.specs.declared.types.Solved.{Solved}
 use Rattle.sched_model.specs.Data.{Data}
 use Rattle.cpo_elab.specs.Answers.Answer.{Accepted, Refused}
+use Rattle.refute_basic.specs.Served.{is_served}
 use Rattle.kernel.specs.Promises.{Means}
 use Rattle.textline.specs.Lines.{Bytes}
 use Rattle.checker.specs.declared.judging.Checked.{Checked}
@@ -17,7 +18,7 @@ use Rattle.schedtool.specs.declared.stop.Stop.{Stop}
 use Rattle.schedtool.specs.declared.stop.Stop.TheVariants as stop
 use Rattle.schedtool.specs.Ended.{is_success}
 use Rattle.schedtool.specs.Told.{Reports, fault_line, memory_line, refusal_line, log_line, too_long_line}
-use Rattle.schedtool.specs.Runs.{IfFile, FileDeserves, HasFile, LogPromise, HoldsBegunLog, AnswerPromise, CutShort, AcceptsLog, AcceptsPart, AcceptPromise, model_bytes}
+use Rattle.schedtool.specs.Runs.{IfFile, FileDeserves, FileServes, FileRefuses, not_served, HasFile, LogPromise, HoldsBegunLog, AnswerPromise, CutShort, AcceptsLog, AcceptsPart, AcceptPromise, ShowsModel, ShowsPart, model_bytes}
 
 -- Reading the model.
 
@@ -31,19 +32,35 @@ pub record IsFault (name : Bytes) (old new : State) : Type 0 where
   pub rose : Rose old.faults new.faults
   pub calm : old.calm ≡ true → HasFile old name → ⊥
 
--- why reading the model came to no answer
+-- why reading the text came to no model
+abbrev pub StopsText : Bytes → State → State → Stop → Type 0
+StopsText name old new stop.Fault = IsFault name old new
+StopsText name old new stop.NoMemory = ⊤
+StopsText name old new (stop.ModelRefused r) = (new.faults ≡ old.faults) × FileDeserves old name (Refused r)
+StopsText name old new _ = ⊥
+
+-- why there is no model that is served
 abbrev pub StopsReading : Bytes → State → State → Stop → Type 0
 StopsReading name old new stop.Fault = IsFault name old new
 StopsReading name old new stop.NoMemory = ⊤
-StopsReading name old new (stop.ModelRefused r) = (new.faults ≡ old.faults) × FileDeserves old name (Refused r)
+StopsReading name old new (stop.ModelRefused r) = (new.faults ≡ old.faults) × FileRefuses old name r
 StopsReading name old new _ = ⊥
 
 abbrev pub Fetches : Bytes → Result (List ℕ) Stop → State → State → Type 0
 Fetches name (Ok bytes) old new = (new.faults ≡ old.faults) × IfFile old name (λ bs. bytes ≡ model_bytes bs)
-Fetches name (Err s) old new = StopsReading name old new s
+Fetches name (Err s) old new = StopsText name old new s
+
+abbrev pub Reads : Bytes → Result Data Stop → State → State → Type 0
+Reads name (Ok m) old new = (new.faults ≡ old.faults) × FileDeserves old name (Accepted m)
+Reads name (Err s) old new = StopsText name old new s
+
+-- the model, where it is served
+abbrev pub Serves : Data → Result Data Stop → Type 0
+Serves m (Ok k) = (k ≡ m) × IsTrue (is_served m)
+Serves m (Err s) = (s ≡ stop.ModelRefused not_served) × (is_served m ≡ false)
 
 abbrev pub Loads : Bytes → Result Data Stop → State → State → Type 0
-Loads name (Ok m) old new = (new.faults ≡ old.faults) × FileDeserves old name (Accepted m)
+Loads name (Ok m) old new = (new.faults ≡ old.faults) × FileServes old name m
 Loads name (Err s) old new = StopsReading name old new s
 
 -- Searching with a log.
@@ -52,23 +69,23 @@ Loads name (Err s) old new = StopsReading name old new s
 abbrev pub BeginsSearch : Data → State → State → Type 0
 BeginsSearch m old new = (new ≡ with_faults new.faults old) ⊎ (HoldsBegunLog m old.logged new.logged × (new ≡ record old { logged = new.logged; created = true; faults = new.faults }))
 
-abbrev pub Searches : Data → Result Solved Stop → State → State → Type 0
-Searches m (Ok solved) old new = LogPromise m solved old.logged new.logged × IsAnswer m solved.answer × (new ≡ record old { logged = new.logged; created = true })
-Searches m (Err stop.Fault) old new = Rose old.faults new.faults × (old.calm ≡ true → ⊥) × (old.faults ≤ new.faults) × BeginsSearch m old new
-Searches m (Err stop.NoMemory) old new = (old.faults ≤ new.faults) × BeginsSearch m old new
-Searches m (Err _) old new = ⊥
+abbrev pub Searches : Data → ℕ → Result Solved Stop → State → State → Type 0
+Searches m limit (Ok solved) old new = LogPromise m limit solved old.logged new.logged × IsAnswer m solved.answer × (new ≡ record old { logged = new.logged; created = true })
+Searches m limit (Err stop.Fault) old new = Rose old.faults new.faults × (old.calm ≡ true → ⊥) × (old.faults ≤ new.faults) × BeginsSearch m old new
+Searches m limit (Err stop.NoMemory) old new = (old.faults ≤ new.faults) × BeginsSearch m old new
+Searches m limit (Err _) old new = ⊥
 
-abbrev pub SolveTried : Bytes → Result Ended Stop → State → State → Type 0
-SolveTried model (Ok ended) old new = (new.faults ≡ old.faults) × (is_success ended ≡ true) × AnswerPromise model ended old new
-SolveTried model (Err stop.Fault) old new = IsFault model old new × CutShort model old new
-SolveTried model (Err stop.NoMemory) old new = (new.out ≡ old.out) × CutShort model old new
-SolveTried model (Err (stop.ModelRefused r)) old new = OnlyReads old new × (new.faults ≡ old.faults) × FileDeserves old model (Refused r)
-SolveTried model (Err _) old new = ⊥
+abbrev pub SolveTried : Bytes → ℕ → Result Ended Stop → State → State → Type 0
+SolveTried model limit (Ok ended) old new = (new.faults ≡ old.faults) × (is_success ended ≡ true) × AnswerPromise model limit ended old new
+SolveTried model limit (Err stop.Fault) old new = IsFault model old new × CutShort model limit old new
+SolveTried model limit (Err stop.NoMemory) old new = (new.out ≡ old.out) × CutShort model limit old new
+SolveTried model limit (Err (stop.ModelRefused r)) old new = OnlyReads old new × (new.faults ≡ old.faults) × FileRefuses old model r
+SolveTried model limit (Err _) old new = ⊥
 
-pub record TriesSolve (model : Bytes) (result : Result Ended Stop) (old new : State) : Type 0 where
+pub record TriesSolve (model : Bytes) (limit : ℕ) (result : Result Ended Stop) (old new : State) : Type 0 where
   pub only : new ≡ record old { model = new.model; out = new.out; logged = new.logged; created = new.created; faults = new.faults }
   pub later : old.faults ≤ new.faults
-  pub tried : SolveTried model result old new
+  pub tried : SolveTried model limit result old new
 
 -- Checking a log.
 
@@ -79,7 +96,7 @@ pub record OnlyJudges (old new : State) : Type 0 where
 
 -- what the log in a file is found to be
 abbrev pub JudgesFile : Data → Bytes → Result Checked Stop → State → State → Type 0
-JudgesFile m log (Ok c) old new = (new.faults ≡ old.faults) × IfFile old log (λ bytes. IsAccepted m (log_bytes bytes) c.verdict c.nodes) × Means m c.verdict
+JudgesFile m log (Ok c) old new = (new.faults ≡ old.faults) × IfFile old log (λ bytes. IsAccepted m (log_bytes bytes) c.verdict c.nodes × (IsTooLong m (log_bytes bytes) → ⊥)) × Means m c.verdict
 JudgesFile m log (Err (stop.LogRefused k)) old new = IfFile old log (λ bytes. IsRefused m (log_bytes bytes) k × (IsTooLong m (log_bytes bytes) → ⊥))
 JudgesFile m log (Err stop.LogTooLong) old new = IfFile old log (λ bytes. IsTooLong m (log_bytes bytes))
 JudgesFile m log (Err stop.Fault) old new = IsFault log old new
@@ -90,14 +107,28 @@ abbrev pub CheckTried : Bytes → Bytes → Result Ended Stop → State → Stat
 CheckTried model log (Ok ended) old new = (new.faults ≡ old.faults) × (ended ≡ end.Accepted) × AcceptPromise model log old new
 CheckTried model log (Err stop.Fault) old new = Rose old.faults new.faults × (old.calm ≡ true → HasFile old model → HasFile old log → ⊥) × AcceptsPart model log old new
 CheckTried model log (Err stop.NoMemory) old new = new.out ≡ old.out
-CheckTried model log (Err (stop.ModelRefused r)) old new = OnlyReads old new × (new.faults ≡ old.faults) × FileDeserves old model (Refused r)
-CheckTried model log (Err (stop.LogRefused k)) old new = (new.out ≡ old.out) × ((m : Data) × FileDeserves old model (Accepted m) × IfFile old log (λ bytes. IsRefused m (log_bytes bytes) k × (IsTooLong m (log_bytes bytes) → ⊥)))
-CheckTried model log (Err stop.LogTooLong) old new = (new.out ≡ old.out) × ((m : Data) × FileDeserves old model (Accepted m) × IfFile old log (λ bytes. IsTooLong m (log_bytes bytes)))
+CheckTried model log (Err (stop.ModelRefused r)) old new = OnlyReads old new × (new.faults ≡ old.faults) × FileRefuses old model r
+CheckTried model log (Err (stop.LogRefused k)) old new = (new.out ≡ old.out) × ((m : Data) × FileServes old model m × IfFile old log (λ bytes. IsRefused m (log_bytes bytes) k × (IsTooLong m (log_bytes bytes) → ⊥)))
+CheckTried model log (Err stop.LogTooLong) old new = (new.out ≡ old.out) × ((m : Data) × FileServes old model m × IfFile old log (λ bytes. IsTooLong m (log_bytes bytes)))
 
 pub record TriesCheck (model log : Bytes) (result : Result Ended Stop) (old new : State) : Type 0 where
   pub only : new ≡ record old { model = new.model; log = new.log; out = new.out; faults = new.faults }
   pub later : old.faults ≤ new.faults
   pub tried : CheckTried model log result old new
+
+-- Showing a model.
+
+abbrev pub ShowTried : Bytes → Result Ended Stop → State → State → Type 0
+ShowTried model (Ok ended) old new = (new.faults ≡ old.faults) × (ended ≡ end.Done) × ShowsModel model old new
+ShowTried model (Err stop.Fault) old new = IsFault model old new × ShowsPart model old new
+ShowTried model (Err stop.NoMemory) old new = new.out ≡ old.out
+ShowTried model (Err (stop.ModelRefused r)) old new = OnlyReads old new × (new.faults ≡ old.faults) × FileDeserves old model (Refused r)
+ShowTried model (Err _) old new = ⊥
+
+pub record TriesShow (model : Bytes) (result : Result Ended Stop) (old new : State) : Type 0 where
+  pub only : new ≡ record old { model = new.model; out = new.out; faults = new.faults }
+  pub later : old.faults ≤ new.faults
+  pub tried : ShowTried model result old new
 
 -- Ending without an answer.
 

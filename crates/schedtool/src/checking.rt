@@ -1,9 +1,9 @@
 ghost use Rattle.std.specs.Prelude.{Some};
-ghost use Rattle.schedtool.specs.Command.Command.{Check};
+ghost use Rattle.command_line.specs.Commands.{Check};
 ghost use Rattle.schedtool.specs.Runs.{RunPromise};
 ghost use Rattle.schedtool.specs.Tries.{JudgesFile, OnlyJudges, TriesCheck};
 
-use crate::answer::check_bytes;
+use crate::accepted::check_bytes;
 use crate::ended::Ended;
 use crate::load::load;
 use crate::report::end_stopped;

@@ -1,7 +1,9 @@
-ghost use Rattle.schedtool.specs.Tries.{Fetches, Loads, OnlyReads};
+ghost use Rattle.schedtool.specs.Tries.{Fetches, Loads, OnlyReads, Reads, Serves};
 
 use crate::stop::Stop;
 use cpo_elab::read_model;
+use cpo_text::Refusal;
+use refute_basic::is_served;
 use sched_base::{Desk, Inlet, List, read_up_to};
 use sched_model::Model;
 use std::alloc::Global;
@@ -20,11 +22,39 @@ fn fetch<D: Desk>(alloc: Global, desk: &mut D, name: &str) -> Result<List<u8>, S
 }
 
 /// Reads the model's file, and the model that it holds.
-pub fn load<D: Desk>(alloc: Global, desk: &mut D, name: &str) -> Result<Model, Stop>
+pub fn read<D: Desk>(alloc: Global, desk: &mut D, name: &str) -> Result<Model, Stop>
     ensures only { OnlyReads (D.state desk.old) (D.state desk.new) }
-    ensures loads { Loads name.now result (D.state desk.old) (D.state desk.new) }
+    ensures reads { Reads name.now result (D.state desk.old) (D.state desk.new) }
 {
     let bytes = fetch(alloc, desk, name)?;
     let model = read_model(alloc, bytes.as_slice())?;
     Ok(model)
+}
+
+/// The refusal of a model that the search doesn't serve.
+const NOT_SERVED: Refusal = Refusal {
+    number: 15,
+    statement: 0,
+    at: 0,
+};
+
+/// The model, if the search serves it.
+fn served(model: Model) -> Result<Model, Stop>
+    ensures { Serves model result }
+{
+    if !is_served(&model) {
+        return Err(Stop::ModelRefused(NOT_SERVED));
+    }
+    Ok(model)
+}
+
+/// Reads the model's file, and the model that it holds, if the search serves that.
+pub fn load<D: Desk>(alloc: Global, desk: &mut D, name: &str) -> Result<Model, Stop>
+    ensures only { OnlyReads (D.state desk.old) (D.state desk.new) }
+    ensures loads { Loads name.now result (D.state desk.old) (D.state desk.new) }
+{
+    match read(alloc, desk, name) {
+        Ok(model) => served(model),
+        Err(stop) => Err(stop),
+    }
 }

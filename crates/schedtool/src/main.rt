@@ -2,18 +2,22 @@
 //! streams, and ends with the status of the ending.
 #![tactic(auto)]
 
-mod answer;
+mod accepted;
 mod checking;
-mod command;
 mod ended;
 mod load;
 mod real;
 mod report;
+#[cfg(test)]
+mod row_tests;
 mod run;
+mod showing;
 mod solving;
 mod stop;
 #[cfg(test)]
 mod tests;
+#[cfg(test)]
+mod word_tests;
 
 pub use ended::Ended;
 pub use real::RealDesk;

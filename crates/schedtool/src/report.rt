@@ -4,7 +4,7 @@ ghost use Rattle.schedtool.specs.Told.{Reports, log_line, refusal_line};
 ghost use Rattle.schedtool.specs.Tries.{EndsStopped};
 ghost use Rattle.schedtool.specs.declared.stop.Stop.TheVariants as stop;
 
-use crate::answer::push_count;
+use crate::accepted::push_count;
 use crate::ended::Ended;
 use crate::stop::Stop;
 use cpo_text::Refusal;

@@ -1,21 +1,20 @@
-ghost use Rattle.std.specs.Prelude.{◌≡◌, true, Some};
-ghost use Rattle.schedtool.specs.Command.Command.{Solve};
+ghost use Rattle.std.specs.Prelude.{◌≡◌, true, Some, IsTrue};
+ghost use Rattle.command_line.specs.Commands.{Solve};
+ghost use Rattle.command_line.specs.Found.{IsLimit};
+ghost use Rattle.refute_basic.specs.Served.{is_served};
 ghost use Rattle.schedtool.specs.Ended.{is_success};
 ghost use Rattle.schedtool.specs.Runs.{RunPromise, ending_of};
 ghost use Rattle.schedtool.specs.Tries.{Searches, TriesSolve};
 
-use crate::answer::answer_bytes;
 use crate::ended::Ended;
 use crate::load::load;
 use crate::report::end_stopped;
 use crate::stop::Stop;
 use sched_base::{Desk, Port};
 use sched_model::{Answer, Model, Solved};
+use sched_text::answer_bytes;
 use solver::solve;
 use std::alloc::Global;
-
-/// How many nodes a search may open.
-const NODES: u64 = 100_000;
 
 fn ending(answer: &Answer) -> Ended
     ensures is { result ≡ ending_of answer.now }
@@ -29,26 +28,36 @@ fn ending(answer: &Answer) -> Ended
     }
 }
 
-/// Solves the model, and writes the log of the search to a new file.
+/// Solves the model, and writes the log of the search to a new file. It opens at most `nodes` nodes.
 fn search_logged<D: Desk>(
     alloc: Global,
     desk: &mut D,
     model: &Model,
     log: &str,
+    nodes: u32,
 ) -> Result<Solved, Stop>
-    ensures { Searches model.now result (D.state desk.old) (D.state desk.new) }
+    requires limit { IsLimit nodes }
+    requires served { IsTrue (is_served model.now) }
+    ensures { Searches model.now nodes result (D.state desk.old) (D.state desk.new) }
 {
     desk.create_log(log)?;
-    let solved = solve(alloc, model, NODES, desk)?;
+    let solved = solve(alloc, model, u64::from(nodes), desk)?;
     Ok(solved)
 }
 
 /// Solves the model that a file holds with a log of the search, and then prints the answer.
-fn solve_file<D: Desk>(alloc: Global, desk: &mut D, name: &str, log: &str) -> Result<Ended, Stop>
-    ensures { TriesSolve name.now result (D.state desk.old) (D.state desk.new) }
+fn solve_file<D: Desk>(
+    alloc: Global,
+    desk: &mut D,
+    name: &str,
+    log: &str,
+    nodes: u32,
+) -> Result<Ended, Stop>
+    requires { IsLimit nodes }
+    ensures { TriesSolve name.now nodes result (D.state desk.old) (D.state desk.new) }
 {
     let model = load(alloc, desk, name)?;
-    let solved = search_logged(alloc, desk, &model, log)?;
+    let solved = search_logged(alloc, desk, &model, log, nodes)?;
     let text = answer_bytes(alloc, &model, &solved)?;
     match desk.write(Port::Out, text.as_slice()) {
         Ok(()) => Ok(ending(&solved.answer)),
@@ -56,11 +65,12 @@ fn solve_file<D: Desk>(alloc: Global, desk: &mut D, name: &str, log: &str) -> Re
     }
 }
 
-/// Carries out `solve`.
-pub fn run_solve<D: Desk>(alloc: Global, desk: &mut D, model: &str, log: &str) -> Ended
-    ensures { RunPromise (Some (Solve model.now log.now)) result (D.state desk.old) (D.state desk.new) }
+/// Carries out `solve`, with at most so many nodes.
+pub fn run_solve<D: Desk>(alloc: Global, desk: &mut D, model: &str, log: &str, nodes: u32) -> Ended
+    requires { IsLimit nodes }
+    ensures { RunPromise (Some (Solve model.now log.now nodes)) result (D.state desk.old) (D.state desk.new) }
 {
-    match solve_file(alloc, desk, model, log) {
+    match solve_file(alloc, desk, model, log, nodes) {
         Ok(ended) => ended,
         Err(stop) => end_stopped(alloc, desk, stop),
     }

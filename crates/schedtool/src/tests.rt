@@ -1,17 +1,16 @@
 use crate::ended::Ended;
 use crate::run::run;
 use cpo_elab::read_model;
-use sched_base::{Desk, File, List, MemDesk, NoMemory};
-use sched_model::{Answer, Assignment, Model, Slot, is_solution, value};
-use solver::solve;
+use sched_base::{File, List, MemDesk, NoMemory};
+use sched_model::{Assignment, Model, Slot, is_solution, value};
 use std::alloc::Global;
 use std::test::Fail;
 
-const SOLVE: [&str; 3] = ["solve", "m", "l"];
+pub const SOLVE: [&str; 3] = ["solve", "m", "l"];
 
-const CHECK: [&str; 3] = ["check", "m", "l"];
+pub const CHECK: [&str; 3] = ["check", "m", "l"];
 
-const TWO_IN_A_ROW: &str =
+pub const TWO_IN_A_ROW: &str =
     "a = intervalVar(size=1,start=0..2,end=0..3); b = intervalVar(size=1,start=0..2,end=0..3); endBeforeStart(a,b); minimize(endOf(b));\n";
 
 const NO_ROOM: &str = "a = intervalVar(size=1,start=0,end=0);\n";
@@ -35,7 +34,7 @@ fn file(alloc: Global, name: u8, bytes: &[u8]) -> Result<File, NoMemory> {
 
 /// A desk with the model in the file `m` and the log in the file `l`, that fails the calls of
 /// these numbers.
-fn desk_with(
+pub fn desk_with(
     alloc: Global,
     model: &[u8],
     log: &[u8],
@@ -51,7 +50,7 @@ fn desk_with(
     MemDesk::new(alloc, files, numbers)
 }
 
-fn run_words(alloc: Global, words: &[&str], desk: &mut MemDesk) -> Result<Ended, NoMemory> {
+pub fn run_words(alloc: Global, words: &[&str], desk: &mut MemDesk) -> Result<Ended, NoMemory> {
     let mut list = Vec::new(alloc);
     for word in words {
         list.push(String::from_str(alloc, word)?)?;
@@ -71,14 +70,14 @@ fn agrees(solved: &[u8], checked: &[u8]) -> bool {
 }
 
 /// Whether `check` accepts the log of `solve` with the same verdict and count.
-fn is_checked(alloc: Global, text: &str, solved: &MemDesk) -> Result<bool, NoMemory> {
+pub fn is_checked(alloc: Global, text: &str, solved: &MemDesk) -> Result<bool, NoMemory> {
     let mut desk = desk_with(alloc, text.as_bytes(), solved.log_bytes(), &[])?;
     let ended = run_words(alloc, &CHECK, &mut desk)?;
     Ok(ended.status() == 0 && agrees(solved.out(), desk.out()))
 }
 
 /// Whether `solve` ends so and its answer begins and ends so, and its log is accepted.
-fn solves(
+pub fn solves(
     alloc: Global,
     text: &str,
     status: u8,
@@ -94,7 +93,7 @@ fn solves(
 }
 
 /// Whether a run over this model and this log ends so and prints this.
-fn prints(
+pub fn prints(
     alloc: Global,
     words: &[&str],
     files: (&str, &str),
@@ -129,29 +128,20 @@ fn answers(rt: HostRuntime) -> Result<(), Fail> {
     Ok(())
 }
 
-fn is_usage(alloc: Global, words: &[&str]) -> Result<bool, NoMemory> {
-    let usage = b"usage: schedtool COMMAND ARGUMENTS\n";
-    prints(alloc, words, ("", ""), 2, b"", usage)
-}
-
 #[test]
-fn words_and_faults(rt: HostRuntime) -> Result<(), Fail> {
+fn missing_log(rt: HostRuntime) -> Result<(), Fail> {
     let alloc = rt.alloc();
-    assert!(rt; is_usage(alloc, &["solve", "m"])?);
-    assert!(rt; is_usage(alloc, &["show", "m", "l"])?);
-    assert!(rt; is_usage(alloc, &["check", "m", "l", "l"])?);
-    let missing = prints(alloc, &["solve", "x", "l"], ("", ""), 4, b"", b"fault\n")?;
-    assert!(rt; missing);
-    let no_log = prints(alloc, &["check", "m", "x"], ("", ""), 4, b"", b"fault\n")?;
-    assert!(rt; no_log);
+    let is_so = prints(alloc, &["check", "m", "x"], ("", ""), 4, b"", b"fault\n")?;
+    assert!(rt; is_so);
     Ok(())
 }
 
 /// Whether a run with one failing call ends in a fault with a front part of what it prints.
-fn faults(alloc: Global, words: &[&str], log: &str, call: u32) -> Result<bool, NoMemory> {
-    let mut calm = desk_with(alloc, b"", log.as_bytes(), &[])?;
+fn faults(alloc: Global, words: &[&str], files: (&str, &str), call: u32) -> Result<bool, NoMemory> {
+    let (model, log) = files;
+    let mut calm = desk_with(alloc, model.as_bytes(), log.as_bytes(), &[])?;
     let _ = run_words(alloc, words, &mut calm)?;
-    let mut desk = desk_with(alloc, b"", log.as_bytes(), &[call])?;
+    let mut desk = desk_with(alloc, model.as_bytes(), log.as_bytes(), &[call])?;
     let ended = run_words(alloc, words, &mut desk)?;
     Ok(ended.status() == 4 && calm.out().starts_with(desk.out()) && desk.out() != calm.out())
 }
@@ -160,35 +150,17 @@ fn faults(alloc: Global, words: &[&str], log: &str, call: u32) -> Result<bool, N
 fn failing_calls(rt: HostRuntime) -> Result<(), Fail> {
     let alloc = rt.alloc();
     for call in 0..5u32 {
-        let is_so = faults(alloc, &SOLVE, "", call)?;
+        let is_so = faults(alloc, &SOLVE, ("", ""), call)?;
         assert!(rt; is_so);
     }
     for call in 0..6u32 {
-        let is_so = faults(alloc, &CHECK, "schedlog 1\nv\nend\n", call)?;
+        let is_so = faults(alloc, &CHECK, ("", "schedlog 1\nv\nend\n"), call)?;
         assert!(rt; is_so);
     }
-    Ok(())
-}
-
-/// Whether a search of one node is cut off at its limit, with nothing found.
-fn is_cut_off(alloc: Global) -> Result<bool, Fail> {
-    let model = read_model(alloc, TWO_IN_A_ROW.as_bytes())?;
-    let mut desk = desk_with(alloc, b"", b"", &[])?;
-    match desk.create_log("l") {
-        Err(_) => Ok(false),
-        Ok(()) => match solve(alloc, &model, 1, &mut desk) {
-            Ok(solved) => {
-                Ok(solved.nodes == 1 && matches!(&solved.answer, Answer::Unfinished(None)))
-            }
-            Err(_) => Ok(false),
-        },
+    for call in 0..4u32 {
+        let is_so = faults(alloc, &["show", "m"], (ONE_PLACE, ""), call)?;
+        assert!(rt; is_so);
     }
-}
-
-#[test]
-fn node_limit(rt: HostRuntime) -> Result<(), Fail> {
-    let is_so = is_cut_off(rt.alloc())?;
-    assert!(rt; is_so);
     Ok(())
 }
 
@@ -298,47 +270,35 @@ fn small_models(rt: HostRuntime) -> Result<(), Fail> {
     Ok(())
 }
 
-/// Texts that are refused, by cause.
-const REFUSED: [&str; 27] = [
-    // a literal above 4611686018427387904
-    "a = intervalVar(size=4611686018427387905);",
-    // a bound outside -1000000000..1000000000
-    "a = intervalVar(start=-1000000001..0);",
-    "a = intervalVar(end=0..1000000001);",
-    "a = intervalVar(size=1000000001);",
-    // a name that is defined already
-    "a = intervalVar(); a = intervalVar();",
-    // a name that no earlier statement defines
-    "endBeforeStart(a,b);",
-    "minimize(endOf(a));",
-    "a = intervalVar(); endBeforeStart(a,b); b = intervalVar();",
-    // a range turned round
-    "a = intervalVar(start=3..2);",
-    // a negative size
-    "a = intervalVar(size=-1..2);",
-    "a = intervalVar(size=-1);",
-    // an argument twice
-    "a = intervalVar(size=1,size=1);",
-    // a second objective
-    "a = intervalVar(); minimize(endOf(a)); minimize(endOf(a));",
-    // a missing semicolon
-    "a = intervalVar()",
-    "a = intervalVar(); minimize(endOf(a))",
-    // a bad byte
-    "a = intervalVar(); $",
-    "a = intervalVar(); \"",
-    "a = intervalVar(); /* ",
-    // a range, or a bracket, in odd places
-    "a = intervalVar(start=1...5);",
-    "a = intervalVar(start=1. .5);",
-    "a = intervalVar(start=..5);",
-    "a = intervalVar(start=1..);",
-    "a = intervalVar(start=+1);",
-    "a = intervalVar((size=1));",
-    // a left-out word as a name, a statement that isn't read yet, a comment
-    "search = intervalVar();",
-    "a = intervalVar(optional);",
-    "a = intervalVar(); // not yet",
+/// Texts that are refused, and how.
+const REFUSED: [(&str, &str); 11] = [
+    ("a = intervalVar(); $", "1 statement 2 at 19"),
+    ("a = intervalVar()", "2 statement 1 at 0"),
+    (
+        "a = intervalVar(size=4611686018427387905);",
+        "3 statement 1 at 0",
+    ),
+    (
+        "a = intervalVar(); a = intervalVar();",
+        "4 statement 2 at 19",
+    ),
+    ("minimize(endOf(a));", "5 statement 1 at 0"),
+    ("a = intervalVar(start=3..2);", "7 statement 1 at 0"),
+    ("a = intervalVar(size=-1);", "8 statement 1 at 0"),
+    (
+        "a = intervalVar(); minimize(endOf(a)); minimize(endOf(a));",
+        "12 statement 3 at 39",
+    ),
+    ("search = intervalVar();", "14 statement 1 at 0"),
+    // not served yet
+    (
+        "a = intervalVar(size=2); noOverlap([a]);",
+        "15 statement 0 at 0",
+    ),
+    (
+        "a = intervalVar(size=2); pulse(a,1) <= 1;",
+        "15 statement 0 at 0",
+    ),
 ];
 
 /// Texts that are read, all of one model: an interval of size 1 that may start from 1 to 5.
@@ -351,21 +311,15 @@ const READ: [&str; 6] = [
     "a = intervalVar(start=00000000000000000000000000000000001..5,size=1);",
 ];
 
-/// Whether the text is refused, and no log written.
-fn is_refused(alloc: Global, text: &str) -> Result<bool, NoMemory> {
+/// Whether the text is refused so by both commands, and no log written.
+fn is_refused(alloc: Global, text: &str, how: &str) -> Result<bool, NoMemory> {
+    let line = format!(in alloc; "model refused {how}\n")?;
     let mut desk = desk_with(alloc, text.as_bytes(), b"", &[])?;
     let ended = run_words(alloc, &SOLVE, &mut desk)?;
-    let told = desk.err() == b"model refused 2 statement 0 at 0\n".as_slice();
-    Ok(ended.status() == 3 && told && desk.out().is_empty() && desk.log_bytes().is_empty())
-}
-
-fn all_refused(alloc: Global, texts: &[&str]) -> Result<bool, NoMemory> {
-    for text in texts {
-        if !is_refused(alloc, text)? {
-            return Ok(false);
-        }
+    if ended.status() != 3 || desk.err() != line.as_bytes() || !desk.log_bytes().is_empty() {
+        return Ok(false);
     }
-    Ok(true)
+    prints(alloc, &CHECK, (text, ""), 3, b"", line.as_bytes())
 }
 
 fn all_read(alloc: Global, texts: &[&str]) -> Result<bool, NoMemory> {
@@ -379,8 +333,73 @@ fn all_read(alloc: Global, texts: &[&str]) -> Result<bool, NoMemory> {
 
 #[test]
 fn refused_texts(rt: HostRuntime) -> Result<(), Fail> {
-    let is_so = all_refused(rt.alloc(), &REFUSED)?;
-    assert!(rt; is_so);
+    for (text, how) in REFUSED {
+        let is_so = is_refused(rt.alloc(), text, how)?;
+        assert!(rt; is_so, "at {text}");
+    }
+    Ok(())
+}
+
+/// Whether the best value is this, and the log is accepted.
+fn has_optimum(alloc: Global, text: &str, v: i64) -> Result<bool, NoMemory> {
+    let line = format!(in alloc; "optimal {v}\n")?;
+    solves(alloc, text, 0, line.as_bytes(), b"\nend\n")
+}
+
+/// The least and the greatest end of `b` under each precedence with a delay of 1.
+const PRECEDENCES: [(&str, i64, i64); 8] = [
+    ("startBeforeStart", 6, 11),
+    ("startBeforeEnd", 4, 11),
+    ("endBeforeStart", 8, 11),
+    ("endBeforeEnd", 6, 11),
+    ("startAtStart", 6, 8),
+    ("startAtEnd", 4, 6),
+    ("endAtStart", 8, 10),
+    ("endAtEnd", 6, 8),
+];
+
+#[test]
+fn precedences(rt: HostRuntime) -> Result<(), Fail> {
+    let alloc = rt.alloc();
+    for (word, least, greatest) in PRECEDENCES {
+        let early = format!(in alloc;
+            "a = intervalVar(size=2,start=3..5,end=5..7); b = intervalVar(size=2,start=0..9,end=2..11); {word}(a,b,1); minimize(endOf(b));\n"
+        )?;
+        assert!(rt; has_optimum(alloc, early.as_str(), least)?, "at {word}");
+        let late = format!(in alloc;
+            "a = intervalVar(size=2,start=3..5,end=5..7); b = intervalVar(size=2,start=0..9,end=2..11); {word}(a,b,1); maximize(endOf(b));\n"
+        )?;
+        assert!(rt; has_optimum(alloc, late.as_str(), greatest)?, "at {word}");
+    }
+    Ok(())
+}
+
+/// Constraints and objectives over `b`, which starts at 0 to 9 and lasts 2, and `a`, which may be
+/// absent.
+const EXPRESSIONS: [(&str, i64); 6] = [
+    ("!(startOf(b) < 4); minimize(endOf(b));", 6),
+    ("2 * startOf(b) >= 7; minimize(endOf(b));", 6),
+    (
+        "presenceOf(a) => startOf(b) >= 5; presenceOf(a); minimize(endOf(b));",
+        7,
+    ),
+    ("startOf(b) == 3 || endOf(b) > 9; minimize(endOf(b));", 5),
+    ("max([startOf(b), 5]) <= 5; maximize(endOf(b));", 7),
+    (
+        "startOf(b) != 9 && sizeOf(a, 4) == 4; maximize(endOf(b) - 10 * presenceOf(a));",
+        10,
+    ),
+];
+
+#[test]
+fn expressions(rt: HostRuntime) -> Result<(), Fail> {
+    let alloc = rt.alloc();
+    for (rest, v) in EXPRESSIONS {
+        let text = format!(in alloc;
+            "b = intervalVar(size=2,start=0..9,end=2..11); a = intervalVar(optional,size=1,start=0..1,end=1..2); {rest}\n"
+        )?;
+        assert!(rt; has_optimum(alloc, text.as_str(), v)?, "at {rest}");
+    }
     Ok(())
 }
 

@@ -2,8 +2,8 @@ use Rattle.std.proofs.Common.{◌≡◌, ◌++◌, Some, rules, sym, subst, SFit
 use Rattle.std.proofs.lemmas.Int.{to_z-of_z}
 use Rattle.kernel.specs.declared.types.Verdict.TheVariants.{Unclosed}
 use Rattle.textline.specs.Lines.{line}
-use Rattle.schedtool.specs.AnswerText.{verdict_words}
-use Rattle.schedtool.proofs.answer.push_unfinished.Goals as goal
+use Rattle.schedtool.specs.CheckText.{verdict_words}
+use Rattle.schedtool.proofs.accepted.push_unfinished.Goals as goal
 
 pub returns-in_ok-push_valued-in-Some : goal.returns-in_ok-push_valued-in-Some
 returns-in_ok-push_valued-in-Some c =
