@@ -35,12 +35,19 @@ while size < limit - 200 and len(uses) < 20000:
     size += len(use)
     i += 1
 open(f"{work}/names", "w").write(text + "".join(uses) + "unknown();")
+# one long sum, one long list of names, and statements of 200 brackets each; doubled functions
+open(f"{work}/sum", "w").write("a=intervalVar();startOf(a)" + "+1" * ((limit - 40) // 2) + ">=0;")
+open(f"{work}/list", "w").write("a=intervalVar();span(a,[a" + ",a" * ((limit - 40) // 2) + "]);")
+deep = "(" * 200 + "1" + ")" * 200 + ";"
+open(f"{work}/nesting", "w").write(deep * (limit // len(deep)))
+doubled = ["f0=step(0,1);"] + [f"f{i + 1}=f{i}+f{i};" for i in range(60)]
+open(f"{work}/doubling", "w").write("".join(doubled))
 # one number as long as the text allows
 open(f"{work}/digits", "w").write("a=intervalVar(size=" + "0" * (limit - 30) + "5);;x;")
 PY
 
 printf '%-12s %12s %10s %14s  %s\n' text bytes seconds 'peak KiB' 'first line printed'
-for name in empty spaces brackets semicolons statements names digits; do
+for name in empty spaces brackets semicolons statements names sum list nesting doubling digits; do
   set +e
   python3 - "$tool" "$work/$name" "$name" <<'PY'
 import os, resource, subprocess, sys, time
