@@ -1,4 +1,5 @@
 pub mod Classes
+pub mod Lone
 pub mod Closing
 pub mod Digits
 pub mod Fronts
@@ -27,6 +28,7 @@ pub mod Pieces
 pub mod Nodes
 pub mod Took
 pub mod Turns
+pub mod Onwards
 pub mod Openings
 pub mod Takings
 pub mod Ends

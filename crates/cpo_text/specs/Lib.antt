@@ -11,6 +11,7 @@ pub mod Rules
 pub mod Lists
 pub mod Calls
 pub mod Levels
+pub mod Onward
 pub mod CallWords
 pub mod Contributions
 pub mod Statements

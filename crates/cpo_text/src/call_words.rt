@@ -4,7 +4,7 @@ ghost use Rattle.cpo_text.specs.Rules.{find_word};
 ghost use Rattle.cpo_text.specs.CallWords.{contributions, definitions, precedences, gatherings, always, senses, constraint_of, is_call, definition_word_at, begins_part, begins_cumul};
 ghost use Rattle.cpo_text.specs.Gives.{ahead};
 
-use crate::levels::{gather_of, measure_of};
+use crate::level_words::{gather_of, measure_of};
 use crate::parts::{behind, next_name};
 use crate::place::Place;
 use crate::tree::{Extreme, Hierarchy, Order, Sense, Temporal};

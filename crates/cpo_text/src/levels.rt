@@ -1,137 +1,23 @@
 //! Expressions, level by level. The fuel bounds how often rules call rules: a text that passes the
-//! early tests never uses it up.
-ghost use Rattle.std.specs.Prelude.{◌≡◌, ◌<◌, [], ◌∷◌, length, option_map, IfOk, IfErr};
-ghost use Rattle.cpo_text.specs.Expressions.{link_sign};
-ghost use Rattle.cpo_text.specs.Levels.{read, inner, node, linked, neg, total, in_front, comparison_of, comparison_at, measure_of, gather_of, measured_at, gathered_at, gathered_behind, gathered_none, call_of, grouped_at};
+//! early tests never uses it up. Most expressions begin with an atom: it is read at once, and not
+//! down through the levels, which would look at each token again and again.
+ghost use Rattle.std.specs.Prelude.{◌≡◌, ◌≤◌, ◌-◌, [], ◌∷◌, Some};
+ghost use Rattle.cpo_text.specs.Places.{said_word};
+ghost use Rattle.cpo_text.specs.Levels.{read, inner, in_front, measured_at, gathered_at, gathered_behind, gathered_none, call_of, grouped_at};
+ghost use Rattle.cpo_text.specs.Onward.{linked_on, total_on, compared_on, implied_on, all_on, grouped_on};
 ghost use Rattle.cpo_text.specs.Levels.Task.{logic as logic_task, chain as chain_task, unit as unit_task, sum as sum_task, term as term_task, atom as atom_task, more as more_task, terms as terms_task, items as items_task};
 ghost use Rattle.cpo_text.specs.Gives.{ahead, Gives, GivesOne};
-ghost use Rattle.cpo_text.specs.declared.fault.Fault.TheVariants.{NoMemory as Memory};
 
-use crate::expression::{Comparison, Gather, Link, Logic, Measure};
+use crate::built::{group, linked, negated, total};
+use crate::expression::{Gather, Link, Logic, Measure};
 use crate::fault::Fault;
 use crate::grammar::enclosed;
+use crate::level_words::{comparison, gather_of, measure_of, plain, sign_of};
 use crate::parts::{behind, copy, int_behind, name, sign};
 use crate::place::Place;
 use crate::word::Word;
-use sched_base::{Boxed, List, NoMemory};
+use sched_base::{Boxed, List};
 use std::alloc::Global;
-
-fn sign_of(link: Link) -> &'static [u8]
-    ensures { result.now ≡ link_sign link }
-{
-    match link {
-        Link::Times => b"*",
-        Link::And => b"&&",
-        Link::Or => b"||",
-    }
-}
-
-fn comparison_of(sign: &[u8]) -> Option<Comparison>
-    ensures { result ≡ comparison_of sign.now }
-{
-    if sign == b"==".as_slice() {
-        return Some(Comparison::Equal);
-    }
-    if sign == b"!=".as_slice() {
-        return Some(Comparison::NotEqual);
-    }
-    if sign == b"<=".as_slice() {
-        return Some(Comparison::AtMost);
-    }
-    if sign == b">=".as_slice() {
-        return Some(Comparison::AtLeast);
-    }
-    if sign == b"<".as_slice() {
-        return Some(Comparison::Below);
-    }
-    if sign == b">".as_slice() {
-        return Some(Comparison::Above);
-    }
-    None
-}
-
-/// The sign of a comparison, if it comes next, and the place behind it.
-#[tactic(auto, unfolding(crate::specs::Gives::ahead, crate::specs::Levels::comparison_at))]
-fn comparison(place: Place<'_>) -> Option<(Comparison, Place<'_>)>
-    ensures { option_map (λ x. (x.0, ahead x.1)) result ≡ comparison_at (ahead place.entry) }
-{
-    let (token, rest) = place.next()?;
-    match token.word {
-        Word::Sign(bytes) => {
-            let comparison = comparison_of(bytes)?;
-            Some((comparison, rest))
-        }
-        _ => None,
-    }
-}
-
-pub fn measure_of(word: &[u8]) -> Option<Measure>
-    ensures { result ≡ measure_of word.now }
-{
-    if word == b"startOf".as_slice() {
-        return Some(Measure::StartOf);
-    }
-    if word == b"endOf".as_slice() {
-        return Some(Measure::EndOf);
-    }
-    if word == b"sizeOf".as_slice() {
-        return Some(Measure::SizeOf);
-    }
-    if word == b"lengthOf".as_slice() {
-        return Some(Measure::LengthOf);
-    }
-    None
-}
-
-pub fn gather_of(word: &[u8]) -> Option<Gather>
-    ensures { result ≡ gather_of word.now }
-{
-    if word == b"max".as_slice() {
-        return Some(Gather::Max);
-    }
-    if word == b"min".as_slice() {
-        return Some(Gather::Min);
-    }
-    if word == b"sum".as_slice() {
-        return Some(Gather::Sum);
-    }
-    None
-}
-
-/// One operand is itself.
-fn linked(link: Link, operands: List<Logic>) -> Result<Logic, Fault>
-    requires { 0 < length operands }
-    ensures ok { IfOk result (λ e. node (linked link) operands ≡ e ∷ []) }
-    ensures err { IfErr result (λ e. e ≡ Memory) }
-{
-    if operands.len() > 1 {
-        return Ok(Logic::Linked(link, operands));
-    }
-    match operands.into_vec().pop() {
-        Some(one) => Ok(one),
-        None => Err(Fault::NoMemory),
-    }
-}
-
-fn total(operands: List<Logic>) -> Result<Logic, Fault>
-    requires { 0 < length operands }
-    ensures ok { IfOk result (λ e. node total operands ≡ e ∷ []) }
-    ensures err { IfErr result (λ e. e ≡ Memory) }
-{
-    if operands.len() > 1 {
-        return Ok(Logic::Sum(operands));
-    }
-    match operands.into_vec().pop() {
-        Some(one) => Ok(one),
-        None => Err(Fault::NoMemory),
-    }
-}
-
-fn negated(alloc: Global, product: Logic) -> Result<Logic, NoMemory>
-    ensures { IfOk result (λ e. e ≡ neg product) }
-{
-    Ok(Logic::Neg(Boxed::new(alloc, product)?))
-}
 
 #[tactic(auto, unfolding(crate::specs::Levels::measured_at))]
 fn measured(alloc: Global, measure: Measure, place: Place<'_>) -> Result<(Logic, Place<'_>), Fault>
@@ -182,6 +68,7 @@ fn gathered(
 
 /// What a call word begins.
 #[cycle(levels)]
+#[inline(never)]
 #[tactic(auto, unfolding(crate::specs::Levels::call_of))]
 fn call<'a>(
     alloc: Global,
@@ -204,15 +91,30 @@ fn call<'a>(
     }
 }
 
-/// What stands behind a round bracket.
+/// The atom that this word begins.
 #[cycle(levels)]
-#[tactic(auto, unfolding(crate::specs::Levels::grouped_at))]
-fn grouped(alloc: Global, fuel: u32, place: Place<'_>) -> Result<(Logic, Place<'_>), Fault>
-    ensures { GivesOne result (grouped_at (read fuel logic_task) (ahead place.entry)) }
+fn atom_of<'a>(
+    alloc: Global,
+    fuel: u32,
+    word: Word<'_>,
+    place: Place<'a>,
+) -> Result<(Logic, Place<'a>), Fault>
+    ensures { GivesOne result (read fuel atom_task (said_word word.entry ∷ ahead place.entry)) }
 {
-    let (inner, rest) = logic(alloc, fuel, place)?;
-    let rest = sign(b")", rest)?;
-    Ok((Logic::Group(Boxed::new(alloc, inner)?), rest))
+    if fuel == 0 {
+        return Err(Fault::Outside);
+    }
+    match word {
+        Word::Number(value) => Ok((Logic::Lit(value), place)),
+        Word::Name(word) => call(alloc, fuel - 1, word, place),
+        Word::Sign(bytes) => {
+            if b"(".as_slice() == bytes {
+                return grouped(alloc, fuel - 1, place);
+            }
+            Err(Fault::Outside)
+        }
+        Word::Quoted => Err(Fault::Outside),
+    }
 }
 
 #[cycle(levels)]
@@ -224,17 +126,7 @@ fn atom(alloc: Global, fuel: u32, place: Place<'_>) -> Result<(Logic, Place<'_>)
         return Err(Fault::Outside);
     }
     match place.next() {
-        Some((token, rest)) => match token.word {
-            Word::Number(value) => Ok((Logic::Lit(value), rest)),
-            Word::Name(word) => call(alloc, fuel - 1, word, rest),
-            Word::Sign(bytes) => {
-                if b"(".as_slice() == bytes {
-                    return grouped(alloc, fuel - 1, rest);
-                }
-                Err(Fault::Outside)
-            }
-            Word::Quoted => Err(Fault::Outside),
-        },
+        Some((token, rest)) => atom_of(alloc, fuel, token.word, rest),
         None => Err(Fault::Outside),
     }
 }
@@ -285,6 +177,29 @@ fn operands(
     Err(Fault::Outside)
 }
 
+/// The first operand of a link, alone or with others behind it.
+#[cycle(levels)]
+fn linked_on(
+    alloc: Global,
+    fuel: u32,
+    link: Link,
+    first: Logic,
+    place: Place<'_>,
+) -> Result<(Logic, Place<'_>), Fault>
+    ensures { GivesOne result (linked_on fuel link (Some (first ∷ [], ahead place.entry))) }
+{
+    if fuel == 0 {
+        return Err(Fault::Outside);
+    }
+    match behind(sign_of(link), place) {
+        None => Ok((first, place)),
+        Some(_) => {
+            let (operands, rest) = operands(alloc, fuel, link, first, place)?;
+            Ok((linked(link, operands)?, rest))
+        }
+    }
+}
+
 /// One operand of a link, or more.
 #[cycle(levels)]
 fn chain(
@@ -299,8 +214,7 @@ fn chain(
         return Err(Fault::Outside);
     }
     let (first, rest) = operand(alloc, fuel - 1, link, place)?;
-    let (operands, rest) = operands(alloc, fuel - 1, link, first, rest)?;
-    Ok((linked(link, operands)?, rest))
+    linked_on(alloc, fuel - 1, link, first, rest)
 }
 
 /// A product, or one under a minus.
@@ -355,6 +269,42 @@ fn terms(
     Err(Fault::Outside)
 }
 
+/// The first operand of a sum with those behind it.
+#[cycle(levels)]
+fn summed(
+    alloc: Global,
+    fuel: u32,
+    first: Logic,
+    place: Place<'_>,
+) -> Result<(Logic, Place<'_>), Fault>
+    ensures { GivesOne result (total_on fuel (Some (first ∷ [], ahead place.entry))) }
+{
+    let (operands, rest) = terms(alloc, fuel, first, place)?;
+    Ok((total(operands)?, rest))
+}
+
+/// The first operand of a sum, alone or with others behind it.
+#[cycle(levels)]
+fn total_on(
+    alloc: Global,
+    fuel: u32,
+    first: Logic,
+    place: Place<'_>,
+) -> Result<(Logic, Place<'_>), Fault>
+    ensures { GivesOne result (total_on fuel (Some (first ∷ [], ahead place.entry))) }
+{
+    if fuel == 0 {
+        return Err(Fault::Outside);
+    }
+    if let Some(_) = behind(b"+", place) {
+        return summed(alloc, fuel, first, place);
+    }
+    match behind(b"-", place) {
+        None => Ok((first, place)),
+        Some(_) => summed(alloc, fuel, first, place),
+    }
+}
+
 #[cycle(levels)]
 fn sum(alloc: Global, fuel: u32, place: Place<'_>) -> Result<(Logic, Place<'_>), Fault>
     ensures { GivesOne result (read fuel sum_task (ahead place.entry)) }
@@ -363,8 +313,28 @@ fn sum(alloc: Global, fuel: u32, place: Place<'_>) -> Result<(Logic, Place<'_>),
         return Err(Fault::Outside);
     }
     let (first, rest) = term(alloc, fuel - 1, place)?;
-    let (operands, rest) = terms(alloc, fuel - 1, first, rest)?;
-    Ok((total(operands)?, rest))
+    total_on(alloc, fuel - 1, first, rest)
+}
+
+/// A sum, alone or compared with the one behind it.
+#[cycle(levels)]
+fn compared_on(
+    alloc: Global,
+    fuel: u32,
+    left: Logic,
+    place: Place<'_>,
+) -> Result<(Logic, Place<'_>), Fault>
+    ensures { GivesOne result (compared_on fuel (Some (left ∷ [], ahead place.entry))) }
+{
+    match comparison(place) {
+        None => Ok((left, place)),
+        Some((comparison, next)) => {
+            let (right, rest) = sum(alloc, fuel, next)?;
+            let left = Boxed::new(alloc, left)?;
+            let right = Boxed::new(alloc, right)?;
+            Ok((Logic::Compare(comparison, left, right), rest))
+        }
+    }
 }
 
 /// A negation, a comparison, or a sum alone.
@@ -380,15 +350,155 @@ fn unit(alloc: Global, fuel: u32, place: Place<'_>) -> Result<(Logic, Place<'_>)
         return Ok((Logic::Not(Boxed::new(alloc, inner)?), rest));
     }
     let (left, rest) = sum(alloc, fuel - 1, place)?;
-    match comparison(rest) {
-        None => Ok((left, rest)),
-        Some((comparison, next)) => {
-            let (right, rest) = sum(alloc, fuel - 1, next)?;
+    compared_on(alloc, fuel - 1, left, rest)
+}
+
+/// What is not an implication, alone or with what it implies behind it.
+#[cycle(levels)]
+fn implied_on(
+    alloc: Global,
+    fuel: u32,
+    left: Logic,
+    place: Place<'_>,
+) -> Result<(Logic, Place<'_>), Fault>
+    ensures { GivesOne result (implied_on fuel (Some (left ∷ [], ahead place.entry))) }
+{
+    match behind(b"=>", place) {
+        None => Ok((left, place)),
+        Some(next) => {
+            let (right, rest) = logic(alloc, fuel, next)?;
             let left = Boxed::new(alloc, left)?;
             let right = Boxed::new(alloc, right)?;
-            Ok((Logic::Compare(comparison, left, right), rest))
+            Ok((Logic::Implies(left, right), rest))
         }
     }
+}
+
+/// An expression, down through the levels.
+#[cycle(levels)]
+fn leveled(alloc: Global, fuel: u32, place: Place<'_>) -> Result<(Logic, Place<'_>), Fault>
+    ensures { GivesOne result (read fuel logic_task (ahead place.entry)) }
+{
+    if fuel == 0 {
+        return Err(Fault::Outside);
+    }
+    let (left, rest) = chain(alloc, fuel - 1, Link::Or, place)?;
+    implied_on(alloc, fuel - 1, left, rest)
+}
+
+/// An expression whose first atom is read, up through the levels.
+#[cycle(levels)]
+#[inline(never)]
+#[tactic(auto, unfolding(crate::specs::Onward::all_on))]
+fn all_on(
+    alloc: Global,
+    fuel: u32,
+    first: Logic,
+    place: Place<'_>,
+) -> Result<(Logic, Place<'_>), Fault>
+    requires { 8 ≤ fuel }
+    ensures { GivesOne result (all_on fuel (Some (first ∷ [], ahead place.entry))) }
+{
+    let (one, rest) = linked_on(alloc, fuel - 7, Link::Times, first, place)?;
+    let (one, rest) = total_on(alloc, fuel - 5, one, rest)?;
+    let (one, rest) = compared_on(alloc, fuel - 4, one, rest)?;
+    let (one, rest) = linked_on(alloc, fuel - 3, Link::And, one, rest)?;
+    let (one, rest) = linked_on(alloc, fuel - 2, Link::Or, one, rest)?;
+    implied_on(alloc, fuel - 1, one, rest)
+}
+
+/// What stands behind a round bracket, the first atom in which is read, up through the levels.
+#[cycle(levels)]
+#[inline(never)]
+fn group_on(
+    alloc: Global,
+    fuel: u32,
+    first: Logic,
+    place: Place<'_>,
+) -> Result<(Logic, Place<'_>), Fault>
+    requires { 8 ≤ fuel }
+    ensures { GivesOne result (grouped_on (all_on fuel (Some (first ∷ [], ahead place.entry)))) }
+{
+    let (inner, rest) = all_on(alloc, fuel, first, place)?;
+    let rest = sign(b")", rest)?;
+    Ok((Logic::Group(Boxed::new(alloc, inner)?), rest))
+}
+
+/// What stands behind a round bracket, the first atom in which is read. Nothing goes on at the
+/// closing bracket.
+#[cycle(levels)]
+#[tactic(auto, using(crate::proofs::Onwards::closed))]
+fn closed(
+    alloc: Global,
+    fuel: u32,
+    first: Logic,
+    place: Place<'_>,
+) -> Result<(Logic, Place<'_>), Fault>
+    requires { 8 ≤ fuel }
+    ensures { GivesOne result (grouped_on (all_on fuel (Some (first ∷ [], ahead place.entry)))) }
+{
+    match behind(b")", place) {
+        Some(rest) => Ok((group(alloc, first)?, rest)),
+        None => group_on(alloc, fuel, first, place),
+    }
+}
+
+/// What stands behind a round bracket and begins with the atom that this word begins.
+#[cycle(levels)]
+#[tactic(auto, unfolding(crate::specs::Onward::all_on))]
+fn opened<'a>(
+    alloc: Global,
+    fuel: u32,
+    word: Word<'_>,
+    place: Place<'a>,
+) -> Result<(Logic, Place<'a>), Fault>
+    requires { 8 ≤ fuel }
+    ensures { GivesOne result (grouped_on (all_on fuel (read (fuel - 7) atom_task (said_word word.entry ∷ ahead place.entry)))) }
+{
+    let (first, rest) = atom_of(alloc, fuel - 7, word, place)?;
+    closed(alloc, fuel, first, rest)
+}
+
+/// What stands behind a round bracket, down through the levels.
+#[cycle(levels)]
+#[inline(never)]
+#[tactic(auto, unfolding(crate::specs::Levels::grouped_at))]
+fn leveled_group(alloc: Global, fuel: u32, place: Place<'_>) -> Result<(Logic, Place<'_>), Fault>
+    ensures { GivesOne result (grouped_at (read fuel logic_task) (ahead place.entry)) }
+{
+    let (inner, rest) = leveled(alloc, fuel, place)?;
+    let rest = sign(b")", rest)?;
+    Ok((Logic::Group(Boxed::new(alloc, inner)?), rest))
+}
+
+/// What stands behind a round bracket.
+#[cycle(levels)]
+fn grouped(alloc: Global, fuel: u32, place: Place<'_>) -> Result<(Logic, Place<'_>), Fault>
+    ensures { GivesOne result (grouped_at (read fuel logic_task) (ahead place.entry)) }
+{
+    if fuel < 8 {
+        return leveled_group(alloc, fuel, place);
+    }
+    match plain(place) {
+        None => leveled_group(alloc, fuel, place),
+        Some((token, rest)) => opened(alloc, fuel, token.word, rest),
+    }
+}
+
+/// An expression that begins with the atom that this word begins.
+#[cycle(levels)]
+#[tactic(auto, unfolding(crate::specs::Onward::all_on))]
+fn begun<'a>(
+    alloc: Global,
+    fuel: u32,
+    word: Word<'_>,
+    place: Place<'a>,
+) -> Result<(Logic, Place<'a>), Fault>
+    requires { 8 ≤ fuel }
+    ensures { GivesOne result (all_on fuel (read (fuel - 7) atom_task (said_word word.entry ∷ ahead place.entry))) }
+{
+    let (first, rest) = atom_of(alloc, fuel - 7, word, place)?;
+    all_on(alloc, fuel, first, rest)
 }
 
 /// An expression.
@@ -396,18 +506,12 @@ fn unit(alloc: Global, fuel: u32, place: Place<'_>) -> Result<(Logic, Place<'_>)
 pub fn logic(alloc: Global, fuel: u32, place: Place<'_>) -> Result<(Logic, Place<'_>), Fault>
     ensures { GivesOne result (read fuel logic_task (ahead place.entry)) }
 {
-    if fuel == 0 {
-        return Err(Fault::Outside);
+    if fuel < 8 {
+        return leveled(alloc, fuel, place);
     }
-    let (left, rest) = chain(alloc, fuel - 1, Link::Or, place)?;
-    match behind(b"=>", rest) {
-        None => Ok((left, rest)),
-        Some(next) => {
-            let (right, rest) = logic(alloc, fuel - 1, next)?;
-            let left = Boxed::new(alloc, left)?;
-            let right = Boxed::new(alloc, right)?;
-            Ok((Logic::Implies(left, right), rest))
-        }
+    match plain(place) {
+        None => leveled(alloc, fuel, place),
+        Some((token, rest)) => begun(alloc, fuel, token.word, rest),
     }
 }
 

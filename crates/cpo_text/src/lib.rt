@@ -2,6 +2,7 @@
 //! told as its words alone tell it; what its names mean is settled above.
 #![tactic(auto)]
 
+mod built;
 mod call_words;
 mod calls;
 mod contributions;
@@ -10,6 +11,7 @@ mod expression;
 mod fault;
 mod grammar;
 mod laws;
+mod level_words;
 mod levels;
 mod lists;
 mod parts;

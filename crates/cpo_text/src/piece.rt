@@ -1,4 +1,4 @@
-ghost use Rattle.std.specs.Prelude.{◌≡◌, length, IfSome, ◌≤◌};
+ghost use Rattle.std.specs.Prelude.{◌≡◌, ◌==◌, ◌||◌, length, IfSome, ◌≤◌};
 ghost use Rattle.std.specs.List.{prefix_len};
 ghost use Rattle.cpo_text.specs.Tokens.{is_letter, is_digit, is_name_byte, is_blank, is_sign_byte, is_sign_pair, is_on_line, is_comment, begins};
 ghost use Rattle.cpo_text.specs.Lexing.{quote_len, close_len, slash_at, sign_at, piece_from, piece_at};
@@ -198,13 +198,25 @@ fn piece_from(first: u8, rest: &[u8]) -> Option<(Piece, usize)>
     }
 }
 
+/// The signs that stand most often, and go on with no other byte: they are told apart first.
+fn is_lone(b: u8) -> bool
+    ensures { result ≡ (b == 40 || b == 41 || b == 44 || b == 59) }
+{
+    b == b'(' || b == b')' || b == b',' || b == b';'
+}
+
 /// The longest piece at the front, with its length.
-#[tactic(auto, unfolding(crate::specs::Lexing::piece_at))]
+#[tactic(auto, using(crate::proofs::Lone::lone_sign), unfolding(crate::specs::Lexing::piece_at))]
 pub fn piece_at(bytes: &[u8]) -> Option<(Piece, usize)>
     ensures { result ≡ piece_at bytes.now }
 {
     match bytes {
         [] => None,
-        [first, rest @ ..] => piece_from(*first, rest),
+        [first, rest @ ..] => {
+            if is_lone(*first) {
+                return Some((Piece::Sign, 1));
+            }
+            piece_from(*first, rest)
+        }
     }
 }

@@ -1,5 +1,6 @@
 use Rattle.std.proofs.Common.{◌-◌, ◌∙◌, arith}
 use Rattle.cpo_text.specs.Gives.{ahead}
+use Rattle.cpo_text.proofs.Onwards.{gives_on, gives_group}
 use Rattle.cpo_text.proofs.Turns.{turn_more, turn_plus, turn_minus, turn_items}
 use Rattle.cpo_text.proofs.levels.+levels.Goals as goal
 
@@ -34,3 +35,9 @@ items-loop-left-preserved t c = record {
       (omega (arith, c.loop-left-test.true)) c.in_ok-one.ensures c.in-Some.ensures) ∙ c.loop-left.invariant.same;
   within = omega (arith, c.loop-left.invariant.within);
 }
+
+pub logic-returns-in-Some : goal.logic-returns-in-Some
+logic-returns-in-Some t c = gives_on _ _ _ _ _ (omega (arith, c.if-fuel-lt8.false)) c.in-Some.ensures.no_not c.in-Some.ensures.no_minus c.in-Some.ensures.is c.begun.ensures
+
+pub grouped-returns-in-Some : goal.grouped-returns-in-Some
+grouped-returns-in-Some t c = gives_group _ _ _ _ _ (omega (arith, c.if-fuel-lt8.false)) c.in-Some.ensures.no_not c.in-Some.ensures.no_minus c.in-Some.ensures.is c.opened.ensures
