@@ -1,7 +1,11 @@
 -- Lines written word by word, each word behind a space.
-use Rattle.std.proofs.Common.{◌≡◌, ◌∙◌, List, [], ◌∷◌, ◌++◌, map, refl, sym, ap, append_assoc}
+use Rattle.std.proofs.Common.{◌≡◌, ◌∙◌, List, [], ◌∷◌, ◌++◌, map, refl, sym, ap, append_assoc, append-nil}
 use Rattle.std.specs.List.{flat_map}
+use Rattle.sched_base.specs.State.{State}
 use Rattle.textline.specs.Lines.{Bytes, line}
+use Rattle.sched_text.specs.declared.page.Page.{Page}
+use Rattle.sched_text.specs.Printing.{Prints}
+use Rattle.sched_text.proofs.Printing.{both, «as»}
 
 abbrev pub spaced : List Bytes → Bytes
 spaced ws = flat_map (λ w. 32 ∷ w) ws
@@ -22,26 +26,12 @@ spaced_flat : {A : Type 0} (f : A → List Bytes) (xs : List A) → flat_map (λ
 spaced_flat f [] = refl
 spaced_flat f (x ∷ xs) = ap (λ t. spaced (f x) ++ t) (spaced_flat f xs) ∙ sym (spaced_append (f x) (flat_map f xs))
 
-four_more : (old a b c : Bytes) → ((old ++ (a ++ 32 ∷ [])) ++ b) ++ (c ++ 10 ∷ []) ≡ old ++ (a ++ 32 ∷ (b ++ (c ++ 10 ∷ [])))
-four_more old a b c = simp append_assoc
+-- a word, and the others each behind a space
+pub line_of_items : {A : Type 0} (f : A → Bytes) (xs : List A) (c : Bytes) → c ++ (flat_map (λ x. 32 ∷ f x) xs ++ 10 ∷ []) ≡ line (c ∷ map f xs)
+line_of_items f xs c = ap (λ t. c ++ (t ++ 10 ∷ [])) (spaced_map f xs) ∙ sym (line_is c (map f xs))
 
--- a word and a space, a word, and the others each behind a space
-line_put : (a b : Bytes) (ws : List Bytes) (old v w u new : Bytes) → v ≡ old ++ (a ++ 32 ∷ []) → w ≡ v ++ b → u ≡ w ++ spaced ws → new ≡ u ++ 10 ∷ [] → new ≡ old ++ line (a ∷ b ∷ ws)
-line_put a b ws old v w u new first second others end =
-    end ∙ ap (λ t. t ++ 10 ∷ []) (others ∙ ap (λ t. t ++ spaced ws) (second ∙ ap (λ t. t ++ b) first))
-    ∙ append_assoc ((old ++ (a ++ 32 ∷ [])) ++ b) (spaced ws) (10 ∷ [])
-    ∙ four_more old a b (spaced ws)
-    ∙ ap (λ t. old ++ (a ++ 32 ∷ t)) (sym (line_is b ws))
+pub line_of_lists : {A : Type 0} (f : A → List Bytes) (xs : List A) (c : Bytes) → c ++ (flat_map (λ x. spaced (f x)) xs ++ 10 ∷ []) ≡ line (c ∷ flat_map f xs)
+line_of_lists f xs c = ap (λ t. c ++ (t ++ 10 ∷ [])) (spaced_flat f xs) ∙ sym (line_is c (flat_map f xs))
 
-pub line_of_items : {A : Type 0} (f : A → Bytes) (xs : List A) (a b old v w u new : Bytes) → v ≡ old ++ (a ++ 32 ∷ []) → w ≡ v ++ b → u ≡ w ++ flat_map (λ x. 32 ∷ f x) xs → new ≡ u ++ 10 ∷ []
-    → new ≡ old ++ line (a ∷ b ∷ map f xs)
-line_of_items f xs a b old v w u new first second others end = line_put a b (map f xs) old v w u new first second (others ∙ ap (λ t. w ++ t) (spaced_map f xs)) end
-
-pub line_of_lists : {A : Type 0} (f : A → List Bytes) (xs : List A) (a b old v w u new : Bytes) → v ≡ old ++ (a ++ 32 ∷ []) → w ≡ v ++ b → u ≡ w ++ flat_map (λ x. spaced (f x)) xs → new ≡ u ++ 10 ∷ []
-    → new ≡ old ++ line (a ∷ b ∷ flat_map f xs)
-line_of_lists f xs a b old v w u new first second others end = line_put a b (flat_map f xs) old v w u new first second (others ∙ ap (λ t. w ++ t) (spaced_flat f xs)) end
-
--- the lines of an answer
-pub answer_put : (a b c d v0 v1 v2 v3 new : Bytes) → v0 ≡ [] → v1 ≡ v0 ++ a → v2 ≡ v1 ++ b → v3 ≡ v2 ++ c → new ≡ v3 ++ d → new ≡ a ++ b ++ c ++ d
-answer_put a b c d v0 v1 v2 v3 new none first second third fourth =
-    fourth ∙ ap (λ t. t ++ d) (third ∙ ap (λ t. t ++ c) (second ∙ ap (λ t. t ++ b) (first ∙ ap (λ t. t ++ a) none)))
+pub three_words : {a b c : Bytes} {p0 p1 p2 p3 : Page} {s0 s1 s2 s3 : State} → Prints (32 ∷ a) p0 p1 s0 s1 → Prints (32 ∷ b) p1 p2 s1 s2 → Prints (32 ∷ c) p2 p3 s2 s3 → Prints (spaced (a ∷ b ∷ c ∷ [])) p0 p3 s0 s3
+three_words {a} {b} {c} first second third = «as» (both first (both second third)) (ap (λ (t : Bytes). 32 ∷ (a ++ 32 ∷ (b ++ 32 ∷ t))) (sym (append-nil c)))

@@ -5,7 +5,11 @@ use Rattle.std.proofs.lemmas.List.{at_drop_more, at_drop_all}
 use Rattle.textline.specs.Lines.{Bytes}
 use Rattle.std.specs.Fmt.{signed_decimal}
 use Rattle.sched_text.specs.Pieces.{between, listed}
+use Rattle.sched_base.specs.State.{State}
+use Rattle.sched_text.specs.declared.page.Page.{Page}
 use Rattle.sched_text.specs.Canonical.{rows}
+use Rattle.sched_text.specs.Printing.{Leaves, Prints}
+use Rattle.sched_text.proofs.Printing.{all_done, goes_on}
 
 -- the items from here on: whether the next is the first of all, and the sign
 abbrev pub from_here : Bool → Bytes → List Bytes → Bytes
@@ -30,27 +34,21 @@ none_left : (b : Bool) (s : Bytes) → from_here b s [] ≡ []
 none_left true s = refl
 none_left false s = refl
 
-two_more : (v s x t : Bytes) → ((v ++ s) ++ x) ++ t ≡ v ++ (s ++ (x ++ t))
-two_more v s x t = append_assoc (v ++ s) x t ∙ append_assoc v s (x ++ t)
+item_next : {A : Type 0} (f : A → Bytes) (s : Bytes) (xs : List A) (i : ℕ) (x d : A) (b : Bool) → i < length xs → x ≡ get_or xs i d
+    → from_here b s (map f (drop i xs)) ≡ sign_before b s ++ (f x ++ from_here false s (map f (drop (i + 1) xs)))
+item_next f s xs i x d b within is =
+    at_drop_more (λ ys. from_here b s (map f ys)) xs i d within
+    ∙ ap (λ y. from_here b s (f y ∷ map f (drop (i + 1) xs))) (sym is)
+    ∙ next_item b s (f x) (map f (drop (i + 1) xs))
 
 -- the next item, with the sign before it
-pub next_put : (b : Bool) (s x : Bytes) (ys : List Bytes) (v v1 v2 whole : Bytes) → v ++ from_here b s (x ∷ ys) ≡ whole → v1 ≡ v ++ sign_before b s → v2 ≡ v1 ++ x → v2 ++ from_here false s ys ≡ whole
-next_put b s x ys v v1 v2 whole same signed wrote =
-    ap (λ t. t ++ from_here false s ys) (wrote ∙ ap (λ t. t ++ x) signed)
-    ∙ two_more v (sign_before b s) x (from_here false s ys)
-    ∙ ap (λ t. v ++ t) (sym (next_item b s x ys))
-    ∙ same
+pub item_more : {A : Type 0} (f : A → Bytes) (s : Bytes) (xs : List A) (i : ℕ) (x d : A) (b : Bool) {text : Bytes} {old p q new : Page} {r t u v : State} → i < length xs → x ≡ get_or xs i d
+    → Leaves text (from_here b s (map f (drop i xs))) old p r t → Prints (sign_before b s) p q t u → Prints (f x) q new u v → Leaves text (from_here false s (map f (drop (i + 1) xs))) old new r v
+item_more f s xs i x d b within is so_far sign item = goes_on refl (goes_on (item_next f s xs i x d b within is) so_far sign) item
 
-pub item_more : {A : Type 0} (f : A → Bytes) (s : Bytes) (xs : List A) (i : ℕ) (x d : A) (b : Bool) (v v1 v2 whole : Bytes) → i < length xs → x ≡ get_or xs i d
-    → v ++ from_here b s (map f (drop i xs)) ≡ whole → v1 ≡ v ++ sign_before b s → v2 ≡ v1 ++ f x → v2 ++ from_here false s (map f (drop (i + 1) xs)) ≡ whole
-item_more f s xs i x d b v v1 v2 whole within is same signed wrote =
-    next_put b s (f x) (map f (drop (i + 1) xs)) v v1 v2 whole
-    (ap (λ t. v ++ t) (sym (at_drop_more (λ ys. from_here b s (map f ys)) xs i d within ∙ ap (λ y. from_here b s (f y ∷ map f (drop (i + 1) xs))) (sym is))) ∙ same)
-    signed wrote
-
-pub items_end : {A : Type 0} (f : A → Bytes) (s : Bytes) (xs : List A) (i : ℕ) (b : Bool) (v whole : Bytes) → length xs ≤ i → v ++ from_here b s (map f (drop i xs)) ≡ whole → v ≡ whole
-items_end f s xs i b v whole past same =
-    sym (append-nil v) ∙ ap (λ t. v ++ t) (sym (at_drop_all (λ ys. from_here b s (map f ys)) xs i past ∙ none_left b s)) ∙ same
+pub items_end : {A : Type 0} (f : A → Bytes) (s : Bytes) (xs : List A) (i : ℕ) (b : Bool) {text : Bytes} {old new : Page} {r t : State} → length xs ≤ i
+    → Leaves text (from_here b s (map f (drop i xs))) old new r t → Prints text old new r t
+items_end f s xs i b past so_far = all_done (at_drop_all (λ ys. from_here b s (map f ys)) xs i past ∙ none_left b s) so_far
 
 -- rows of a matrix
 
@@ -58,14 +56,16 @@ row_is : (k n : ℕ) (cells : List ℤ) → 0 < k → rows k n cells ≡ listed 
 row_is zero n cells some = absurd (omega arith)
 row_is (suc k) n cells some = let less : suc k - 1 ≡ k = omega arith in rw less refl
 
-pub row_more : (k n : ℕ) (rest row others : List ℤ) (b : Bool) (v v1 v2 whole : Bytes) → 0 < k → row ≡ take n rest → others ≡ drop n rest → v ++ from_here b (codes ",") (rows k n rest) ≡ whole
-    → v1 ≡ v ++ sign_before b (codes ",") → v2 ≡ v1 ++ listed (map signed_decimal row) → v2 ++ from_here false (codes ",") (rows (k - 1) n others) ≡ whole
-row_more k n rest row others b v v1 v2 whole some at_row at_others same signed wrote =
-    ap (λ cs. v2 ++ from_here false (codes ",") (rows (k - 1) n cs)) at_others
-    ∙ next_put b (codes ",") (listed (map signed_decimal (take n rest))) (rows (k - 1) n (drop n rest)) v v1 v2 whole
-    (ap (λ ys. v ++ from_here b (codes ",") ys) (sym (row_is k n rest some)) ∙ same)
-    signed (wrote ∙ ap (λ cs. v1 ++ listed (map signed_decimal cs)) at_row)
+pub row_more : (k n : ℕ) (rest row others : List ℤ) (b : Bool) {text : Bytes} {old p q new : Page} {r t u v : State} → 0 < k → row ≡ take n rest → others ≡ drop n rest
+    → Leaves text (from_here b (codes ",") (rows k n rest)) old p r t → Prints (sign_before b (codes ",")) p q t u → Prints (listed (map signed_decimal row)) q new u v
+    → Leaves text (from_here false (codes ",") (rows (k - 1) n others)) old new r v
+row_more k n rest row others b some at_row at_others so_far sign item =
+    goes_on (
+    ap (λ cs. listed (map signed_decimal cs) ++ from_here false (codes ",") (rows (k - 1) n (drop n rest))) (sym at_row)
+    ∙ ap (λ cs. listed (map signed_decimal row) ++ from_here false (codes ",") (rows (k - 1) n cs)) (sym at_others))
+    (goes_on (ap (λ ys. from_here b (codes ",") ys) (row_is k n rest some) ∙ next_item b (codes ",") (listed (map signed_decimal (take n rest))) (rows (k - 1) n (drop n rest))) so_far sign)
+    item
 
-pub rows_end : (k n : ℕ) (rest : List ℤ) (b : Bool) (v whole : Bytes) → k ≤ 0 → v ++ from_here b (codes ",") (rows k n rest) ≡ whole → v ≡ whole
-rows_end zero n rest b v whole past same = sym (append-nil v) ∙ ap (λ t. v ++ t) (sym (none_left b (codes ","))) ∙ same
-rows_end (suc k) n rest b v whole past same = absurd (omega arith)
+pub rows_end : (k n : ℕ) (rest : List ℤ) (b : Bool) {text : Bytes} {old new : Page} {r t : State} → k ≤ 0 → Leaves text (from_here b (codes ",") (rows k n rest)) old new r t → Prints text old new r t
+rows_end zero n rest b past so_far = all_done (none_left b (codes ",")) so_far
+rows_end (suc k) n rest b past so_far = absurd (omega arith)

@@ -1,9 +1,13 @@
 -- The operands of a sum, one behind the other, and sums by their word.
-use Rattle.std.proofs.Common.{◌≡◌, ◌∙◌, ℕ, ◌+◌, ◌<◌, ◌≤◌, Bool, true, false, if◌then◌else◌, List, [], ◌∷◌, ◌++◌, codes, length, map, drop, get_or, refl, sym, ap, append_assoc, append-nil, arith}
+use Rattle.std.proofs.Common.{◌≡◌, ◌∙◌, ℕ, ◌+◌, ◌<◌, ◌≤◌, Bool, true, false, if◌then◌else◌, List, [], ◌∷◌, ◌++◌, codes, length, map, drop, get_or, refl, sym, ap, arith}
 use Rattle.std.specs.List.{flat_map}
 use Rattle.std.proofs.lemmas.List.{at_drop_more, at_drop_all}
 use Rattle.textline.specs.Lines.{Bytes}
-use Rattle.sched_text.specs.Pieces.{bracketed, call, listed}
+use Rattle.sched_base.specs.State.{State}
+use Rattle.sched_text.specs.declared.page.Page.{Page}
+use Rattle.sched_text.specs.Pieces.{call, listed}
+use Rattle.sched_text.specs.Printing.{Leaves, Prints}
+use Rattle.sched_text.proofs.Printing.{all_done, goes_on}
 use Rattle.sched_text.specs.Shown.{Shown, as_operand, wholes, operands, terms, summed}
 
 -- the operands from here on: whether the next is the first
@@ -22,20 +26,18 @@ none_left : (b : Bool) → terms_from b [] ≡ []
 none_left true = refl
 none_left false = refl
 
-pub term_more : {A : Type 0} (f : A → Shown) (xs : List A) (i : ℕ) (x d : A) (b : Bool) (v w whole : Bytes) → i < length xs → x ≡ get_or xs i d
-    → v ++ terms_from b (map f (drop i xs)) ≡ whole → w ≡ v ++ term b (f x) → w ++ terms_from false (map f (drop (i + 1) xs)) ≡ whole
-term_more f xs i x d b v w whole within is same wrote =
-    ap (λ t. t ++ terms_from false (map f (drop (i + 1) xs))) wrote
-    ∙ append_assoc v (term b (f x)) (terms_from false (map f (drop (i + 1) xs)))
-    ∙ ap (λ t. v ++ t) (sym (
+pub term_more : {A : Type 0} (f : A → Shown) (xs : List A) (i : ℕ) (x d : A) (b : Bool) {text : Bytes} {old mid new : Page} {r t u : State} → i < length xs → x ≡ get_or xs i d
+    → Leaves text (terms_from b (map f (drop i xs))) old mid r t → Prints (term b (f x)) mid new t u → Leaves text (terms_from false (map f (drop (i + 1) xs))) old new r u
+term_more f xs i x d b within is so_far item =
+    goes_on (
     at_drop_more (λ ys. terms_from b (map f ys)) xs i d within
     ∙ ap (λ y. terms_from b (f y ∷ map f (drop (i + 1) xs))) (sym is)
-    ∙ next_term b (f x) (map f (drop (i + 1) xs))))
-    ∙ same
+    ∙ next_term b (f x) (map f (drop (i + 1) xs)))
+    so_far item
 
-pub terms_end : {A : Type 0} (f : A → Shown) (xs : List A) (i : ℕ) (b : Bool) (v whole : Bytes) → length xs ≤ i → v ++ terms_from b (map f (drop i xs)) ≡ whole → v ≡ whole
-terms_end f xs i b v whole past same =
-    sym (append-nil v) ∙ ap (λ t. v ++ t) (sym (at_drop_all (λ ys. terms_from b (map f ys)) xs i past ∙ none_left b)) ∙ same
+pub terms_end : {A : Type 0} (f : A → Shown) (xs : List A) (i : ℕ) (b : Bool) {text : Bytes} {old new : Page} {r t : State} → length xs ≤ i → Leaves text (terms_from b (map f (drop i xs))) old new r t
+    → Prints text old new r t
+terms_end f xs i b past so_far = all_done (at_drop_all (λ ys. terms_from b (map f ys)) xs i past ∙ none_left b) so_far
 
 pub few_terms : {A : Type 0} (f : A → Shown) (xs : List A) → length xs < 2 → call (codes "sum") (listed (wholes (map f xs)) ∷ []) ≡ (summed (map f xs)).whole
 few_terms f [] few = refl
@@ -56,12 +58,8 @@ operands_of f [] = refl
 operands_of f (x ∷ xs) = ap (λ ws. (f x).operand ∷ ws) (operands_of f xs)
 
 -- an operand in brackets, or without
-pub plain_operand : (b : Bool) (x : Shown) (v new : Bytes) → x.operand ≡ as_operand b x.whole → b ≡ false → new ≡ v ++ x.whole → new ≡ v ++ x.operand
-plain_operand b x v new shown plain is = is ∙ ap (λ t. v ++ t) (sym (shown ∙ ap (λ c. as_operand c x.whole) plain))
+pub plain_operand : (b : Bool) (x : Shown) → x.operand ≡ as_operand b x.whole → b ≡ false → x.whole ≡ x.operand
+plain_operand b x shown plain = sym (shown ∙ ap (λ c. as_operand c x.whole) plain)
 
-in_brackets : (v t : Bytes) → ((v ++ codes "(") ++ t) ++ codes ")" ≡ v ++ bracketed t
-in_brackets v t = simp append_assoc
-
-pub composed_operand : (b : Bool) (x : Shown) (v w u new : Bytes) → x.operand ≡ as_operand b x.whole → b ≡ true → w ≡ v ++ codes "(" → u ≡ w ++ x.whole → new ≡ u ++ codes ")" → new ≡ v ++ x.operand
-composed_operand b x v w u new shown composed first second third =
-    third ∙ ap (λ t. t ++ codes ")") (second ∙ ap (λ t. t ++ x.whole) first) ∙ in_brackets v x.whole ∙ ap (λ t. v ++ t) (sym (shown ∙ ap (λ c. as_operand c x.whole) composed))
+pub composed_operand : (b : Bool) (x : Shown) → x.operand ≡ as_operand b x.whole → b ≡ true → codes "(" ++ (x.whole ++ codes ")") ≡ x.operand
+composed_operand b x shown composed = sym (shown ∙ ap (λ c. as_operand c x.whole) composed)

@@ -1,247 +1,237 @@
-ghost use Rattle.std.specs.Prelude.{◌≡◌, ◌++◌, ◌∷◌, [], codes, flat_map, OnOk, IfOk};
+ghost use Rattle.std.specs.Prelude.{◌≡◌, ◌++◌, ◌∷◌, [], codes, flat_map};
 ghost use Rattle.std.specs.Fmt.{decimal, signed_decimal};
+ghost use Rattle.sched_base.specs.Calls.{Writes};
 ghost use Rattle.textline.specs.Lines.{line};
 ghost use Rattle.sched_text.specs.Answers.{slot_words, slot_line, label, order_line, segment_words, segments_line, schedule_lines, unfinished_words, verdict_words, shown_schedule, answer_text};
 ghost use Rattle.sched_text.specs.Pieces.{at_places, interval_name};
+ghost use Rattle.sched_text.specs.Printing.{Prints};
 
-use crate::pieces::{push_count, push_interval, push_text};
-use sched_base::{Itv, List, NoMemory};
+use crate::page::{Page, finish, new_page, put_text};
+use crate::pieces::{put_count, put_interval, put_number};
+use sched_base::{Desk, Failed, Itv, List, Port};
 use sched_model::{
     Answer, Assignment, IntervalDef, Model, Segment, SequenceDef, Slot, Solved, StateDef,
 };
-use std::alloc::Global;
-use textline::push_number;
 
 /// A line of a word and a number.
-fn push_valued(bytes: &mut Vec<u8>, word: &[u8], v: i64) -> Result<(), NoMemory>
-    ensures { OnOk result (bytes.new.items ≡ bytes.old.items ++ line (word.now ∷ signed_decimal v ∷ [])) }
+fn put_valued<D: Desk>(page: &mut Page, desk: &mut D, word: &[u8], v: i64)
+    ensures { Prints (line (word.now ∷ signed_decimal v ∷ [])) page.old page.new (D.state desk.old) (D.state desk.new) }
 {
-    push_text(bytes, word)?;
-    push_text(bytes, b" ")?;
-    push_number(bytes, v)?;
-    push_text(bytes, b"\n")?;
-    Ok(())
+    put_text(page, desk, word);
+    put_text(page, desk, b" ");
+    put_number(page, desk, v);
+    put_text(page, desk, b"\n");
 }
 
 /// A line of two moments.
-fn push_moments(bytes: &mut Vec<u8>, s: i64, e: i64) -> Result<(), NoMemory>
-    ensures { OnOk result (bytes.new.items ≡ bytes.old.items ++ line (signed_decimal s ∷ signed_decimal e ∷ [])) }
+fn put_moments<D: Desk>(page: &mut Page, desk: &mut D, s: i64, e: i64)
+    ensures { Prints (line (signed_decimal s ∷ signed_decimal e ∷ [])) page.old page.new (D.state desk.old) (D.state desk.new) }
 {
-    push_number(bytes, s)?;
-    push_text(bytes, b" ")?;
-    push_number(bytes, e)?;
-    push_text(bytes, b"\n")?;
-    Ok(())
+    put_number(page, desk, s);
+    put_text(page, desk, b" ");
+    put_number(page, desk, e);
+    put_text(page, desk, b"\n");
 }
 
-fn push_slot(bytes: &mut Vec<u8>, d: &IntervalDef, slot: Slot) -> Result<(), NoMemory>
-    ensures { OnOk result (bytes.new.items ≡ bytes.old.items ++ line (d.now.name ∷ slot_words slot)) }
+fn put_slot<D: Desk>(page: &mut Page, desk: &mut D, d: &IntervalDef, slot: Slot)
+    ensures { Prints (line (d.now.name ∷ slot_words slot)) page.old page.new (D.state desk.old) (D.state desk.new) }
 {
-    push_text(bytes, d.name.as_slice())?;
+    put_text(page, desk, d.name.as_slice());
     match slot {
-        Slot::Absent => push_text(bytes, b" absent\n")?,
+        Slot::Absent => put_text(page, desk, b" absent\n"),
         Slot::Present { s, e } => {
-            push_text(bytes, b" ")?;
-            push_moments(bytes, s, e)?;
+            put_text(page, desk, b" ");
+            put_moments(page, desk, s, e);
         }
     }
-    Ok(())
 }
 
-fn push_slots(bytes: &mut Vec<u8>, defs: &[IntervalDef], slots: &[Slot]) -> Result<(), NoMemory>
-    ensures { OnOk result (bytes.new.items ≡ bytes.old.items ++ at_places slot_line 0 defs.now slots.now) }
+fn put_slots<D: Desk>(page: &mut Page, desk: &mut D, defs: &[IntervalDef], slots: &[Slot])
+    ensures { Prints (at_places slot_line 0 defs.now slots.now) page.old page.new (D.state desk.old) (D.state desk.new) }
 {
     let n = defs.len().min(slots.len());
     for i in 0..n {
-        push_slot(bytes, &defs[i], slots[i])?;
+        put_slot(page, desk, &defs[i], slots[i]);
     }
-    Ok(())
 }
 
 /// The name of a sequence, or its number where it has none.
-fn push_label(bytes: &mut Vec<u8>, i: usize, d: &SequenceDef) -> Result<(), NoMemory>
-    ensures { OnOk result (bytes.new.items ≡ bytes.old.items ++ label i d.now.name) }
+fn put_label<D: Desk>(page: &mut Page, desk: &mut D, i: usize, d: &SequenceDef)
+    ensures { Prints (label i d.now.name) page.old page.new (D.state desk.old) (D.state desk.new) }
 {
     match &d.name {
-        Some(name) => push_text(bytes, name.as_slice())?,
+        Some(name) => put_text(page, desk, name.as_slice()),
         None => {
-            push_text(bytes, b"#")?;
-            push_count(bytes, i as u64)?;
+            put_text(page, desk, b"#");
+            put_count(page, desk, i as u64);
         }
     }
-    Ok(())
 }
 
 /// A space and the name of an interval.
-fn push_member(bytes: &mut Vec<u8>, model: &Model, x: Itv) -> Result<(), NoMemory>
-    ensures { OnOk result (bytes.new.items ≡ bytes.old.items ++ 32 ∷ interval_name model.now x) }
+fn put_member<D: Desk>(page: &mut Page, desk: &mut D, model: &Model, x: Itv)
+    ensures { Prints (32 ∷ interval_name model.now x) page.old page.new (D.state desk.old) (D.state desk.new) }
 {
-    push_text(bytes, b" ")?;
-    push_interval(bytes, model, x)
+    put_text(page, desk, b" ");
+    put_interval(page, desk, model, x);
 }
 
 /// The rest of a line: the names of some intervals, each behind a space.
-fn push_members(bytes: &mut Vec<u8>, model: &Model, order: &[Itv]) -> Result<(), NoMemory>
-    ensures { OnOk result (bytes.new.items ≡ bytes.old.items ++ flat_map (λ x. 32 ∷ interval_name model.now x) order.now) }
+fn put_members<D: Desk>(page: &mut Page, desk: &mut D, model: &Model, order: &[Itv])
+    ensures { Prints (flat_map (λ x. 32 ∷ interval_name model.now x) order.now) page.old page.new (D.state desk.old) (D.state desk.new) }
 {
     for x in order {
-        push_member(bytes, model, *x)?;
+        put_member(page, desk, model, *x);
     }
-    Ok(())
 }
 
-fn push_order(
-    bytes: &mut Vec<u8>,
+fn put_order<D: Desk>(
+    page: &mut Page,
+    desk: &mut D,
     model: &Model,
     i: usize,
     d: &SequenceDef,
     order: &[Itv],
-) -> Result<(), NoMemory>
-    ensures { OnOk result (bytes.new.items ≡ bytes.old.items ++ order_line model.now i d.now order.now) }
+)
+    ensures { Prints (order_line model.now i d.now order.now) page.old page.new (D.state desk.old) (D.state desk.new) }
 {
-    push_text(bytes, b"order ")?;
-    push_label(bytes, i, d)?;
-    push_members(bytes, model, order)?;
-    push_text(bytes, b"\n")?;
-    Ok(())
+    put_text(page, desk, b"order ");
+    put_label(page, desk, i, d);
+    put_members(page, desk, model, order);
+    put_text(page, desk, b"\n");
 }
 
-fn push_orders(
-    bytes: &mut Vec<u8>,
+fn put_orders<D: Desk>(
+    page: &mut Page,
+    desk: &mut D,
     model: &Model,
     defs: &[SequenceDef],
     orders: &[List<Itv>],
-) -> Result<(), NoMemory>
-    ensures { OnOk result (bytes.new.items ≡ bytes.old.items ++ at_places (order_line model.now) 0 defs.now orders.now) }
+)
+    ensures { Prints (at_places (order_line model.now) 0 defs.now orders.now) page.old page.new (D.state desk.old) (D.state desk.new) }
 {
     let n = defs.len().min(orders.len());
     for i in 0..n {
-        push_order(bytes, model, i, &defs[i], orders[i].as_slice())?;
+        put_order(page, desk, model, i, &defs[i], orders[i].as_slice());
     }
-    Ok(())
 }
 
 /// A space and a number.
-fn push_spaced(bytes: &mut Vec<u8>, n: i64) -> Result<(), NoMemory>
-    ensures { OnOk result (bytes.new.items ≡ bytes.old.items ++ 32 ∷ signed_decimal n) }
+fn put_spaced<D: Desk>(page: &mut Page, desk: &mut D, n: i64)
+    ensures { Prints (32 ∷ signed_decimal n) page.old page.new (D.state desk.old) (D.state desk.new) }
 {
-    push_text(bytes, b" ")?;
-    push_number(bytes, n)
+    put_text(page, desk, b" ");
+    put_number(page, desk, n);
 }
 
-fn push_segment(bytes: &mut Vec<u8>, s: Segment) -> Result<(), NoMemory>
-    ensures { OnOk result (bytes.new.items ≡ bytes.old.items ++ flat_map (λ w. 32 ∷ w) (segment_words s)) }
+fn put_segment<D: Desk>(page: &mut Page, desk: &mut D, s: Segment)
+    ensures { Prints (flat_map (λ w. 32 ∷ w) (segment_words s)) page.old page.new (D.state desk.old) (D.state desk.new) }
 {
-    push_spaced(bytes, s.p)?;
-    push_spaced(bytes, s.q)?;
-    push_spaced(bytes, s.v)?;
-    Ok(())
+    put_spaced(page, desk, s.p);
+    put_spaced(page, desk, s.q);
+    put_spaced(page, desk, s.v);
 }
 
 /// The rest of a line: the numbers of some segments, each behind a space.
-fn push_all_segments(bytes: &mut Vec<u8>, segments: &[Segment]) -> Result<(), NoMemory>
-    ensures { OnOk result (bytes.new.items ≡ bytes.old.items ++ flat_map (λ s. flat_map (λ w. 32 ∷ w) (segment_words s)) segments.now) }
+fn put_all_segments<D: Desk>(page: &mut Page, desk: &mut D, segments: &[Segment])
+    ensures { Prints (flat_map (λ s. flat_map (λ w. 32 ∷ w) (segment_words s)) segments.now) page.old page.new (D.state desk.old) (D.state desk.new) }
 {
     for s in segments {
-        push_segment(bytes, *s)?;
+        put_segment(page, desk, *s);
     }
-    Ok(())
 }
 
-fn push_segments(bytes: &mut Vec<u8>, d: &StateDef, segments: &[Segment]) -> Result<(), NoMemory>
-    ensures { OnOk result (bytes.new.items ≡ bytes.old.items ++ segments_line 0 d.now segments.now) }
+fn put_segments<D: Desk>(page: &mut Page, desk: &mut D, d: &StateDef, segments: &[Segment])
+    ensures { Prints (segments_line 0 d.now segments.now) page.old page.new (D.state desk.old) (D.state desk.new) }
 {
-    push_text(bytes, b"state ")?;
-    push_text(bytes, d.name.as_slice())?;
-    push_all_segments(bytes, segments)?;
-    push_text(bytes, b"\n")?;
-    Ok(())
+    put_text(page, desk, b"state ");
+    put_text(page, desk, d.name.as_slice());
+    put_all_segments(page, desk, segments);
+    put_text(page, desk, b"\n");
 }
 
-fn push_states(
-    bytes: &mut Vec<u8>,
-    defs: &[StateDef],
-    segs: &[List<Segment>],
-) -> Result<(), NoMemory>
-    ensures { OnOk result (bytes.new.items ≡ bytes.old.items ++ at_places segments_line 0 defs.now segs.now) }
+fn put_states<D: Desk>(page: &mut Page, desk: &mut D, defs: &[StateDef], segs: &[List<Segment>])
+    ensures { Prints (at_places segments_line 0 defs.now segs.now) page.old page.new (D.state desk.old) (D.state desk.new) }
 {
     let n = defs.len().min(segs.len());
     for i in 0..n {
-        push_segments(bytes, &defs[i], segs[i].as_slice())?;
+        put_segments(page, desk, &defs[i], segs[i].as_slice());
     }
-    Ok(())
 }
 
-/// Puts the lines of a schedule behind the bytes: for each interval its name with its start and end
+/// The lines of a schedule: for each interval its name with its start and end
 /// or `absent`; for each sequence `order`, its name or `#` and its number, and its members in order;
 /// for each state function `state`, its name, and of each segment the first moment, the moment behind
 /// it and the state.
-pub fn push_schedule(bytes: &mut Vec<u8>, model: &Model, a: &Assignment) -> Result<(), NoMemory>
-    ensures { OnOk result (bytes.new.items ≡ bytes.old.items ++ schedule_lines model.now a.now) }
+fn put_schedule<D: Desk>(page: &mut Page, desk: &mut D, model: &Model, a: &Assignment)
+    ensures { Prints (schedule_lines model.now a.now) page.old page.new (D.state desk.old) (D.state desk.new) }
 {
-    push_slots(bytes, model.intervals(), a.slots.as_slice())?;
-    push_orders(bytes, model, model.sequences(), a.orders.as_slice())?;
-    push_states(bytes, model.states(), a.segs.as_slice())
+    put_slots(page, desk, model.intervals(), a.slots.as_slice());
+    put_orders(page, desk, model, model.sequences(), a.orders.as_slice());
+    put_states(page, desk, model.states(), a.segs.as_slice());
 }
 
-fn push_found(bytes: &mut Vec<u8>, best: Option<i64>) -> Result<(), NoMemory>
-    ensures { OnOk result (bytes.new.items ≡ bytes.old.items ++ line (unfinished_words best)) }
+fn put_found<D: Desk>(page: &mut Page, desk: &mut D, best: Option<i64>)
+    ensures { Prints (line (unfinished_words best)) page.old page.new (D.state desk.old) (D.state desk.new) }
 {
     match best {
-        None => push_text(bytes, b"unfinished none\n")?,
-        Some(v) => push_valued(bytes, b"unfinished", v)?,
+        None => put_text(page, desk, b"unfinished none\n"),
+        Some(v) => put_valued(page, desk, b"unfinished", v),
     }
-    Ok(())
 }
 
-fn push_verdict(bytes: &mut Vec<u8>, answer: &Answer) -> Result<(), NoMemory>
-    ensures { OnOk result (bytes.new.items ≡ bytes.old.items ++ line (verdict_words answer.now)) }
+fn put_verdict<D: Desk>(page: &mut Page, desk: &mut D, answer: &Answer)
+    ensures { Prints (line (verdict_words answer.now)) page.old page.new (D.state desk.old) (D.state desk.new) }
 {
     match answer {
-        Answer::Optimal(v, _) => push_valued(bytes, b"optimal", *v)?,
-        Answer::Feasible(_) => push_text(bytes, b"feasible\n")?,
-        Answer::Infeasible => push_text(bytes, b"infeasible\n")?,
+        Answer::Optimal(v, _) => put_valued(page, desk, b"optimal", *v),
+        Answer::Feasible(_) => put_text(page, desk, b"feasible\n"),
+        Answer::Infeasible => put_text(page, desk, b"infeasible\n"),
         Answer::Unfinished(found) => match found {
-            None => push_found(bytes, None)?,
-            Some((v, _)) => push_found(bytes, Some(*v))?,
-        },
-    }
-    Ok(())
-}
-
-fn push_nodes(bytes: &mut Vec<u8>, n: u64) -> Result<(), NoMemory>
-    ensures { OnOk result (bytes.new.items ≡ bytes.old.items ++ line (codes "nodes" ∷ decimal n ∷ [])) }
-{
-    push_text(bytes, b"nodes ")?;
-    push_count(bytes, n)?;
-    push_text(bytes, b"\n")?;
-    Ok(())
-}
-
-fn push_shown(bytes: &mut Vec<u8>, model: &Model, answer: &Answer) -> Result<(), NoMemory>
-    ensures { OnOk result (bytes.new.items ≡ bytes.old.items ++ shown_schedule model.now answer.now) }
-{
-    match answer {
-        Answer::Optimal(_, a) => push_schedule(bytes, model, a),
-        Answer::Feasible(a) => push_schedule(bytes, model, a),
-        Answer::Infeasible => Ok(()),
-        Answer::Unfinished(found) => match found {
-            None => Ok(()),
-            Some((_, a)) => push_schedule(bytes, model, a),
+            None => put_found(page, desk, None),
+            Some((v, _)) => put_found(page, desk, Some(*v)),
         },
     }
 }
 
-/// The text of an answer: a line with the verdict and a value, one with the count of nodes, the
-/// lines of the schedule where there is one, and `end`. `NoMemory` comes where room for the text is
-/// refused.
-pub fn answer_bytes(alloc: Global, model: &Model, solved: &Solved) -> Result<Vec<u8>, NoMemory>
-    ensures { IfOk result (λ v. v.items ≡ answer_text model.now solved.now) }
+fn put_nodes<D: Desk>(page: &mut Page, desk: &mut D, n: u64)
+    ensures { Prints (line (codes "nodes" ∷ decimal n ∷ [])) page.old page.new (D.state desk.old) (D.state desk.new) }
 {
-    let mut bytes = Vec::new(alloc);
-    push_verdict(&mut bytes, &solved.answer)?;
-    push_nodes(&mut bytes, solved.nodes)?;
-    push_shown(&mut bytes, model, &solved.answer)?;
-    push_text(&mut bytes, b"end\n")?;
-    Ok(bytes)
+    put_text(page, desk, b"nodes ");
+    put_count(page, desk, n);
+    put_text(page, desk, b"\n");
+}
+
+fn put_shown<D: Desk>(page: &mut Page, desk: &mut D, model: &Model, answer: &Answer)
+    ensures { Prints (shown_schedule model.now answer.now) page.old page.new (D.state desk.old) (D.state desk.new) }
+{
+    match answer {
+        Answer::Optimal(_, a) => put_schedule(page, desk, model, a),
+        Answer::Feasible(a) => put_schedule(page, desk, model, a),
+        Answer::Infeasible => {}
+        Answer::Unfinished(found) => match found {
+            None => {}
+            Some((_, a)) => put_schedule(page, desk, model, a),
+        },
+    }
+}
+
+fn put_answer<D: Desk>(page: &mut Page, desk: &mut D, model: &Model, solved: &Solved)
+    ensures { Prints (answer_text model.now solved.now) page.old page.new (D.state desk.old) (D.state desk.new) }
+{
+    put_verdict(page, desk, &solved.answer);
+    put_nodes(page, desk, solved.nodes);
+    put_shown(page, desk, model, &solved.answer);
+    put_text(page, desk, b"end\n");
+}
+
+/// Writes the text of an answer to standard output, as one write does: a line with the verdict and a
+/// value, one with the count of nodes, the lines of the schedule where there is one, and `end`. It
+/// takes no memory.
+pub fn write_answer<D: Desk>(model: &Model, solved: &Solved, desk: &mut D) -> Result<(), Failed>
+    ensures { Writes Port.Out (answer_text model.now solved.now) result (D.state desk.old) (D.state desk.new) }
+{
+    let mut page = new_page();
+    put_answer(&mut page, desk, model, solved);
+    finish(page, desk)
 }

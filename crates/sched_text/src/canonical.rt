@@ -1,79 +1,74 @@
 //! The canonical text of a model, statement by statement.
-ghost use Rattle.std.specs.Prelude.{◌≡◌, ◌++◌, ◌∷◌, [], codes, flat_map, OnOk, IfOk};
+ghost use Rattle.std.specs.Prelude.{◌≡◌, ◌++◌, ◌∷◌, [], codes, flat_map};
+ghost use Rattle.sched_base.specs.Calls.{Writes};
 ghost use Rattle.sched_text.specs.Canonical.{statement, interval_text, matrix_text, named_sequence_text, named_cumul_text, state_text, constraint_text, sense_word, objective_text, canonical_text};
+ghost use Rattle.sched_text.specs.Printing.{Prints};
 
-use crate::constraints::push_constraint;
+use crate::constraints::put_constraint;
 use crate::definitions::{
-    push_cumul_def, push_interval_def, push_matrix_def, push_sequence_def, push_state_def,
+    put_cumul_def, put_interval_def, put_matrix_def, put_sequence_def, put_state_def,
 };
-use crate::expressions::push_whole;
-use crate::pieces::{push_open, push_text};
-use sched_base::NoMemory;
+use crate::expressions::put_whole;
+use crate::page::{Page, finish, new_page, put_text};
+use crate::pieces::put_open;
+use sched_base::{Desk, Failed, Port};
 use sched_model::{
     Constraint, CumulDef, IntervalDef, MatrixDef, Model, Sense, SequenceDef, StateDef,
 };
-use std::alloc::Global;
 
-fn push_intervals(bytes: &mut Vec<u8>, defs: &[IntervalDef]) -> Result<(), NoMemory>
-    ensures { OnOk result (bytes.new.items ≡ bytes.old.items ++ flat_map interval_text defs.now) }
+fn put_intervals<D: Desk>(page: &mut Page, desk: &mut D, defs: &[IntervalDef])
+    ensures { Prints (flat_map interval_text defs.now) page.old page.new (D.state desk.old) (D.state desk.new) }
 {
     for d in defs {
-        push_interval_def(bytes, d)?;
+        put_interval_def(page, desk, d);
     }
-    Ok(())
 }
 
-fn push_matrices(bytes: &mut Vec<u8>, defs: &[MatrixDef]) -> Result<(), NoMemory>
-    ensures { OnOk result (bytes.new.items ≡ bytes.old.items ++ flat_map matrix_text defs.now) }
+fn put_matrices<D: Desk>(page: &mut Page, desk: &mut D, defs: &[MatrixDef])
+    ensures { Prints (flat_map matrix_text defs.now) page.old page.new (D.state desk.old) (D.state desk.new) }
 {
     for d in defs {
-        push_matrix_def(bytes, d)?;
+        put_matrix_def(page, desk, d);
     }
-    Ok(())
 }
 
-fn push_sequences(bytes: &mut Vec<u8>, model: &Model, defs: &[SequenceDef]) -> Result<(), NoMemory>
-    ensures { OnOk result (bytes.new.items ≡ bytes.old.items ++ flat_map (named_sequence_text model.now) defs.now) }
+fn put_sequences<D: Desk>(page: &mut Page, desk: &mut D, model: &Model, defs: &[SequenceDef])
+    ensures { Prints (flat_map (named_sequence_text model.now) defs.now) page.old page.new (D.state desk.old) (D.state desk.new) }
 {
     for d in defs {
-        push_sequence_def(bytes, model, d)?;
+        put_sequence_def(page, desk, model, d);
     }
-    Ok(())
 }
 
-fn push_cumuls(bytes: &mut Vec<u8>, model: &Model, defs: &[CumulDef]) -> Result<(), NoMemory>
-    ensures { OnOk result (bytes.new.items ≡ bytes.old.items ++ flat_map (named_cumul_text model.now) defs.now) }
+fn put_cumuls<D: Desk>(page: &mut Page, desk: &mut D, model: &Model, defs: &[CumulDef])
+    ensures { Prints (flat_map (named_cumul_text model.now) defs.now) page.old page.new (D.state desk.old) (D.state desk.new) }
 {
     for d in defs {
-        push_cumul_def(bytes, model, d)?;
+        put_cumul_def(page, desk, model, d);
     }
-    Ok(())
 }
 
-fn push_states(bytes: &mut Vec<u8>, model: &Model, defs: &[StateDef]) -> Result<(), NoMemory>
-    ensures { OnOk result (bytes.new.items ≡ bytes.old.items ++ flat_map (state_text model.now) defs.now) }
+fn put_states<D: Desk>(page: &mut Page, desk: &mut D, model: &Model, defs: &[StateDef])
+    ensures { Prints (flat_map (state_text model.now) defs.now) page.old page.new (D.state desk.old) (D.state desk.new) }
 {
     for d in defs {
-        push_state_def(bytes, model, d)?;
+        put_state_def(page, desk, model, d);
     }
-    Ok(())
 }
 
-fn push_statement(bytes: &mut Vec<u8>, model: &Model, c: &Constraint) -> Result<(), NoMemory>
-    ensures { OnOk result (bytes.new.items ≡ bytes.old.items ++ statement (constraint_text model.now c.now)) }
+fn put_statement<D: Desk>(page: &mut Page, desk: &mut D, model: &Model, c: &Constraint)
+    ensures { Prints (statement (constraint_text model.now c.now)) page.old page.new (D.state desk.old) (D.state desk.new) }
 {
-    push_constraint(bytes, model, c)?;
-    push_text(bytes, b";\n")?;
-    Ok(())
+    put_constraint(page, desk, model, c);
+    put_text(page, desk, b";\n");
 }
 
-fn push_constraints(bytes: &mut Vec<u8>, model: &Model, all: &[Constraint]) -> Result<(), NoMemory>
-    ensures { OnOk result (bytes.new.items ≡ bytes.old.items ++ flat_map (λ c. statement (constraint_text model.now c)) all.now) }
+fn put_constraints<D: Desk>(page: &mut Page, desk: &mut D, model: &Model, all: &[Constraint])
+    ensures { Prints (flat_map (λ c. statement (constraint_text model.now c)) all.now) page.old page.new (D.state desk.old) (D.state desk.new) }
 {
     for c in all {
-        push_statement(bytes, model, c)?;
+        put_statement(page, desk, model, c);
     }
-    Ok(())
 }
 
 fn word_of(sense: Sense) -> &'static [u8]
@@ -85,31 +80,36 @@ fn word_of(sense: Sense) -> &'static [u8]
     }
 }
 
-fn push_objective(bytes: &mut Vec<u8>, model: &Model) -> Result<(), NoMemory>
-    ensures { OnOk result (bytes.new.items ≡ bytes.old.items ++ objective_text model.now model.now.objective) }
+fn put_objective<D: Desk>(page: &mut Page, desk: &mut D, model: &Model)
+    ensures { Prints (objective_text model.now model.now.objective) page.old page.new (D.state desk.old) (D.state desk.new) }
 {
     let Some(o) = model.objective() else {
-        return Ok(());
+        return;
     };
-    push_open(bytes, word_of(o.sense))?;
-    push_whole(bytes, model, &o.expr)?;
-    push_text(bytes, b");\n")?;
-    Ok(())
+    put_open(page, desk, word_of(o.sense));
+    put_whole(page, desk, model, &o.expr);
+    put_text(page, desk, b");\n");
 }
 
-/// The canonical text of a model, one statement a line: intervals, matrices, named sequences, named
-/// cumulative functions, state functions, constraints, and the objective. `NoMemory` comes where room
-/// for the text is refused.
-pub fn canonical_bytes(alloc: Global, model: &Model) -> Result<Vec<u8>, NoMemory>
-    ensures { IfOk result (λ v. v.items ≡ canonical_text model.now) }
+fn put_model<D: Desk>(page: &mut Page, desk: &mut D, model: &Model)
+    ensures { Prints (canonical_text model.now) page.old page.new (D.state desk.old) (D.state desk.new) }
 {
-    let mut bytes = Vec::new(alloc);
-    push_intervals(&mut bytes, model.intervals())?;
-    push_matrices(&mut bytes, model.matrices())?;
-    push_sequences(&mut bytes, model, model.sequences())?;
-    push_cumuls(&mut bytes, model, model.cumuls())?;
-    push_states(&mut bytes, model, model.states())?;
-    push_constraints(&mut bytes, model, model.constraints())?;
-    push_objective(&mut bytes, model)?;
-    Ok(bytes)
+    put_intervals(page, desk, model.intervals());
+    put_matrices(page, desk, model.matrices());
+    put_sequences(page, desk, model, model.sequences());
+    put_cumuls(page, desk, model, model.cumuls());
+    put_states(page, desk, model, model.states());
+    put_constraints(page, desk, model, model.constraints());
+    put_objective(page, desk, model);
+}
+
+/// Writes the canonical text of a model to standard output, as one write does. One statement stands
+/// in a line: intervals, matrices, named sequences, named cumulative functions, state functions,
+/// constraints, and the objective. It takes no memory.
+pub fn print_model<D: Desk>(model: &Model, desk: &mut D) -> Result<(), Failed>
+    ensures { Writes Port.Out (canonical_text model.now) result (D.state desk.old) (D.state desk.new) }
+{
+    let mut page = new_page();
+    put_model(&mut page, desk, model);
+    finish(page, desk)
 }

@@ -1,18 +1,19 @@
 //! Constraints.
-ghost use Rattle.std.specs.Prelude.{◌≡◌, ◌++◌, ◌∷◌, [], codes, Some, OnOk};
+ghost use Rattle.std.specs.Prelude.{◌≡◌, ◌++◌, ◌∷◌, [], codes, Some};
 ghost use Rattle.std.specs.Fmt.{signed_decimal};
 ghost use Rattle.sched_text.specs.Pieces.{call, interval_name, state_name};
 ghost use Rattle.sched_text.specs.Canonical.{flag, temporal_word, list_text, use_text, over_text, distance_text, bounded_text, within_text, function_text, constraint_text};
+ghost use Rattle.sched_text.specs.Printing.{Prints};
 
-use crate::cumulative::push_function;
-use crate::expressions::push_whole;
+use crate::cumulative::put_function;
+use crate::expressions::put_whole;
+use crate::page::{Page, put_text};
 use crate::pieces::{
-    push_interval, push_matrix, push_names, push_next_interval, push_next_number, push_open,
-    push_state, push_text,
+    put_interval, put_matrix, put_names, put_next_interval, put_next_number, put_number, put_open,
+    put_state,
 };
-use sched_base::{Cum, Itv, Mat, NoMemory, Seq, Stf, at};
+use sched_base::{Cum, Desk, Itv, Mat, Seq, Stf, at};
 use sched_model::{Constraint, End, Model, SequenceDef, Window};
-use textline::push_number;
 
 fn temporal_word(from: End, to: End, equal: bool) -> &'static [u8]
     ensures { result.now ≡ temporal_word from to equal }
@@ -36,269 +37,254 @@ fn flag(b: bool) -> &'static [u8]
 }
 
 /// A comma and a flag.
-fn push_next_flag(bytes: &mut Vec<u8>, b: bool) -> Result<(), NoMemory>
-    ensures { OnOk result (bytes.new.items ≡ bytes.old.items ++ (codes "," ++ flag b)) }
+fn put_next_flag<D: Desk>(page: &mut Page, desk: &mut D, b: bool)
+    ensures { Prints (codes "," ++ flag b) page.old page.new (D.state desk.old) (D.state desk.new) }
 {
-    push_text(bytes, b",")?;
-    push_text(bytes, flag(b))
+    put_text(page, desk, b",");
+    put_text(page, desk, flag(b));
 }
 
-fn push_temporal(
-    bytes: &mut Vec<u8>,
+fn put_temporal<D: Desk>(
+    page: &mut Page,
+    desk: &mut D,
     model: &Model,
     word: &[u8],
     x: Itv,
     y: Itv,
     z: i64,
-) -> Result<(), NoMemory>
-    ensures { OnOk result (bytes.new.items ≡ bytes.old.items ++ call word.now (interval_name model.now x ∷ interval_name model.now y ∷ signed_decimal z ∷ [])) }
+)
+    ensures { Prints (call word.now (interval_name model.now x ∷ interval_name model.now y ∷ signed_decimal z ∷ [])) page.old page.new (D.state desk.old) (D.state desk.new) }
 {
-    push_open(bytes, word)?;
-    push_interval(bytes, model, x)?;
-    push_next_interval(bytes, model, y)?;
-    push_next_number(bytes, z)?;
-    push_text(bytes, b")")?;
-    Ok(())
+    put_open(page, desk, word);
+    put_interval(page, desk, model, x);
+    put_next_interval(page, desk, model, y);
+    put_next_number(page, desk, z);
+    put_text(page, desk, b")");
 }
 
 /// A comma and the names of some intervals.
-fn push_next_names(bytes: &mut Vec<u8>, model: &Model, xs: &[Itv]) -> Result<(), NoMemory>
-    ensures { OnOk result (bytes.new.items ≡ bytes.old.items ++ (codes "," ++ list_text model.now xs.now)) }
+fn put_next_names<D: Desk>(page: &mut Page, desk: &mut D, model: &Model, xs: &[Itv])
+    ensures { Prints (codes "," ++ list_text model.now xs.now) page.old page.new (D.state desk.old) (D.state desk.new) }
 {
-    push_text(bytes, b",")?;
-    push_names(bytes, model, xs)
+    put_text(page, desk, b",");
+    put_names(page, desk, model, xs);
 }
 
 /// A call of an interval and a list of intervals.
-fn push_hierarchy(
-    bytes: &mut Vec<u8>,
+fn put_hierarchy<D: Desk>(
+    page: &mut Page,
+    desk: &mut D,
     model: &Model,
     word: &[u8],
     x: Itv,
     parts: &[Itv],
-) -> Result<(), NoMemory>
-    ensures { OnOk result (bytes.new.items ≡ bytes.old.items ++ call word.now (interval_name model.now x ∷ list_text model.now parts.now ∷ [])) }
+)
+    ensures { Prints (call word.now (interval_name model.now x ∷ list_text model.now parts.now ∷ [])) page.old page.new (D.state desk.old) (D.state desk.new) }
 {
-    push_open(bytes, word)?;
-    push_interval(bytes, model, x)?;
-    push_next_names(bytes, model, parts)?;
-    push_text(bytes, b")")?;
-    Ok(())
+    put_open(page, desk, word);
+    put_interval(page, desk, model, x);
+    put_next_names(page, desk, model, parts);
+    put_text(page, desk, b")");
 }
 
 /// A sequence by its name, or as its list.
-fn push_use(bytes: &mut Vec<u8>, model: &Model, d: &SequenceDef) -> Result<(), NoMemory>
-    ensures { OnOk result (bytes.new.items ≡ bytes.old.items ++ use_text model.now d.now) }
+fn put_use<D: Desk>(page: &mut Page, desk: &mut D, model: &Model, d: &SequenceDef)
+    ensures { Prints (use_text model.now d.now) page.old page.new (D.state desk.old) (D.state desk.new) }
 {
     match &d.name {
-        Some(name) => push_text(bytes, name.as_slice()),
-        None => push_names(bytes, model, d.members.as_slice()),
+        Some(name) => put_text(page, desk, name.as_slice()),
+        None => put_names(page, desk, model, d.members.as_slice()),
     }
 }
 
 /// A sequence in a constraint.
-fn push_over(bytes: &mut Vec<u8>, model: &Model, p: Seq) -> Result<(), NoMemory>
-    ensures { OnOk result (bytes.new.items ≡ bytes.old.items ++ over_text model.now p) }
+fn put_over<D: Desk>(page: &mut Page, desk: &mut D, model: &Model, p: Seq)
+    ensures { Prints (over_text model.now p) page.old page.new (D.state desk.old) (D.state desk.new) }
 {
     if let Some(d) = at(model.sequences(), p.0 as usize) {
-        push_use(bytes, model, d)?;
+        put_use(page, desk, model, d);
     }
-    Ok(())
 }
 
 /// The matrix and the flag of a `noOverlap`, each behind a comma.
-fn push_distance(bytes: &mut Vec<u8>, model: &Model, x: Mat, direct: bool) -> Result<(), NoMemory>
-    ensures { OnOk result (bytes.new.items ≡ bytes.old.items ++ distance_text model.now (Some x) direct) }
+fn put_distance<D: Desk>(page: &mut Page, desk: &mut D, model: &Model, x: Mat, direct: bool)
+    ensures { Prints (distance_text model.now (Some x) direct) page.old page.new (D.state desk.old) (D.state desk.new) }
 {
-    push_text(bytes, b",")?;
-    push_matrix(bytes, model, x)?;
-    push_text(bytes, b",")?;
-    push_text(bytes, flag(direct))?;
-    Ok(())
+    put_text(page, desk, b",");
+    put_matrix(page, desk, model, x);
+    put_text(page, desk, b",");
+    put_text(page, desk, flag(direct));
 }
 
 /// The same, where there is a matrix.
-fn push_distances(
-    bytes: &mut Vec<u8>,
+fn put_distances<D: Desk>(
+    page: &mut Page,
+    desk: &mut D,
     model: &Model,
     matrix: Option<Mat>,
     direct: bool,
-) -> Result<(), NoMemory>
-    ensures { OnOk result (bytes.new.items ≡ bytes.old.items ++ distance_text model.now matrix direct) }
+)
+    ensures { Prints (distance_text model.now matrix direct) page.old page.new (D.state desk.old) (D.state desk.new) }
 {
     match matrix {
-        None => Ok(()),
-        Some(x) => push_distance(bytes, model, x, direct),
+        None => {}
+        Some(x) => put_distance(page, desk, model, x, direct),
     }
 }
 
-fn push_no_overlap(
-    bytes: &mut Vec<u8>,
+fn put_no_overlap<D: Desk>(
+    page: &mut Page,
+    desk: &mut D,
     model: &Model,
     p: Seq,
     matrix: Option<Mat>,
     direct: bool,
-) -> Result<(), NoMemory>
-    ensures { OnOk result (bytes.new.items ≡ bytes.old.items ++ call (codes "noOverlap") ((over_text model.now p ++ distance_text model.now matrix direct) ∷ [])) }
+)
+    ensures { Prints (call (codes "noOverlap") ((over_text model.now p ++ distance_text model.now matrix direct) ∷ [])) page.old page.new (D.state desk.old) (D.state desk.new) }
 {
-    push_text(bytes, b"noOverlap(")?;
-    push_over(bytes, model, p)?;
-    push_distances(bytes, model, matrix, direct)?;
-    push_text(bytes, b")")?;
-    Ok(())
+    put_text(page, desk, b"noOverlap(");
+    put_over(page, desk, model, p);
+    put_distances(page, desk, model, matrix, direct);
+    put_text(page, desk, b")");
 }
 
 /// A call of a sequence and one member.
-fn push_placed(
-    bytes: &mut Vec<u8>,
-    model: &Model,
-    word: &[u8],
-    p: Seq,
-    x: Itv,
-) -> Result<(), NoMemory>
-    ensures { OnOk result (bytes.new.items ≡ bytes.old.items ++ call word.now (over_text model.now p ∷ interval_name model.now x ∷ [])) }
+fn put_placed<D: Desk>(page: &mut Page, desk: &mut D, model: &Model, word: &[u8], p: Seq, x: Itv)
+    ensures { Prints (call word.now (over_text model.now p ∷ interval_name model.now x ∷ [])) page.old page.new (D.state desk.old) (D.state desk.new) }
 {
-    push_open(bytes, word)?;
-    push_over(bytes, model, p)?;
-    push_next_interval(bytes, model, x)?;
-    push_text(bytes, b")")?;
-    Ok(())
+    put_open(page, desk, word);
+    put_over(page, desk, model, p);
+    put_next_interval(page, desk, model, x);
+    put_text(page, desk, b")");
 }
 
 /// A call of a sequence and two members.
-fn push_ordered(
-    bytes: &mut Vec<u8>,
+fn put_ordered<D: Desk>(
+    page: &mut Page,
+    desk: &mut D,
     model: &Model,
     word: &[u8],
     p: Seq,
     x: Itv,
     y: Itv,
-) -> Result<(), NoMemory>
-    ensures { OnOk result (bytes.new.items ≡ bytes.old.items ++ call word.now (over_text model.now p ∷ interval_name model.now x ∷ interval_name model.now y ∷ [])) }
+)
+    ensures { Prints (call word.now (over_text model.now p ∷ interval_name model.now x ∷ interval_name model.now y ∷ [])) page.old page.new (D.state desk.old) (D.state desk.new) }
 {
-    push_open(bytes, word)?;
-    push_over(bytes, model, p)?;
-    push_next_interval(bytes, model, x)?;
-    push_next_interval(bytes, model, y)?;
-    push_text(bytes, b")")?;
-    Ok(())
+    put_open(page, desk, word);
+    put_over(page, desk, model, p);
+    put_next_interval(page, desk, model, x);
+    put_next_interval(page, desk, model, y);
+    put_text(page, desk, b")");
 }
 
 /// The least number that a level may be, -2^62: no bound from below.
 const LEAST: i64 = -4_611_686_018_427_387_904;
 
 /// A function that is bounded at every moment.
-fn push_bounded(
-    bytes: &mut Vec<u8>,
-    model: &Model,
-    f: Cum,
-    lo: i64,
-    hi: i64,
-) -> Result<(), NoMemory>
-    ensures { OnOk result (bytes.new.items ≡ bytes.old.items ++ bounded_text (function_text model.now f) lo hi) }
+fn put_bounded<D: Desk>(page: &mut Page, desk: &mut D, model: &Model, f: Cum, lo: i64, hi: i64)
+    ensures { Prints (bounded_text (function_text model.now f) lo hi) page.old page.new (D.state desk.old) (D.state desk.new) }
 {
-    push_function(bytes, model, f)?;
+    put_function(page, desk, model, f);
     if lo == LEAST {
-        push_text(bytes, b" <= ")?;
-        push_number(bytes, hi)?;
-        return Ok(());
+        put_text(page, desk, b" <= ");
+        put_number(page, desk, hi);
+        return;
     }
-    push_text(bytes, b" >= ")?;
-    push_number(bytes, lo)?;
-    Ok(())
+    put_text(page, desk, b" >= ");
+    put_number(page, desk, lo);
 }
 
 /// A function that is bounded between two moments.
-fn push_between(
-    bytes: &mut Vec<u8>,
+fn put_between<D: Desk>(
+    page: &mut Page,
+    desk: &mut D,
     model: &Model,
     f: Cum,
     u: i64,
     v: i64,
     lo: i64,
     hi: i64,
-) -> Result<(), NoMemory>
-    ensures { OnOk result (bytes.new.items ≡ bytes.old.items ++ call (codes "alwaysIn") (function_text model.now f ∷ signed_decimal u ∷ signed_decimal v ∷ signed_decimal lo ∷ signed_decimal hi ∷ [])) }
+)
+    ensures { Prints (call (codes "alwaysIn") (function_text model.now f ∷ signed_decimal u ∷ signed_decimal v ∷ signed_decimal lo ∷ signed_decimal hi ∷ [])) page.old page.new (D.state desk.old) (D.state desk.new) }
 {
-    push_text(bytes, b"alwaysIn(")?;
-    push_function(bytes, model, f)?;
-    push_next_number(bytes, u)?;
-    push_next_number(bytes, v)?;
-    push_next_number(bytes, lo)?;
-    push_next_number(bytes, hi)?;
-    push_text(bytes, b")")?;
-    Ok(())
+    put_text(page, desk, b"alwaysIn(");
+    put_function(page, desk, model, f);
+    put_next_number(page, desk, u);
+    put_next_number(page, desk, v);
+    put_next_number(page, desk, lo);
+    put_next_number(page, desk, hi);
+    put_text(page, desk, b")");
 }
 
 /// A function that is bounded during an interval.
-fn push_during(
-    bytes: &mut Vec<u8>,
+fn put_during<D: Desk>(
+    page: &mut Page,
+    desk: &mut D,
     model: &Model,
     f: Cum,
     x: Itv,
     lo: i64,
     hi: i64,
-) -> Result<(), NoMemory>
-    ensures { OnOk result (bytes.new.items ≡ bytes.old.items ++ call (codes "alwaysIn") (function_text model.now f ∷ interval_name model.now x ∷ signed_decimal lo ∷ signed_decimal hi ∷ [])) }
+)
+    ensures { Prints (call (codes "alwaysIn") (function_text model.now f ∷ interval_name model.now x ∷ signed_decimal lo ∷ signed_decimal hi ∷ [])) page.old page.new (D.state desk.old) (D.state desk.new) }
 {
-    push_text(bytes, b"alwaysIn(")?;
-    push_function(bytes, model, f)?;
-    push_next_interval(bytes, model, x)?;
-    push_next_number(bytes, lo)?;
-    push_next_number(bytes, hi)?;
-    push_text(bytes, b")")?;
-    Ok(())
+    put_text(page, desk, b"alwaysIn(");
+    put_function(page, desk, model, f);
+    put_next_interval(page, desk, model, x);
+    put_next_number(page, desk, lo);
+    put_next_number(page, desk, hi);
+    put_text(page, desk, b")");
 }
 
-fn push_within(
-    bytes: &mut Vec<u8>,
+fn put_within<D: Desk>(
+    page: &mut Page,
+    desk: &mut D,
     model: &Model,
     f: Cum,
     window: Window,
     lo: i64,
     hi: i64,
-) -> Result<(), NoMemory>
-    ensures { OnOk result (bytes.new.items ≡ bytes.old.items ++ within_text model.now (function_text model.now f) window lo hi) }
+)
+    ensures { Prints (within_text model.now (function_text model.now f) window lo hi) page.old page.new (D.state desk.old) (D.state desk.new) }
 {
     match window {
-        Window::Always => push_bounded(bytes, model, f, lo, hi),
-        Window::Moments { u, v } => push_between(bytes, model, f, u, v, lo, hi),
-        Window::During(x) => push_during(bytes, model, f, x, lo, hi),
+        Window::Always => put_bounded(page, desk, model, f, lo, hi),
+        Window::Moments { u, v } => put_between(page, desk, model, f, u, v, lo, hi),
+        Window::During(x) => put_during(page, desk, model, f, x, lo, hi),
     }
 }
 
-fn push_always_equal(
-    bytes: &mut Vec<u8>,
+fn put_always_equal<D: Desk>(
+    page: &mut Page,
+    desk: &mut D,
     model: &Model,
     g: Stf,
     x: Itv,
     v: i64,
     aligned: (bool, bool),
-) -> Result<(), NoMemory>
-    ensures { OnOk result (bytes.new.items ≡ bytes.old.items ++ call (codes "alwaysEqual") (state_name model.now g ∷ interval_name model.now x ∷ signed_decimal v ∷ flag aligned.0 ∷ flag aligned.1 ∷ [])) }
+)
+    ensures { Prints (call (codes "alwaysEqual") (state_name model.now g ∷ interval_name model.now x ∷ signed_decimal v ∷ flag aligned.0 ∷ flag aligned.1 ∷ [])) page.old page.new (D.state desk.old) (D.state desk.new) }
 {
-    push_text(bytes, b"alwaysEqual(")?;
-    push_state(bytes, model, g)?;
-    push_next_interval(bytes, model, x)?;
-    push_next_number(bytes, v)?;
-    push_next_flag(bytes, aligned.0)?;
-    push_next_flag(bytes, aligned.1)?;
-    push_text(bytes, b")")?;
-    Ok(())
+    put_text(page, desk, b"alwaysEqual(");
+    put_state(page, desk, model, g);
+    put_next_interval(page, desk, model, x);
+    put_next_number(page, desk, v);
+    put_next_flag(page, desk, aligned.0);
+    put_next_flag(page, desk, aligned.1);
+    put_text(page, desk, b")");
 }
 
-fn push_no_state(bytes: &mut Vec<u8>, model: &Model, g: Stf, x: Itv) -> Result<(), NoMemory>
-    ensures { OnOk result (bytes.new.items ≡ bytes.old.items ++ call (codes "alwaysNoState") (state_name model.now g ∷ interval_name model.now x ∷ [])) }
+fn put_no_state<D: Desk>(page: &mut Page, desk: &mut D, model: &Model, g: Stf, x: Itv)
+    ensures { Prints (call (codes "alwaysNoState") (state_name model.now g ∷ interval_name model.now x ∷ [])) page.old page.new (D.state desk.old) (D.state desk.new) }
 {
-    push_text(bytes, b"alwaysNoState(")?;
-    push_state(bytes, model, g)?;
-    push_next_interval(bytes, model, x)?;
-    push_text(bytes, b")")?;
-    Ok(())
+    put_text(page, desk, b"alwaysNoState(");
+    put_state(page, desk, model, g);
+    put_next_interval(page, desk, model, x);
+    put_text(page, desk, b")");
 }
 
-pub fn push_constraint(bytes: &mut Vec<u8>, model: &Model, c: &Constraint) -> Result<(), NoMemory>
-    ensures { OnOk result (bytes.new.items ≡ bytes.old.items ++ constraint_text model.now c.now) }
+pub fn put_constraint<D: Desk>(page: &mut Page, desk: &mut D, model: &Model, c: &Constraint)
+    ensures { Prints (constraint_text model.now c.now) page.old page.new (D.state desk.old) (D.state desk.new) }
 {
     match c {
         Constraint::Temporal {
@@ -308,38 +294,49 @@ pub fn push_constraint(bytes: &mut Vec<u8>, model: &Model, c: &Constraint) -> Re
             a,
             b,
             z,
-        } => push_temporal(bytes, model, temporal_word(*from, *to, *equal), *a, *b, *z),
-        Constraint::Logic(e) => push_whole(bytes, model, e),
-        Constraint::Span { a, parts } => push_hierarchy(
-            bytes,
+        } => put_temporal(
+            page,
+            desk,
+            model,
+            temporal_word(*from, *to, *equal),
+            *a,
+            *b,
+            *z,
+        ),
+        Constraint::Logic(e) => put_whole(page, desk, model, e),
+        Constraint::Span { a, parts } => put_hierarchy(
+            page,
+            desk,
             model,
             b"span",
             *a,
             parts.as_slice(),
         ),
-        Constraint::Alternative { a, parts } => push_hierarchy(
-            bytes,
+        Constraint::Alternative { a, parts } => put_hierarchy(
+            page,
+            desk,
             model,
             b"alternative",
             *a,
             parts.as_slice(),
         ),
-        Constraint::Synchronize { a, parts } => push_hierarchy(
-            bytes,
+        Constraint::Synchronize { a, parts } => put_hierarchy(
+            page,
+            desk,
             model,
             b"synchronize",
             *a,
             parts.as_slice(),
         ),
-        Constraint::NoOverlap { p, matrix, direct } => push_no_overlap(
-            bytes, model, *p, *matrix, *direct,
+        Constraint::NoOverlap { p, matrix, direct } => put_no_overlap(
+            page, desk, model, *p, *matrix, *direct,
         ),
-        Constraint::First { p, a } => push_placed(bytes, model, b"first", *p, *a),
-        Constraint::Last { p, a } => push_placed(bytes, model, b"last", *p, *a),
-        Constraint::Before { p, a, b } => push_ordered(bytes, model, b"before", *p, *a, *b),
-        Constraint::Prev { p, a, b } => push_ordered(bytes, model, b"prev", *p, *a, *b),
-        Constraint::CumulIn { f, window, lo, hi } => push_within(
-            bytes, model, *f, *window, *lo, *hi,
+        Constraint::First { p, a } => put_placed(page, desk, model, b"first", *p, *a),
+        Constraint::Last { p, a } => put_placed(page, desk, model, b"last", *p, *a),
+        Constraint::Before { p, a, b } => put_ordered(page, desk, model, b"before", *p, *a, *b),
+        Constraint::Prev { p, a, b } => put_ordered(page, desk, model, b"prev", *p, *a, *b),
+        Constraint::CumulIn { f, window, lo, hi } => put_within(
+            page, desk, model, *f, *window, *lo, *hi,
         ),
         Constraint::AlwaysEqual {
             g,
@@ -347,7 +344,15 @@ pub fn push_constraint(bytes: &mut Vec<u8>, model: &Model, c: &Constraint) -> Re
             v,
             start_aligned,
             end_aligned,
-        } => push_always_equal(bytes, model, *g, *a, *v, (*start_aligned, *end_aligned)),
-        Constraint::AlwaysNoState { g, a } => push_no_state(bytes, model, *g, *a),
+        } => put_always_equal(
+            page,
+            desk,
+            model,
+            *g,
+            *a,
+            *v,
+            (*start_aligned, *end_aligned),
+        ),
+        Constraint::AlwaysNoState { g, a } => put_no_state(page, desk, model, *g, *a),
     }
 }

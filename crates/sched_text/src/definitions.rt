@@ -1,21 +1,22 @@
 //! Definitions, each in a line of its own.
-ghost use Rattle.std.specs.Prelude.{◌≡◌, ◌++◌, ◌∷◌, [], codes, map, take, drop, OnOk, if◌then◌else◌};
+ghost use Rattle.std.specs.Prelude.{◌≡◌, ◌++◌, ◌∷◌, [], codes, map, take, drop, if◌then◌else◌};
 ghost use Rattle.std.specs.Fmt.{decimal, signed_decimal};
 ghost use Rattle.sched_text.specs.Pieces.{call, commas, listed, range_text};
 ghost use Rattle.sched_text.specs.Canonical.{given, interval_text, list_text, matrix_text, named_cumul_text, named_sequence_text, optional_items, range_items, rows, state_items, state_text, types_text};
+ghost use Rattle.sched_text.specs.Printing.{Prints};
 
-use crate::cumulative::push_parts;
-use crate::pieces::{push_comma, push_count, push_matrix, push_names, push_range, push_text};
-use sched_base::{List, Mat, NoMemory};
+use crate::cumulative::put_parts;
+use crate::page::{Page, put_text};
+use crate::pieces::{put_comma, put_count, put_matrix, put_names, put_number, put_range};
+use sched_base::{Desk, List, Mat};
 use sched_model::{CumulDef, IntervalDef, MatrixDef, Model, SequenceDef, StateDef};
-use textline::push_number;
 
-fn push_given(bytes: &mut Vec<u8>, word: &[u8], lo: i64, hi: i64) -> Result<(), NoMemory>
-    ensures { OnOk result (bytes.new.items ≡ bytes.old.items ++ given word.now (range_text lo hi)) }
+fn put_given<D: Desk>(page: &mut Page, desk: &mut D, word: &[u8], lo: i64, hi: i64)
+    ensures { Prints (given word.now (range_text lo hi)) page.old page.new (D.state desk.old) (D.state desk.new) }
 {
-    push_text(bytes, word)?;
-    push_text(bytes, b"=")?;
-    push_range(bytes, lo, hi)
+    put_text(page, desk, word);
+    put_text(page, desk, b"=");
+    put_range(page, desk, lo, hi);
 }
 
 /// The word that an interval which may be absent has first.
@@ -26,64 +27,59 @@ fn first_word(optional: bool) -> &'static [u8]
 }
 
 /// The three ranges of an interval.
-fn push_ranges(bytes: &mut Vec<u8>, d: &IntervalDef) -> Result<(), NoMemory>
-    ensures { OnOk result (bytes.new.items ≡ bytes.old.items ++ commas (range_items d.now)) }
+fn put_ranges<D: Desk>(page: &mut Page, desk: &mut D, d: &IntervalDef)
+    ensures { Prints (commas (range_items d.now)) page.old page.new (D.state desk.old) (D.state desk.new) }
 {
-    push_given(bytes, b"start", d.start_lo, d.start_hi)?;
-    push_text(bytes, b",")?;
-    push_given(bytes, b"end", d.end_lo, d.end_hi)?;
-    push_text(bytes, b",")?;
-    push_given(bytes, b"size", d.size_lo, d.size_hi)?;
-    Ok(())
+    put_given(page, desk, b"start", d.start_lo, d.start_hi);
+    put_text(page, desk, b",");
+    put_given(page, desk, b"end", d.end_lo, d.end_hi);
+    put_text(page, desk, b",");
+    put_given(page, desk, b"size", d.size_lo, d.size_hi);
 }
 
-fn push_interval_call(bytes: &mut Vec<u8>, d: &IntervalDef) -> Result<(), NoMemory>
-    ensures { OnOk result (bytes.new.items ≡ bytes.old.items ++ call (codes "intervalVar") (optional_items d.now.optional ++ range_items d.now)) }
+fn put_interval_call<D: Desk>(page: &mut Page, desk: &mut D, d: &IntervalDef)
+    ensures { Prints (call (codes "intervalVar") (optional_items d.now.optional ++ range_items d.now)) page.old page.new (D.state desk.old) (D.state desk.new) }
 {
-    push_text(bytes, b"intervalVar(")?;
-    push_text(bytes, first_word(d.optional))?;
-    push_ranges(bytes, d)?;
-    push_text(bytes, b")")?;
-    Ok(())
+    put_text(page, desk, b"intervalVar(");
+    put_text(page, desk, first_word(d.optional));
+    put_ranges(page, desk, d);
+    put_text(page, desk, b")");
 }
 
-pub fn push_interval_def(bytes: &mut Vec<u8>, d: &IntervalDef) -> Result<(), NoMemory>
-    ensures { OnOk result (bytes.new.items ≡ bytes.old.items ++ interval_text d.now) }
+pub fn put_interval_def<D: Desk>(page: &mut Page, desk: &mut D, d: &IntervalDef)
+    ensures { Prints (interval_text d.now) page.old page.new (D.state desk.old) (D.state desk.new) }
 {
-    push_text(bytes, d.name.as_slice())?;
-    push_text(bytes, b" = ")?;
-    push_interval_call(bytes, d)?;
-    push_text(bytes, b";\n")?;
-    Ok(())
+    put_text(page, desk, d.name.as_slice());
+    put_text(page, desk, b" = ");
+    put_interval_call(page, desk, d);
+    put_text(page, desk, b";\n");
 }
 
-fn push_cell(bytes: &mut Vec<u8>, n: &i64) -> Result<(), NoMemory>
-    ensures { OnOk result (bytes.new.items ≡ bytes.old.items ++ signed_decimal n.now) }
+fn put_cell<D: Desk>(page: &mut Page, desk: &mut D, n: &i64)
+    ensures { Prints (signed_decimal n.now) page.old page.new (D.state desk.old) (D.state desk.new) }
 {
-    push_number(bytes, *n)
+    put_number(page, desk, *n);
 }
 
 /// Numbers with commas between them.
-fn push_numbers(bytes: &mut Vec<u8>, numbers: &[i64]) -> Result<(), NoMemory>
-    ensures { OnOk result (bytes.new.items ≡ bytes.old.items ++ commas (map signed_decimal numbers.now)) }
+fn put_numbers<D: Desk>(page: &mut Page, desk: &mut D, numbers: &[i64])
+    ensures { Prints (commas (map signed_decimal numbers.now)) page.old page.new (D.state desk.old) (D.state desk.new) }
 {
     let mut is_first = true;
     for n in numbers {
-        push_comma(bytes, is_first)?;
-        push_cell(bytes, n)?;
+        put_comma(page, desk, is_first);
+        put_cell(page, desk, n);
         is_first = false;
     }
-    Ok(())
 }
 
 /// Numbers in square brackets.
-fn push_row(bytes: &mut Vec<u8>, numbers: &[i64]) -> Result<(), NoMemory>
-    ensures { OnOk result (bytes.new.items ≡ bytes.old.items ++ listed (map signed_decimal numbers.now)) }
+fn put_row<D: Desk>(page: &mut Page, desk: &mut D, numbers: &[i64])
+    ensures { Prints (listed (map signed_decimal numbers.now)) page.old page.new (D.state desk.old) (D.state desk.new) }
 {
-    push_text(bytes, b"[")?;
-    push_numbers(bytes, numbers)?;
-    push_text(bytes, b"]")?;
-    Ok(())
+    put_text(page, desk, b"[");
+    put_numbers(page, desk, numbers);
+    put_text(page, desk, b"]");
 }
 
 /// The first n cells and the others, or all cells where there are fewer.
@@ -95,130 +91,118 @@ fn cut(cells: &[i64], n: usize) -> (&[i64], &[i64])
 }
 
 /// Cells in n rows of n, with commas between the rows.
-fn push_rows(bytes: &mut Vec<u8>, n: usize, cells: &[i64]) -> Result<(), NoMemory>
-    ensures { OnOk result (bytes.new.items ≡ bytes.old.items ++ commas (rows n n cells.now)) }
+fn put_rows<D: Desk>(page: &mut Page, desk: &mut D, n: usize, cells: &[i64])
+    ensures { Prints (commas (rows n n cells.now)) page.old page.new (D.state desk.old) (D.state desk.new) }
 {
     let mut is_first = true;
     let mut rest = cells;
     let mut left = n;
     while left > 0 {
         let (row, others) = cut(rest, n);
-        push_comma(bytes, is_first)?;
-        push_row(bytes, row)?;
+        put_comma(page, desk, is_first);
+        put_row(page, desk, row);
         is_first = false;
         rest = others;
         left -= 1;
     }
-    Ok(())
 }
 
-pub fn push_matrix_def(bytes: &mut Vec<u8>, d: &MatrixDef) -> Result<(), NoMemory>
-    ensures { OnOk result (bytes.new.items ≡ bytes.old.items ++ matrix_text d.now) }
+pub fn put_matrix_def<D: Desk>(page: &mut Page, desk: &mut D, d: &MatrixDef)
+    ensures { Prints (matrix_text d.now) page.old page.new (D.state desk.old) (D.state desk.new) }
 {
-    push_text(bytes, d.name.as_slice())?;
-    push_text(bytes, b" = transitionMatrix([")?;
-    push_rows(bytes, d.size as usize, d.cells.as_slice())?;
-    push_text(bytes, b"]);\n")?;
-    Ok(())
+    put_text(page, desk, d.name.as_slice());
+    put_text(page, desk, b" = transitionMatrix([");
+    put_rows(page, desk, d.size as usize, d.cells.as_slice());
+    put_text(page, desk, b"]);\n");
 }
 
-fn push_type(bytes: &mut Vec<u8>, n: &u32) -> Result<(), NoMemory>
-    ensures { OnOk result (bytes.new.items ≡ bytes.old.items ++ decimal n.now) }
+fn put_type<D: Desk>(page: &mut Page, desk: &mut D, n: &u32)
+    ensures { Prints (decimal n.now) page.old page.new (D.state desk.old) (D.state desk.new) }
 {
-    push_count(bytes, u64::from(*n))
+    put_count(page, desk, u64::from(*n));
 }
 
 /// Types with commas between them.
-fn push_types(bytes: &mut Vec<u8>, types: &[u32]) -> Result<(), NoMemory>
-    ensures { OnOk result (bytes.new.items ≡ bytes.old.items ++ commas (map decimal types.now)) }
+fn put_types<D: Desk>(page: &mut Page, desk: &mut D, types: &[u32])
+    ensures { Prints (commas (map decimal types.now)) page.old page.new (D.state desk.old) (D.state desk.new) }
 {
     let mut is_first = true;
     for n in types {
-        push_comma(bytes, is_first)?;
-        push_type(bytes, n)?;
+        put_comma(page, desk, is_first);
+        put_type(page, desk, n);
         is_first = false;
     }
-    Ok(())
 }
 
 /// A comma and the types of a sequence.
-fn push_given_types(bytes: &mut Vec<u8>, types: &[u32]) -> Result<(), NoMemory>
-    ensures { OnOk result (bytes.new.items ≡ bytes.old.items ++ (codes "," ++ given (codes "types") (listed (map decimal types.now)))) }
+fn put_given_types<D: Desk>(page: &mut Page, desk: &mut D, types: &[u32])
+    ensures { Prints (codes "," ++ given (codes "types") (listed (map decimal types.now))) page.old page.new (D.state desk.old) (D.state desk.new) }
 {
-    push_text(bytes, b",types=[")?;
-    push_types(bytes, types)?;
-    push_text(bytes, b"]")?;
-    Ok(())
+    put_text(page, desk, b",types=[");
+    put_types(page, desk, types);
+    put_text(page, desk, b"]");
 }
 
 /// The types of a sequence, where it has them.
-fn push_own_types(bytes: &mut Vec<u8>, types: &Option<List<u32>>) -> Result<(), NoMemory>
-    ensures { OnOk result (bytes.new.items ≡ bytes.old.items ++ types_text types.now) }
+fn put_own_types<D: Desk>(page: &mut Page, desk: &mut D, types: &Option<List<u32>>)
+    ensures { Prints (types_text types.now) page.old page.new (D.state desk.old) (D.state desk.new) }
 {
     match types {
-        None => Ok(()),
-        Some(types) => push_given_types(bytes, types.as_slice()),
+        None => {}
+        Some(types) => put_given_types(page, desk, types.as_slice()),
     }
 }
 
-fn push_sequence_call(bytes: &mut Vec<u8>, model: &Model, d: &SequenceDef) -> Result<(), NoMemory>
-    ensures { OnOk result (bytes.new.items ≡ bytes.old.items ++ call (codes "sequenceVar") ((list_text model.now d.now.members ++ types_text d.now.types) ∷ [])) }
+fn put_sequence_call<D: Desk>(page: &mut Page, desk: &mut D, model: &Model, d: &SequenceDef)
+    ensures { Prints (call (codes "sequenceVar") ((list_text model.now d.now.members ++ types_text d.now.types) ∷ [])) page.old page.new (D.state desk.old) (D.state desk.new) }
 {
-    push_text(bytes, b"sequenceVar(")?;
-    push_names(bytes, model, d.members.as_slice())?;
-    push_own_types(bytes, &d.types)?;
-    push_text(bytes, b")")?;
-    Ok(())
+    put_text(page, desk, b"sequenceVar(");
+    put_names(page, desk, model, d.members.as_slice());
+    put_own_types(page, desk, &d.types);
+    put_text(page, desk, b")");
 }
 
 /// A sequence that has a name.
-pub fn push_sequence_def(
-    bytes: &mut Vec<u8>,
-    model: &Model,
-    d: &SequenceDef,
-) -> Result<(), NoMemory>
-    ensures { OnOk result (bytes.new.items ≡ bytes.old.items ++ named_sequence_text model.now d.now) }
+pub fn put_sequence_def<D: Desk>(page: &mut Page, desk: &mut D, model: &Model, d: &SequenceDef)
+    ensures { Prints (named_sequence_text model.now d.now) page.old page.new (D.state desk.old) (D.state desk.new) }
 {
     let Some(name) = &d.name else {
-        return Ok(());
+        return;
     };
-    push_text(bytes, name.as_slice())?;
-    push_text(bytes, b" = ")?;
-    push_sequence_call(bytes, model, d)?;
-    push_text(bytes, b";\n")?;
-    Ok(())
+    put_text(page, desk, name.as_slice());
+    put_text(page, desk, b" = ");
+    put_sequence_call(page, desk, model, d);
+    put_text(page, desk, b";\n");
 }
 
 /// A cumulative function that has a name.
-pub fn push_cumul_def(bytes: &mut Vec<u8>, model: &Model, d: &CumulDef) -> Result<(), NoMemory>
-    ensures { OnOk result (bytes.new.items ≡ bytes.old.items ++ named_cumul_text model.now d.now) }
+pub fn put_cumul_def<D: Desk>(page: &mut Page, desk: &mut D, model: &Model, d: &CumulDef)
+    ensures { Prints (named_cumul_text model.now d.now) page.old page.new (D.state desk.old) (D.state desk.new) }
 {
     let Some(name) = &d.name else {
-        return Ok(());
+        return;
     };
-    push_text(bytes, name.as_slice())?;
-    push_text(bytes, b" = ")?;
-    push_parts(bytes, model, d.parts.as_slice())?;
-    push_text(bytes, b";\n")?;
-    Ok(())
+    put_text(page, desk, name.as_slice());
+    put_text(page, desk, b" = ");
+    put_parts(page, desk, model, d.parts.as_slice());
+    put_text(page, desk, b";\n");
 }
 
 /// The matrix of a state function, where it has one.
-fn push_own_matrix(bytes: &mut Vec<u8>, model: &Model, matrix: Option<Mat>) -> Result<(), NoMemory>
-    ensures { OnOk result (bytes.new.items ≡ bytes.old.items ++ commas (state_items model.now matrix)) }
+fn put_own_matrix<D: Desk>(page: &mut Page, desk: &mut D, model: &Model, matrix: Option<Mat>)
+    ensures { Prints (commas (state_items model.now matrix)) page.old page.new (D.state desk.old) (D.state desk.new) }
 {
     match matrix {
-        None => Ok(()),
-        Some(x) => push_matrix(bytes, model, x),
+        None => {}
+        Some(x) => put_matrix(page, desk, model, x),
     }
 }
 
-pub fn push_state_def(bytes: &mut Vec<u8>, model: &Model, d: &StateDef) -> Result<(), NoMemory>
-    ensures { OnOk result (bytes.new.items ≡ bytes.old.items ++ state_text model.now d.now) }
+pub fn put_state_def<D: Desk>(page: &mut Page, desk: &mut D, model: &Model, d: &StateDef)
+    ensures { Prints (state_text model.now d.now) page.old page.new (D.state desk.old) (D.state desk.new) }
 {
-    push_text(bytes, d.name.as_slice())?;
-    push_text(bytes, b" = stateFunction(")?;
-    push_own_matrix(bytes, model, d.matrix)?;
-    push_text(bytes, b");\n")?;
-    Ok(())
+    put_text(page, desk, d.name.as_slice());
+    put_text(page, desk, b" = stateFunction(");
+    put_own_matrix(page, desk, model, d.matrix);
+    put_text(page, desk, b");\n");
 }

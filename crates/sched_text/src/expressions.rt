@@ -1,14 +1,15 @@
 //! Expressions: as a whole, as an operand, and as a later operand of a sum.
-ghost use Rattle.std.specs.Prelude.{◌≡◌, ◌++◌, ◌∷◌, [], codes, map, OnOk, if◌then◌else◌};
+ghost use Rattle.std.specs.Prelude.{◌≡◌, ◌++◌, ◌∷◌, [], codes, map, if◌then◌else◌};
 ghost use Rattle.std.specs.Fmt.{signed_decimal};
 ghost use Rattle.sched_text.specs.Pieces.{between, call, commas, interval_name, listed};
 ghost use Rattle.sched_text.specs.Shown.{as_operand, comparison_sign, operands, shown, summed, terms, wholes};
 ghost use Rattle.sched_model.specs.Data.{Data};
+ghost use Rattle.sched_text.specs.Printing.{Prints};
 
-use crate::pieces::{push_comma, push_interval, push_next_number, push_open, push_text};
-use sched_base::{Itv, NoMemory};
+use crate::page::{Page, put_text};
+use crate::pieces::{put_comma, put_interval, put_next_number, put_number, put_open};
+use sched_base::{Desk, Itv};
 use sched_model::{CompareOp, Expr, Model};
-use textline::push_number;
 
 fn sign_of(op: CompareOp) -> &'static [u8]
     ensures { result.now ≡ comparison_sign op }
@@ -31,29 +32,21 @@ fn separator<'a>(is_first: bool, sign: &'a [u8]) -> &'a [u8]
 }
 
 /// What is asked of an interval, with the number that stands in for one that is absent.
-fn push_measured(
-    bytes: &mut Vec<u8>,
-    model: &Model,
-    word: &[u8],
-    x: Itv,
-    d: i64,
-) -> Result<(), NoMemory>
-    ensures { OnOk result (bytes.new.items ≡ bytes.old.items ++ call word.now (interval_name model.now x ∷ signed_decimal d ∷ [])) }
+fn put_measured<D: Desk>(page: &mut Page, desk: &mut D, model: &Model, word: &[u8], x: Itv, d: i64)
+    ensures { Prints (call word.now (interval_name model.now x ∷ signed_decimal d ∷ [])) page.old page.new (D.state desk.old) (D.state desk.new) }
 {
-    push_open(bytes, word)?;
-    push_interval(bytes, model, x)?;
-    push_next_number(bytes, d)?;
-    push_text(bytes, b")")?;
-    Ok(())
+    put_open(page, desk, word);
+    put_interval(page, desk, model, x);
+    put_next_number(page, desk, d);
+    put_text(page, desk, b")");
 }
 
-fn push_presence(bytes: &mut Vec<u8>, model: &Model, x: Itv) -> Result<(), NoMemory>
-    ensures { OnOk result (bytes.new.items ≡ bytes.old.items ++ call (codes "presenceOf") (interval_name model.now x ∷ [])) }
+fn put_presence<D: Desk>(page: &mut Page, desk: &mut D, model: &Model, x: Itv)
+    ensures { Prints (call (codes "presenceOf") (interval_name model.now x ∷ [])) page.old page.new (D.state desk.old) (D.state desk.new) }
 {
-    push_text(bytes, b"presenceOf(")?;
-    push_interval(bytes, model, x)?;
-    push_text(bytes, b")")?;
-    Ok(())
+    put_text(page, desk, b"presenceOf(");
+    put_interval(page, desk, model, x);
+    put_text(page, desk, b")");
 }
 
 /// Whether an expression stands in brackets where it is an operand.
@@ -81,158 +74,140 @@ fn is_composed(e: &Expr) -> bool
 }
 
 /// An expression as a whole statement, an argument or an item of a list.
-#[cycle(push_whole)]
-pub fn push_whole(bytes: &mut Vec<u8>, model: &Model, e: &Expr) -> Result<(), NoMemory>
-    ensures { OnOk result (bytes.new.items ≡ bytes.old.items ++ (shown model.now e.now).whole) }
+#[cycle(put_whole)]
+pub fn put_whole<D: Desk>(page: &mut Page, desk: &mut D, model: &Model, e: &Expr)
+    ensures { Prints ((shown model.now e.now).whole) page.old page.new (D.state desk.old) (D.state desk.new) }
 {
     match e {
-        Expr::Lit(n) => push_number(bytes, *n),
-        Expr::StartOf(x, d) => push_measured(bytes, model, b"startOf", *x, *d),
-        Expr::EndOf(x, d) => push_measured(bytes, model, b"endOf", *x, *d),
-        Expr::SizeOf(x, d) => push_measured(bytes, model, b"sizeOf", *x, *d),
-        Expr::LengthOf(x, d) => push_measured(bytes, model, b"lengthOf", *x, *d),
-        Expr::PresenceOf(x) => push_presence(bytes, model, *x),
-        Expr::Neg(x) => push_signed(bytes, model, b"-", x.get()),
-        Expr::Sum(xs) => push_sum(bytes, model, xs.as_slice()),
-        Expr::Product(xs) => push_operands(bytes, model, b"*", xs.as_slice()),
-        Expr::Max(xs) => push_gathered(bytes, model, b"max", xs.as_slice()),
-        Expr::Min(xs) => push_gathered(bytes, model, b"min", xs.as_slice()),
+        Expr::Lit(n) => put_number(page, desk, *n),
+        Expr::StartOf(x, d) => put_measured(page, desk, model, b"startOf", *x, *d),
+        Expr::EndOf(x, d) => put_measured(page, desk, model, b"endOf", *x, *d),
+        Expr::SizeOf(x, d) => put_measured(page, desk, model, b"sizeOf", *x, *d),
+        Expr::LengthOf(x, d) => put_measured(page, desk, model, b"lengthOf", *x, *d),
+        Expr::PresenceOf(x) => put_presence(page, desk, model, *x),
+        Expr::Neg(x) => put_signed(page, desk, model, b"-", x.get()),
+        Expr::Sum(xs) => put_sum(page, desk, model, xs.as_slice()),
+        Expr::Product(xs) => put_operands(page, desk, model, b"*", xs.as_slice()),
+        Expr::Max(xs) => put_gathered(page, desk, model, b"max", xs.as_slice()),
+        Expr::Min(xs) => put_gathered(page, desk, model, b"min", xs.as_slice()),
         Expr::Compare(op, x, y) => {
-            push_operand(bytes, model, x.get())?;
-            push_text(bytes, sign_of(*op))?;
-            push_operand(bytes, model, y.get())?;
-            Ok(())
+            put_operand(page, desk, model, x.get());
+            put_text(page, desk, sign_of(*op));
+            put_operand(page, desk, model, y.get());
         }
-        Expr::Not(x) => push_signed(bytes, model, b"!", x.get()),
-        Expr::And(xs) => push_operands(bytes, model, b"&&", xs.as_slice()),
-        Expr::Or(xs) => push_operands(bytes, model, b"||", xs.as_slice()),
+        Expr::Not(x) => put_signed(page, desk, model, b"!", x.get()),
+        Expr::And(xs) => put_operands(page, desk, model, b"&&", xs.as_slice()),
+        Expr::Or(xs) => put_operands(page, desk, model, b"||", xs.as_slice()),
         Expr::Implies(x, y) => {
-            push_operand(bytes, model, x.get())?;
-            push_text(bytes, b"=>")?;
-            push_operand(bytes, model, y.get())?;
-            Ok(())
+            put_operand(page, desk, model, x.get());
+            put_text(page, desk, b"=>");
+            put_operand(page, desk, model, y.get());
         }
     }
 }
 
 /// An expression as an operand.
-#[cycle(push_whole)]
-fn push_operand(bytes: &mut Vec<u8>, model: &Model, e: &Expr) -> Result<(), NoMemory>
-    ensures { OnOk result (bytes.new.items ≡ bytes.old.items ++ (shown model.now e.now).operand) }
+#[cycle(put_whole)]
+fn put_operand<D: Desk>(page: &mut Page, desk: &mut D, model: &Model, e: &Expr)
+    ensures { Prints ((shown model.now e.now).operand) page.old page.new (D.state desk.old) (D.state desk.new) }
 {
     if is_composed(e) {
-        push_text(bytes, b"(")?;
-        push_whole(bytes, model, e)?;
-        push_text(bytes, b")")?;
-        return Ok(());
+        put_text(page, desk, b"(");
+        put_whole(page, desk, model, e);
+        put_text(page, desk, b")");
+        return;
     }
-    push_whole(bytes, model, e)?;
-    Ok(())
+    put_whole(page, desk, model, e);
 }
 
 /// An operand behind a sign of its own.
-#[cycle(push_whole)]
-fn push_signed(bytes: &mut Vec<u8>, model: &Model, sign: &[u8], e: &Expr) -> Result<(), NoMemory>
-    ensures { OnOk result (bytes.new.items ≡ bytes.old.items ++ (sign.now ++ (shown model.now e.now).operand)) }
+#[cycle(put_whole)]
+fn put_signed<D: Desk>(page: &mut Page, desk: &mut D, model: &Model, sign: &[u8], e: &Expr)
+    ensures { Prints (sign.now ++ (shown model.now e.now).operand) page.old page.new (D.state desk.old) (D.state desk.new) }
 {
-    push_text(bytes, sign)?;
-    push_operand(bytes, model, e)
+    put_text(page, desk, sign);
+    put_operand(page, desk, model, e);
 }
 
 /// An operand of a sum behind the first, with its sign.
-#[cycle(push_whole)]
-fn push_later(bytes: &mut Vec<u8>, model: &Model, e: &Expr) -> Result<(), NoMemory>
-    ensures { OnOk result (bytes.new.items ≡ bytes.old.items ++ (shown model.now e.now).later) }
+#[cycle(put_whole)]
+fn put_later<D: Desk>(page: &mut Page, desk: &mut D, model: &Model, e: &Expr)
+    ensures { Prints ((shown model.now e.now).later) page.old page.new (D.state desk.old) (D.state desk.new) }
 {
     match e {
-        Expr::Neg(y) => push_signed(bytes, model, b"-", y.get()),
-        _ => push_signed(bytes, model, b"+", e),
+        Expr::Neg(y) => put_signed(page, desk, model, b"-", y.get()),
+        _ => put_signed(page, desk, model, b"+", e),
     }
 }
 
 /// Operands with a sign between each two.
-#[cycle(push_whole)]
-fn push_operands(
-    bytes: &mut Vec<u8>,
-    model: &Model,
-    sign: &[u8],
-    xs: &[Expr],
-) -> Result<(), NoMemory>
-    ensures { OnOk result (bytes.new.items ≡ bytes.old.items ++ between sign.now (operands (map (shown model.now) xs.now))) }
+#[cycle(put_whole)]
+fn put_operands<D: Desk>(page: &mut Page, desk: &mut D, model: &Model, sign: &[u8], xs: &[Expr])
+    ensures { Prints (between sign.now (operands (map (shown model.now) xs.now))) page.old page.new (D.state desk.old) (D.state desk.new) }
 {
     let mut is_first = true;
     for x in xs {
-        push_text(bytes, separator(is_first, sign))?;
-        push_operand(bytes, model, x)?;
+        put_text(page, desk, separator(is_first, sign));
+        put_operand(page, desk, model, x);
         is_first = false;
     }
-    Ok(())
 }
 
 /// Items with a comma between each two.
-#[cycle(push_whole)]
-fn push_items(bytes: &mut Vec<u8>, model: &Model, xs: &[Expr]) -> Result<(), NoMemory>
-    ensures { OnOk result (bytes.new.items ≡ bytes.old.items ++ commas (wholes (map (shown model.now) xs.now))) }
+#[cycle(put_whole)]
+fn put_items<D: Desk>(page: &mut Page, desk: &mut D, model: &Model, xs: &[Expr])
+    ensures { Prints (commas (wholes (map (shown model.now) xs.now))) page.old page.new (D.state desk.old) (D.state desk.new) }
 {
     let mut is_first = true;
     for x in xs {
-        push_comma(bytes, is_first)?;
-        push_whole(bytes, model, x)?;
+        put_comma(page, desk, is_first);
+        put_whole(page, desk, model, x);
         is_first = false;
     }
-    Ok(())
 }
 
 /// What a word makes of a list.
-#[cycle(push_whole)]
-fn push_gathered(
-    bytes: &mut Vec<u8>,
-    model: &Model,
-    word: &[u8],
-    xs: &[Expr],
-) -> Result<(), NoMemory>
-    ensures { OnOk result (bytes.new.items ≡ bytes.old.items ++ call word.now (listed (wholes (map (shown model.now) xs.now)) ∷ [])) }
+#[cycle(put_whole)]
+fn put_gathered<D: Desk>(page: &mut Page, desk: &mut D, model: &Model, word: &[u8], xs: &[Expr])
+    ensures { Prints (call word.now (listed (wholes (map (shown model.now) xs.now)) ∷ [])) page.old page.new (D.state desk.old) (D.state desk.new) }
 {
-    push_text(bytes, word)?;
-    push_text(bytes, b"([")?;
-    push_items(bytes, model, xs)?;
-    push_text(bytes, b"])")?;
-    Ok(())
+    put_text(page, desk, word);
+    put_text(page, desk, b"([");
+    put_items(page, desk, model, xs);
+    put_text(page, desk, b"])");
 }
 
 /// An operand of a sum: the first as it is, a later one with its sign.
-#[cycle(push_whole)]
-fn push_term(bytes: &mut Vec<u8>, model: &Model, is_first: bool, e: &Expr) -> Result<(), NoMemory>
-    ensures { OnOk result (bytes.new.items ≡ bytes.old.items ++ (if is_first then (shown model.now e.now).operand else (shown model.now e.now).later)) }
+#[cycle(put_whole)]
+fn put_term<D: Desk>(page: &mut Page, desk: &mut D, model: &Model, is_first: bool, e: &Expr)
+    ensures { Prints (if is_first then (shown model.now e.now).operand else (shown model.now e.now).later) page.old page.new (D.state desk.old) (D.state desk.new) }
 {
     if is_first {
-        return push_operand(bytes, model, e);
+        return put_operand(page, desk, model, e);
     }
-    push_later(bytes, model, e)
+    put_later(page, desk, model, e);
 }
 
 /// The operands of a sum.
-#[cycle(push_whole)]
-fn push_terms(bytes: &mut Vec<u8>, model: &Model, xs: &[Expr]) -> Result<(), NoMemory>
-    ensures { OnOk result (bytes.new.items ≡ bytes.old.items ++ terms (map (shown model.now) xs.now)) }
+#[cycle(put_whole)]
+fn put_terms<D: Desk>(page: &mut Page, desk: &mut D, model: &Model, xs: &[Expr])
+    ensures { Prints (terms (map (shown model.now) xs.now)) page.old page.new (D.state desk.old) (D.state desk.new) }
 {
     let mut is_first = true;
     for x in xs {
-        push_term(bytes, model, is_first, x)?;
+        put_term(page, desk, model, is_first, x);
         is_first = false;
     }
-    Ok(())
 }
 
 /// A sum of two or more by its signs, one of fewer by its word.
-#[cycle(push_whole)]
-fn push_sum(bytes: &mut Vec<u8>, model: &Model, xs: &[Expr]) -> Result<(), NoMemory>
-    ensures { OnOk result (bytes.new.items ≡ bytes.old.items ++ (summed (map (shown model.now) xs.now)).whole) }
+#[cycle(put_whole)]
+fn put_sum<D: Desk>(page: &mut Page, desk: &mut D, model: &Model, xs: &[Expr])
+    ensures { Prints ((summed (map (shown model.now) xs.now)).whole) page.old page.new (D.state desk.old) (D.state desk.new) }
 {
     if xs.len() < 2 {
-        push_gathered(bytes, model, b"sum", xs)?;
-        return Ok(());
+        put_gathered(page, desk, model, b"sum", xs);
+        return;
     }
-    push_terms(bytes, model, xs)?;
-    Ok(())
+    put_terms(page, desk, model, xs);
 }

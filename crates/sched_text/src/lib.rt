@@ -1,5 +1,5 @@
 //! Texts of answers, of schedules and of models. The definitions stand in `specs/`; the functions
-//! here put these texts behind some bytes.
+//! here write these texts to standard output.
 #![tactic(auto)]
 
 mod answers;
@@ -9,8 +9,11 @@ mod cumulative;
 mod definitions;
 mod expressions;
 mod laws;
+mod page;
 mod pieces;
+#[cfg(test)]
+mod tests;
 
-pub use answers::{answer_bytes, push_schedule};
-pub use canonical::canonical_bytes;
+pub use answers::write_answer;
+pub use canonical::print_model;
 pub use laws::answer_is_told;

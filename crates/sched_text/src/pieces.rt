@@ -1,117 +1,112 @@
-ghost use Rattle.std.specs.Prelude.{◌≡◌, ◌++◌, ◌∷◌, [], codes, map, OnOk, if◌then◌else◌};
+ghost use Rattle.std.specs.Prelude.{◌≡◌, ◌++◌, ◌∷◌, [], codes, map, if◌then◌else◌};
 ghost use Rattle.std.specs.Fmt.{decimal, signed_decimal};
 ghost use Rattle.sched_text.specs.Pieces.{range_text, interval_name, matrix_name, state_name, interval_names, commas, listed};
+ghost use Rattle.sched_text.specs.Printing.{Prints};
 
+use crate::page::{Page, put_text};
 use itoa::Buffer;
-use sched_base::{Itv, Mat, NoMemory, Stf, at};
+use sched_base::{Desk, Itv, Mat, Stf, at};
 use sched_model::Model;
-use textline::push_number;
 
-/// Puts some text behind the bytes.
-pub fn push_text(bytes: &mut Vec<u8>, text: &[u8]) -> Result<(), NoMemory>
-    ensures { OnOk result (bytes.new.items ≡ bytes.old.items ++ text.now) }
-{
-    bytes.extend_from_slice(text)?;
-    Ok(())
-}
-
-/// Puts the decimal spelling of a count behind the bytes.
-pub fn push_count(bytes: &mut Vec<u8>, n: u64) -> Result<(), NoMemory>
-    ensures { OnOk result (bytes.new.items ≡ bytes.old.items ++ decimal n) }
+/// Puts the decimal spelling of a number behind what waits.
+pub fn put_number<D: Desk>(page: &mut Page, desk: &mut D, n: i64)
+    ensures { Prints (signed_decimal n) page.old page.new (D.state desk.old) (D.state desk.new) }
 {
     let mut buffer = Buffer::new();
-    bytes.extend_from_slice(buffer.format(n).as_bytes())?;
-    Ok(())
+    put_text(page, desk, buffer.format(n).as_bytes());
 }
 
-pub fn push_range(bytes: &mut Vec<u8>, lo: i64, hi: i64) -> Result<(), NoMemory>
-    ensures { OnOk result (bytes.new.items ≡ bytes.old.items ++ range_text lo hi) }
+/// Puts the decimal spelling of a count behind what waits.
+pub fn put_count<D: Desk>(page: &mut Page, desk: &mut D, n: u64)
+    ensures { Prints (decimal n) page.old page.new (D.state desk.old) (D.state desk.new) }
 {
-    push_number(bytes, lo)?;
-    push_text(bytes, b"..")?;
-    push_number(bytes, hi)
+    let mut buffer = Buffer::new();
+    put_text(page, desk, buffer.format(n).as_bytes());
 }
 
-pub fn push_interval(bytes: &mut Vec<u8>, model: &Model, x: Itv) -> Result<(), NoMemory>
-    ensures { OnOk result (bytes.new.items ≡ bytes.old.items ++ interval_name model.now x) }
+pub fn put_range<D: Desk>(page: &mut Page, desk: &mut D, lo: i64, hi: i64)
+    ensures { Prints (range_text lo hi) page.old page.new (D.state desk.old) (D.state desk.new) }
+{
+    put_number(page, desk, lo);
+    put_text(page, desk, b"..");
+    put_number(page, desk, hi);
+}
+
+pub fn put_interval<D: Desk>(page: &mut Page, desk: &mut D, model: &Model, x: Itv)
+    ensures { Prints (interval_name model.now x) page.old page.new (D.state desk.old) (D.state desk.new) }
 {
     if let Some(d) = at(model.intervals(), x.0 as usize) {
-        push_text(bytes, d.name.as_slice())?;
+        put_text(page, desk, d.name.as_slice());
     }
-    Ok(())
 }
 
-pub fn push_matrix(bytes: &mut Vec<u8>, model: &Model, x: Mat) -> Result<(), NoMemory>
-    ensures { OnOk result (bytes.new.items ≡ bytes.old.items ++ matrix_name model.now x) }
+pub fn put_matrix<D: Desk>(page: &mut Page, desk: &mut D, model: &Model, x: Mat)
+    ensures { Prints (matrix_name model.now x) page.old page.new (D.state desk.old) (D.state desk.new) }
 {
     if let Some(d) = at(model.matrices(), x.0 as usize) {
-        push_text(bytes, d.name.as_slice())?;
+        put_text(page, desk, d.name.as_slice());
     }
-    Ok(())
 }
 
-pub fn push_state(bytes: &mut Vec<u8>, model: &Model, g: Stf) -> Result<(), NoMemory>
-    ensures { OnOk result (bytes.new.items ≡ bytes.old.items ++ state_name model.now g) }
+pub fn put_state<D: Desk>(page: &mut Page, desk: &mut D, model: &Model, g: Stf)
+    ensures { Prints (state_name model.now g) page.old page.new (D.state desk.old) (D.state desk.new) }
 {
     if let Some(d) = at(model.states(), g.0 as usize) {
-        push_text(bytes, d.name.as_slice())?;
+        put_text(page, desk, d.name.as_slice());
     }
-    Ok(())
 }
 
 /// A word and the bracket behind it.
-pub fn push_open(bytes: &mut Vec<u8>, word: &[u8]) -> Result<(), NoMemory>
-    ensures { OnOk result (bytes.new.items ≡ bytes.old.items ++ (word.now ++ codes "(")) }
+pub fn put_open<D: Desk>(page: &mut Page, desk: &mut D, word: &[u8])
+    ensures { Prints (word.now ++ codes "(") page.old page.new (D.state desk.old) (D.state desk.new) }
 {
-    push_text(bytes, word)?;
-    push_text(bytes, b"(")
+    put_text(page, desk, word);
+    put_text(page, desk, b"(");
 }
 
 /// A comma and a number.
-pub fn push_next_number(bytes: &mut Vec<u8>, n: i64) -> Result<(), NoMemory>
-    ensures { OnOk result (bytes.new.items ≡ bytes.old.items ++ (codes "," ++ signed_decimal n)) }
+pub fn put_next_number<D: Desk>(page: &mut Page, desk: &mut D, n: i64)
+    ensures { Prints (codes "," ++ signed_decimal n) page.old page.new (D.state desk.old) (D.state desk.new) }
 {
-    push_text(bytes, b",")?;
-    push_number(bytes, n)
+    put_text(page, desk, b",");
+    put_number(page, desk, n);
 }
 
 /// A comma and the name of an interval.
-pub fn push_next_interval(bytes: &mut Vec<u8>, model: &Model, x: Itv) -> Result<(), NoMemory>
-    ensures { OnOk result (bytes.new.items ≡ bytes.old.items ++ (codes "," ++ interval_name model.now x)) }
+pub fn put_next_interval<D: Desk>(page: &mut Page, desk: &mut D, model: &Model, x: Itv)
+    ensures { Prints (codes "," ++ interval_name model.now x) page.old page.new (D.state desk.old) (D.state desk.new) }
 {
-    push_text(bytes, b",")?;
-    push_interval(bytes, model, x)
+    put_text(page, desk, b",");
+    put_interval(page, desk, model, x);
 }
 
 /// A comma, where an item stands before it.
-pub fn push_comma(bytes: &mut Vec<u8>, is_first: bool) -> Result<(), NoMemory>
-    ensures { OnOk result (bytes.new.items ≡ bytes.old.items ++ (if is_first then [] else codes ",")) }
+pub fn put_comma<D: Desk>(page: &mut Page, desk: &mut D, is_first: bool)
+    ensures { Prints (if is_first then [] else codes ",") page.old page.new (D.state desk.old) (D.state desk.new) }
 {
     if is_first {
-        return Ok(());
+        return;
     }
-    push_text(bytes, b",")
+    put_text(page, desk, b",");
 }
 
 /// The names of some intervals, with commas between them.
-fn push_items(bytes: &mut Vec<u8>, model: &Model, xs: &[Itv]) -> Result<(), NoMemory>
-    ensures { OnOk result (bytes.new.items ≡ bytes.old.items ++ commas (map (interval_name model.now) xs.now)) }
+fn put_items<D: Desk>(page: &mut Page, desk: &mut D, model: &Model, xs: &[Itv])
+    ensures { Prints (commas (map (interval_name model.now) xs.now)) page.old page.new (D.state desk.old) (D.state desk.new) }
 {
     let mut is_first = true;
     for x in xs {
-        push_comma(bytes, is_first)?;
-        push_interval(bytes, model, *x)?;
+        put_comma(page, desk, is_first);
+        put_interval(page, desk, model, *x);
         is_first = false;
     }
-    Ok(())
 }
 
 /// The names of some intervals, in square brackets.
-pub fn push_names(bytes: &mut Vec<u8>, model: &Model, xs: &[Itv]) -> Result<(), NoMemory>
-    ensures { OnOk result (bytes.new.items ≡ bytes.old.items ++ listed (interval_names model.now xs.now)) }
+pub fn put_names<D: Desk>(page: &mut Page, desk: &mut D, model: &Model, xs: &[Itv])
+    ensures { Prints (listed (interval_names model.now xs.now)) page.old page.new (D.state desk.old) (D.state desk.new) }
 {
-    push_text(bytes, b"[")?;
-    push_items(bytes, model, xs)?;
-    push_text(bytes, b"]")?;
-    Ok(())
+    put_text(page, desk, b"[");
+    put_items(page, desk, model, xs);
+    put_text(page, desk, b"]");
 }

@@ -1,9 +1,8 @@
 -- What a search with a log has done, from what its steps did.
-use Rattle.std.proofs.Common.{◌≡◌, ◌≤◌, ◌+◌, ℕ, true, List, [], ◌∷◌, ◌++◌, Option, Some, None, Ok, Err, length, take, refl, sym, ap, subst, ◌∙◌, inr, arith}
-use Rattle.std.proofs.lemmas.List.{take_all}
+use Rattle.std.proofs.Common.{◌≡◌, ◌≤◌, ℕ, true, List, [], Option, Some, None, Ok, refl, sym, ap, subst, ◌∙◌}
 use Rattle.std.specs.Prelude.{option_map}
 use Rattle.sched_base.specs.State.{State}
-use Rattle.sched_base.specs.Calls.{Creates, Rose, appended}
+use Rattle.sched_base.specs.Calls.{Creates, appended}
 use Rattle.sched_model.specs.declared.types.Solved.{Solved}
 use Rattle.sched_model.specs.Data.{Data}
 use Rattle.kernel.specs.NoExtra.{refutes_none}
@@ -11,13 +10,9 @@ use Rattle.kernel.specs.Refuting.{refutes_with}
 use Rattle.kernel.specs.Steps.{LogState, opening}
 use Rattle.textline.specs.Lines.{Bytes}
 use Rattle.logtext.specs.Logs.{PlainLine, plain_log}
-use Rattle.logtext.specs.Writing.{AppendedFrom}
-use Rattle.solver.specs.declared.search.SolveFault.{SolveFault}
-use Rattle.solver.specs.declared.search.SolveFault.TheVariants as solve
-use Rattle.solver.specs.Solving.{IsSolved, Solves, BeginsLog, CausesStop}
-use Rattle.schedtool.specs.Runs.{LogPromise, HoldsBegunLog}
-use Rattle.schedtool.specs.Stops.{stop_of_search}
-use Rattle.schedtool.specs.Tries.{Searches, BeginsSearch}
+use Rattle.solver.specs.Solving.{IsSolved, Solves}
+use Rattle.schedtool.specs.Runs.{LogPromise}
+use Rattle.schedtool.specs.Tries.{Searches}
 use Rattle.schedtool.proofs.Logged.{last_shown, one_waits, unclosed}
 
 created_empty : (text : Bytes) (before : Option Bytes) → appended text (option_map (λ bs. []) before) ≡ option_map (λ bs. text) before
@@ -48,14 +43,3 @@ searched m limit solved s c t u creates solves =
     ∙ ap (λ (x : State). record x { logged = appended text x.logged }) creates.created
     ∙ ap (λ l. record s { logged = l; created = true }) (created_empty text s.logged) in
     subst (Searches m limit (Ok solved) s) (sym is) (log_promise m limit solved solves.lines solves.state s.logged solves.is, solves.is.answer, refl)
-
--- a whole log is a begun one
-whole_part : (text : Bytes) (before after : Option Bytes) → after ≡ option_map (λ bs. text) before → AppendedFrom text (option_map (λ bs. []) before) after
-whole_part text before after is = (
-  length text,
-  omega arith,
-  is ∙ sym (created_empty text before) ∙ ap (λ bs. appended bs (option_map (λ bs. []) before)) (sym (take_all (length text) text (omega arith))),
-)
-
-pub whole_begun : (m : Data) (limit : ℕ) (solved : Solved) (before after : Option Bytes) → LogPromise m limit solved before after → HoldsBegunLog m before after
-whole_begun m limit solved before after promise = record { lines = promise.lines; state = promise.state; steps = promise.steps; part = whole_part (plain_log promise.lines) before after promise.written }

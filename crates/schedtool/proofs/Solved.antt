@@ -1,6 +1,5 @@
 -- What solving a file has done, from what its steps did.
-use Rattle.std.proofs.Common.{◌≡◌, ◌≤◌, ◌+◌, ℕ, true, List, [], ◌∷◌, Option, Some, None, Result, Ok, Err, length, take, refl, sym, ap, subst, ◌∙◌, inl, inr, arith}
-use Rattle.std.specs.Result.{IsErr, IsErrAnd}
+use Rattle.std.proofs.Common.{◌≡◌, ◌≤◌, ℕ, true, Ok, Err, take, refl, sym, ap, subst, ◌∙◌, inl, inr, arith}
 use Rattle.sched_base.specs.declared.desk.Failed.{Failed}
 use Rattle.sched_base.specs.declared.desk.Port.TheVariants.{Out}
 use Rattle.sched_base.specs.State.{State}
@@ -8,22 +7,14 @@ use Rattle.sched_base.specs.Calls.{Writes, Rose, appended}
 use Rattle.sched_model.specs.declared.types.Solved.{Solved}
 use Rattle.sched_model.specs.Data.{Data}
 use Rattle.textline.specs.Lines.{Bytes}
-use Rattle.logtext.specs.Writing.{AppendedFrom}
-use Rattle.solver.specs.Answers.{IsAnswer}
 use Rattle.schedtool.specs.declared.ended.Ended.{Ended}
 use Rattle.schedtool.specs.declared.stop.Stop.{Stop}
 use Rattle.schedtool.specs.declared.stop.Stop.TheVariants as stop
 use Rattle.sched_text.specs.Answers.{answer_text}
 use Rattle.schedtool.specs.Ended.{is_success}
-use Rattle.schedtool.specs.Runs.{FileServes, HasFile, LogPromise, HoldsBegunLog, CutShort, ending_of}
+use Rattle.schedtool.specs.Runs.{FileServes, LogPromise, HoldsBegunLog, CutShort, ending_of}
 use Rattle.schedtool.specs.Runs.CutShort.{before_log, in_log, in_answer}
-use Rattle.schedtool.specs.Tries.{OnlyReads, IsFault, BeginsSearch, Searches, TriesSolve}
-use Rattle.schedtool.proofs.Searched.{whole_begun}
-
--- the error that a `?` hands on
-pub err_is : (r : Result Ended Stop) (s : Stop) → IsErr r → IsErrAnd r (λ x. x ≡ s) → r ≡ Err s
-err_is (Ok e) s is and = cc
-err_is (Err x) s is and = ap (λ y. let r : Result Ended Stop = Err y in r) and
+use Rattle.schedtool.specs.Tries.{OnlyReads, BeginsSearch, Searches, TriesSolve}
 
 -- the search has begun behind the reading of the model
 pub begun_only : (m : Data) (old s t : State) → OnlyReads old s → BeginsSearch m s t → t ≡ record old { model = t.model; out = t.out; logged = t.logged; created = t.created; faults = t.faults }
@@ -72,27 +63,13 @@ answered m limit solved old s t reads says = says.2 ∙ ap (λ (x : State). reco
 answered_log : (m : Data) (limit : ℕ) (solved : Solved) (old s t : State) → OnlyReads old s → Searches m limit (Ok solved) s t → LogPromise m limit solved old.logged t.logged
 answered_log m limit solved old s t reads says = subst (λ b. LogPromise m limit solved b t.logged) (ap (λ (x : State). x.logged) reads.only) says.0
 
--- memory was refused for its text
-pub unspelt : (m : Data) (limit : ℕ) (solved : Solved) (name : Bytes) (old s t : State) → OnlyReads old s → FileServes old name m → Searches m limit (Ok solved) s t → TriesSolve name limit (Err stop.NoMemory) old t
-unspelt m limit solved name old s t reads deserved says =
-    let is = answered m limit solved old s t reads says in
-    record {
-      only = subst (λ x. x ≡ record old { model = x.model; out = x.out; logged = x.logged; created = x.created; faults = x.faults }) (sym is) refl;
-      later = subst (λ (x : State). old.faults ≤ x.faults) (sym is) reads.later;
-      tried = (
-        ap (λ (x : State). x.out) is,
-        in_log m deserved (ap (λ (x : State). x.created) is) (whole_begun m limit solved old.logged t.logged (answered_log m limit solved old s t reads says)) (ap (λ (x : State). x.out) is),
-      );
-    }
-
 -- it was printed
-pub printed : (m : Data) (limit : ℕ) (solved : Solved) (name bytes : Bytes) (ended : Ended) (u : Unit {0}) (old s t w : State) → OnlyReads old s → s.faults ≡ old.faults → FileServes old name m → Searches m limit (Ok solved) s t
-    → bytes ≡ answer_text m solved → Writes Out bytes (Ok u) t w → ended ≡ ending_of solved.answer → is_success ended ≡ true → TriesSolve name limit (Ok ended) old w
-printed m limit solved name bytes ended u old s t w reads kept deserved says spelt writes ending success =
+pub printed : (m : Data) (limit : ℕ) (solved : Solved) (name : Bytes) (ended : Ended) (u : Unit {0}) (old s t w : State) → OnlyReads old s → s.faults ≡ old.faults → FileServes old name m → Searches m limit (Ok solved) s t
+    → Writes Out (answer_text m solved) (Ok u) t w → ended ≡ ending_of solved.answer → is_success ended ≡ true → TriesSolve name limit (Ok ended) old w
+printed m limit solved name ended u old s t w reads kept deserved says writes ending success =
     let text : Bytes = answer_text m solved in
     let is : w ≡ record old { model = s.model; out = appended text old.out; logged = t.logged; created = true; faults = s.faults } =
     writes.written
-    ∙ ap (λ bs. record t { out = appended bs t.out }) spelt
     ∙ ap (λ (x : State). record x { out = appended text x.out }) (answered m limit solved old s t reads says) in
     subst (TriesSolve name limit (Ok ended) old) (sym is) (record {
       only = refl;
@@ -105,16 +82,15 @@ printed m limit solved name bytes ended u old s t w reads kept deserved says spe
     })
 
 -- or a front part of it
-pub half_printed : (m : Data) (limit : ℕ) (solved : Solved) (name bytes : Bytes) (e : Failed) (old s t w : State) → OnlyReads old s → s.faults ≡ old.faults → FileServes old name m → Searches m limit (Ok solved) s t
-    → bytes ≡ answer_text m solved → Writes Out bytes (Err e) t w → TriesSolve name limit (Err stop.Fault) old w
-half_printed m limit solved name bytes e old s t w reads kept deserved says spelt writes =
+pub half_printed : (m : Data) (limit : ℕ) (solved : Solved) (name : Bytes) (e : Failed) (old s t w : State) → OnlyReads old s → s.faults ≡ old.faults → FileServes old name m → Searches m limit (Ok solved) s t
+    → Writes Out (answer_text m solved) (Err e) t w → TriesSolve name limit (Err stop.Fault) old w
+half_printed m limit solved name e old s t w reads kept deserved says writes =
     let text : Bytes = answer_text m solved in
     let n : ℕ = writes.failed.0 in
     let here = answered m limit solved old s t reads says in
     let faults : t.faults ≡ old.faults = ap (λ (x : State). x.faults) here ∙ kept in
     let is : w ≡ record old { model = s.model; out = appended (take n text) old.out; logged = t.logged; created = true; faults = w.faults } =
     writes.failed.2
-    ∙ ap (λ bs. record t { out = appended (take n bs) t.out; faults = w.faults }) spelt
     ∙ ap (λ (x : State). record x { out = appended (take n text) x.out; faults = w.faults }) here in
     subst (TriesSolve name limit (Err stop.Fault) old) (sym is) (record {
       only = refl;
@@ -124,6 +100,6 @@ half_printed m limit solved name bytes e old s t w reads kept deserved says spel
           rose = subst (λ k. Rose k w.faults) faults writes.count.failed;
           calm = λ calm there. let ok = writes.calm (ap (λ (x : State). x.calm) here ∙ calm) in cc;
         },
-        in_answer m solved deserved says.1 refl (answered_log m limit solved old s t reads says) (n, subst (λ bs. n ≤ length bs) spelt writes.failed.1, refl),
+        in_answer m solved deserved says.1 refl (answered_log m limit solved old s t reads says) (n, writes.failed.1, refl),
       );
     })

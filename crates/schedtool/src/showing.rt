@@ -7,8 +7,8 @@ use crate::ended::Ended;
 use crate::load::read;
 use crate::report::end_stopped;
 use crate::stop::Stop;
-use sched_base::{Desk, Port};
-use sched_text::canonical_bytes;
+use sched_base::Desk;
+use sched_text::print_model;
 use std::alloc::Global;
 
 /// Prints the model that a file holds in its canonical form.
@@ -16,8 +16,7 @@ fn show_file<D: Desk>(alloc: Global, desk: &mut D, name: &str) -> Result<Ended, 
     ensures { TriesShow name.now result (D.state desk.old) (D.state desk.new) }
 {
     let model = read(alloc, desk, name)?;
-    let text = canonical_bytes(alloc, &model)?;
-    match desk.write(Port::Out, text.as_slice()) {
+    match print_model(&model, desk) {
         Ok(()) => Ok(Ended::Done),
         Err(_) => Err(Stop::Fault),
     }

@@ -10,9 +10,9 @@ use crate::ended::Ended;
 use crate::load::load;
 use crate::report::end_stopped;
 use crate::stop::Stop;
-use sched_base::{Desk, Port};
+use sched_base::Desk;
 use sched_model::{Answer, Model, Solved};
-use sched_text::answer_bytes;
+use sched_text::write_answer;
 use solver::solve;
 use std::alloc::Global;
 
@@ -58,8 +58,7 @@ fn solve_file<D: Desk>(
 {
     let model = load(alloc, desk, name)?;
     let solved = search_logged(alloc, desk, &model, log, nodes)?;
-    let text = answer_bytes(alloc, &model, &solved)?;
-    match desk.write(Port::Out, text.as_slice()) {
+    match write_answer(&model, &solved, desk) {
         Ok(()) => Ok(ending(&solved.answer)),
         Err(_) => Err(Stop::Fault),
     }

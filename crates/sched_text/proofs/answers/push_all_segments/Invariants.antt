@@ -1,7 +1,0 @@
-use Rattle.std.proofs.Common.{◌≡◌, ◌++◌, ◌∷◌, drop}
-use Rattle.std.specs.List.{flat_map}
-use Rattle.sched_text.specs.Answers.{segment_words}
-use Rattle.sched_text.proofs.answers.push_all_segments.Given as goal
-
-abbrev pub invariant-loop-s : goal.invariant-loop-s
-invariant-loop-s l = l.bytes.items ++ flat_map (λ s. flat_map (λ w. 32 ∷ w) (segment_words s)) (drop l.s-index l.segments) ≡ l.initial.bytes.items ++ flat_map (λ s. flat_map (λ w. 32 ∷ w) (segment_words s)) l.segments

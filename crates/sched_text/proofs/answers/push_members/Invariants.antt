@@ -1,7 +1,0 @@
-use Rattle.std.proofs.Common.{◌≡◌, ◌++◌, ◌∷◌, drop}
-use Rattle.std.specs.List.{flat_map}
-use Rattle.sched_text.specs.Pieces.{interval_name}
-use Rattle.sched_text.proofs.answers.push_members.Given as goal
-
-abbrev pub invariant-loop-x : goal.invariant-loop-x
-invariant-loop-x l = l.bytes.items ++ flat_map (λ x. 32 ∷ interval_name l.model x) (drop l.x-index l.order) ≡ l.initial.bytes.items ++ flat_map (λ x. 32 ∷ interval_name l.model x) l.order

@@ -1,7 +1,0 @@
-use Rattle.std.proofs.Common.{◌≡◌, ◌++◌, drop}
-use Rattle.sched_text.specs.Pieces.{at_places}
-use Rattle.sched_text.specs.Answers.{order_line}
-use Rattle.sched_text.proofs.answers.push_orders.Given as goal
-
-abbrev pub invariant-loop-i : goal.invariant-loop-i
-invariant-loop-i l = l.bytes.items ++ at_places (order_line l.model) l.i (drop l.i l.defs) (drop l.i l.orders) ≡ l.initial.bytes.items ++ at_places (order_line l.model) 0 l.defs l.orders

@@ -1,0 +1,7 @@
+use Rattle.std.proofs.Common.{refl}
+use Rattle.sched_text.proofs.Printing.{both, «as»}
+use Rattle.sched_text.proofs.answers.put_nodes.Goals as goal
+
+pub returns : goal.returns
+returns g c =
+    «as» (both c.put_text.ensures (both c.put_count.ensures c.put_text-2.ensures)) refl

@@ -1,0 +1,19 @@
+use Rattle.std.proofs.Common.{◌<◌, ◌≤◌, length, min, refl, arith}
+use Rattle.sched_text.specs.Answers.{slot_line}
+use Rattle.sched_text.proofs.Rows.{pair_more, pairs_end}
+use Rattle.sched_text.proofs.Printing.{none_yet}
+use Rattle.sched_text.proofs.answers.put_slots.Goals as goal
+
+pub loop-i-init : goal.loop-i-init
+loop-i-init g c = none_yet refl
+
+pub loop-i-preserved : goal.loop-i-preserved
+loop-i-preserved g c =
+    let in_defs : c.loop-i.i < length c.args.defs.now = omega (arith, c.min-n.ensures) in
+    let in_items : c.loop-i.i < length c.args.slots.now = omega (arith, c.min-n.ensures) in
+    pair_more slot_line c.args.defs.now c.args.slots.now c.loop-i.i c.index-defs-i.result _ _ _ in_defs in_items c.index-defs-i.is refl c.loop-i.invariant c.put_slot.ensures
+
+pub returns : goal.returns
+returns g c =
+    let past : min (length c.args.defs.now) (length c.args.slots.now) ≤ c.loop-i.i = omega (arith, c.min-n.ensures) in
+    pairs_end slot_line c.args.defs.now c.args.slots.now c.loop-i.i past c.loop-i.invariant

@@ -1,0 +1,8 @@
+use Rattle.std.proofs.Common.{drop}
+use Rattle.std.specs.List.{flat_map}
+use Rattle.sched_text.specs.Canonical.{matrix_text}
+use Rattle.sched_text.specs.Printing.{Leaves}
+use Rattle.sched_text.proofs.canonical.put_matrices.Given as goal
+
+abbrev pub invariant-loop-d : goal.invariant-loop-d
+invariant-loop-d g l = Leaves (flat_map matrix_text l.defs) (flat_map matrix_text (drop l.d-index l.defs)) l.initial.page l.page (g.D.Desk.state l.initial.desk) (g.D.Desk.state l.desk)

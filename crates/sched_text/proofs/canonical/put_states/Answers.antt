@@ -1,0 +1,14 @@
+use Rattle.std.proofs.Common.{refl}
+use Rattle.sched_text.specs.Canonical.{state_text}
+use Rattle.sched_text.proofs.Rows.{text_more, texts_end}
+use Rattle.sched_text.proofs.Printing.{none_yet}
+use Rattle.sched_text.proofs.canonical.put_states.Goals as goal
+
+pub loop-d-init : goal.loop-d-init
+loop-d-init g c = none_yet refl
+
+pub loop-d-preserved : goal.loop-d-preserved
+loop-d-preserved g c = text_more (state_text c.args.model.now) c.args.defs.now c.loop-d.d-index _ _ c.loop-d-test.true c.d-item.is c.loop-d.invariant c.put_state_def.ensures
+
+pub returns : goal.returns
+returns g c = texts_end (state_text c.args.model.now) c.args.defs.now c.loop-d.d-index c.loop-d-test.false c.loop-d.invariant

@@ -1,0 +1,6 @@
+use Rattle.std.proofs.Common.{append_assoc}
+use Rattle.sched_text.proofs.Printing.{both, «as»}
+use Rattle.sched_text.proofs.definitions.put_state_def.Goals as goal
+
+pub returns : goal.returns
+returns g c = «as» (both c.put_text.ensures (both c.put_text-2.ensures (both c.put_own_matrix.ensures c.put_text-3.ensures))) (simp (append_assoc, c.as_slice.ensures))
