@@ -1,0 +1,5 @@
+use Rattle.read_back.proofs.ExprFormed.{expressions_are_formed}
+use Rattle.read_back.proofs.laws.expressions_are_formed.Goals as goal
+
+pub returns : goal.returns
+returns c = expressions_are_formed
