@@ -160,7 +160,7 @@ fn unserved_models(rt: HostRuntime) -> Result<(), Fail> {
 }
 
 /// Models, and their canonical texts.
-const SHOWN: [(&str, &str); 6] = [
+const SHOWN: [(&str, &str); 10] = [
     (
         OVEN,
         "rye = intervalVar(start=0..1000000000,end=0..40,size=5..5);\nwheat = intervalVar(start=0..1000000000,end=0..40,size=3..3);\nrolls = intervalVar(start=0..1000000000,end=0..40,size=2..2);\nsweep = intervalVar(start=0..1000000000,end=0..40,size=1..1);\nchange = transitionMatrix([[0,4],[6,0]]);\noven = stateFunction(change);\nalwaysEqual(oven,rye,0,0,0);\nalwaysEqual(oven,wheat,1,1,1);\nalwaysEqual(oven,rolls,1,0,0);\nalwaysNoState(oven,sweep);\nminimize(max([endOf(rye,0),endOf(wheat,0),endOf(rolls,0)]));\n",
@@ -168,6 +168,22 @@ const SHOWN: [(&str, &str); 6] = [
     (
         PAINT_SHOP,
         "cut1 = intervalVar(start=0..1000000000,end=0..1000000000,size=1..9);\ncut1A = intervalVar(optional,start=0..1000000000,end=0..1000000000,size=4..4);\ncut1B = intervalVar(optional,start=0..1000000000,end=0..1000000000,size=6..6);\ncut2 = intervalVar(start=0..1000000000,end=0..1000000000,size=0..1000000000);\ncut2A = intervalVar(optional,start=0..1000000000,end=0..1000000000,size=3..3);\ncut2B = intervalVar(optional,start=0..1000000000,end=0..1000000000,size=5..5);\npaint1 = intervalVar(start=0..1000000000,end=0..1000000000,size=2..2);\npaint2 = intervalVar(start=0..1000000000,end=0..1000000000,size=2..2);\nM = transitionMatrix([[0,3],[1,0]]);\nbooth = sequenceVar([paint1,paint2],types=[0,1]);\ncrew = pulse(cut1,1)+pulse(cut2,1)+pulse(paint1,1)+pulse(paint2,1);\nalternative(cut1,[cut1A,cut1B]);\nalternative(cut2,[cut2A,cut2B]);\nnoOverlap([cut1A,cut2A]);\nnoOverlap([cut1B,cut2B]);\nnoOverlap(booth,M,0);\nendBeforeStart(cut1,paint1,0);\nendBeforeStart(cut2,paint2,0);\ncrew <= 2;\nminimize(max([endOf(paint1,0),endOf(paint2,0)]));\n",
+    ),
+    (
+        "a = intervalVar(size=1,start=0..2,end=0..3);\nb = intervalVar(size=1,start=0..2,end=0..3);\nendBeforeStart(a,b);\nminimize(endOf(b));\n",
+        "a = intervalVar(start=0..2,end=0..3,size=1..1);\nb = intervalVar(start=0..2,end=0..3,size=1..1);\nendBeforeStart(a,b,0);\nminimize(endOf(b,0));\n",
+    ),
+    (
+        "bake = intervalVar(size=3,start=0..2,end=3..5);\ncool = intervalVar(size=2,start=3..5,end=5..6);\nendBeforeStart(bake,cool,2);\nminimize(endOf(cool));\n",
+        "bake = intervalVar(start=0..2,end=3..5,size=3..3);\ncool = intervalVar(start=3..5,end=5..6,size=2..2);\nendBeforeStart(bake,cool,2);\nminimize(endOf(cool,0));\n",
+    ),
+    (
+        "cut = intervalVar(size=2,start=0..1,end=2..3);\npaint = intervalVar(size=1,start=3..6,end=4..7);\npolish = intervalVar(size=2,start=7..9,end=9..11);\nendBeforeStart(cut,paint,1);\nendBeforeStart(paint,polish,3);\nminimize(endOf(polish));\n",
+        "cut = intervalVar(start=0..1,end=2..3,size=2..2);\npaint = intervalVar(start=3..6,end=4..7,size=1..1);\npolish = intervalVar(start=7..9,end=9..11,size=2..2);\nendBeforeStart(cut,paint,1);\nendBeforeStart(paint,polish,3);\nminimize(endOf(polish,0));\n",
+    ),
+    (
+        "day = intervalVar(optional, size=2, start=0..1, end=2..3); night = intervalVar(optional, size=1, start=3..4, end=4..5); report = intervalVar(size=1, start=3..5, end=4..6); !presenceOf(day) || !presenceOf(night); endBeforeStart(day, report, 1); startAtEnd(report, night); maximize(3*presenceOf(day) + 2*presenceOf(night) - endOf(report));",
+        "day = intervalVar(optional,start=0..1,end=2..3,size=2..2);\nnight = intervalVar(optional,start=3..4,end=4..5,size=1..1);\nreport = intervalVar(start=3..5,end=4..6,size=1..1);\n(!presenceOf(day))||(!presenceOf(night));\nendBeforeStart(day,report,1);\nstartAtEnd(report,night,0);\nmaximize((3*presenceOf(day))+(2*presenceOf(night))-endOf(report,0));\n",
     ),
     ("", ""),
     (
