@@ -2,5 +2,6 @@ pub mod Pending
 pub mod LineTests
 pub mod Stepped
 pub mod Regions
+pub mod Samples
 pub mod Sols
 pub mod Readies

@@ -14,3 +14,6 @@ pub use laws::loses_nothing;
 pub use log::Kernel;
 pub use no_extra::{NoExtra, NoWitness};
 pub use types::{Found, Line, StepFault, Verdict, Witness};
+
+#[cfg(test)]
+mod tests;

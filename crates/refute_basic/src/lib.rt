@@ -13,3 +13,6 @@ pub use basic::Basic;
 pub use find::{find_leaf, settled_assignment};
 pub use served::is_served;
 pub use witness::BasicWitness;
+
+#[cfg(test)]
+mod tests;

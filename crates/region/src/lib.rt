@@ -13,3 +13,6 @@ pub use cells::Region;
 pub use look::Look;
 pub use refuter::{Numbers, Refuter};
 pub use types::{Bounds, CellName, Fact, Guess, Presence};
+
+#[cfg(test)]
+mod tests;

@@ -1,5 +1,6 @@
 pub mod Branching
 pub mod Fitting
+pub mod Samples
 pub mod Stepping
 pub mod Writing
 pub mod Answering

@@ -7,3 +7,6 @@ mod line;
 mod search;
 
 pub use search::{SolveFault, solve};
+
+#[cfg(test)]
+mod tests;
