@@ -22,8 +22,6 @@ mod numbered;
 mod numbered_laws;
 mod numbers;
 mod parts;
-#[cfg(test)]
-mod tests;
 mod uses;
 mod valid_laws;
 mod whole;

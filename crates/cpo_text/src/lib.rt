@@ -34,10 +34,3 @@ pub use tree::{
     Sense, Spaced, Statement, Temporal,
 };
 pub use whole::read_text;
-
-#[cfg(test)]
-mod call_tests;
-#[cfg(test)]
-mod cumul_tests;
-#[cfg(test)]
-mod tests;

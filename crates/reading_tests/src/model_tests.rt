@@ -1,4 +1,5 @@
-use crate::{ReadFault, read_model};
+//! Texts by the refusal that they deserve, and one model.
+use cpo_elab::{ReadFault, read_model};
 use sched_base::{NoMemory, at};
 use sched_model::{Constraint, Part, Shape, Window};
 use std::alloc::Global;

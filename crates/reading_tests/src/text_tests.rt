@@ -1,5 +1,5 @@
 //! Texts by what they are read as, with numbers and offsets worked out by hand.
-use crate::{
+use cpo_text::{
     Definition, Form, Int, Ivarg, Range, ReadFault, Refusal, Statement, Tree, read_text,
     reading_is_determined,
 };

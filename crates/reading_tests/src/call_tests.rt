@@ -1,5 +1,5 @@
 //! Each call of a definition or a constraint, well formed and one token off.
-use crate::{Constrained, Form, Over, Statement, read_text};
+use cpo_text::{Constrained, Form, Over, Statement, read_text};
 use std::alloc::Global;
 use std::test::Fail;
 

@@ -1,6 +1,6 @@
 //! Cumulative expressions as definitions and in constraints, well formed and one token off.
 use crate::call_tests::deserves;
-use crate::{Constrained, Cpart, Definition, Form, Int, Moments, Statement, read_text};
+use cpo_text::{Constrained, Cpart, Definition, Form, Int, Moments, Statement, read_text};
 use std::test::Fail;
 
 #[test]
