@@ -1,8 +1,11 @@
-ghost use Rattle.std.specs.Prelude.{◌≡◌, ◌+◌, ◌≤◌, length, false, Some, None, IfOk};
+ghost use Rattle.std.specs.Prelude.{◌≡◌, ◌+◌, ◌≤◌, length, [], ◌∷◌, ◌++◌, false, Some, None, IfOk, OnOk};
+ghost use Rattle.std.specs.Str.{bytes_eq};
+ghost use Rattle.std.specs.Map.{lookup};
 ghost use Rattle.sched_model.specs.Data.{empty_model, with_interval, with_matrix, with_sequence, with_cumul, with_state, with_constraint, with_objective};
 ghost use Rattle.sched_model.specs.Valid.{IsValid, cell_count, node_total};
 ghost use Rattle.cpo_elab.specs.Named.{number_of, id_of, is_defined, itv_of, mat_of, seq_of, cum_of, stf_of};
 ghost use Rattle.cpo_elab.specs.Judged.{node_limit};
+ghost use Rattle.cpo_elab.specs.declared.names.Sort.TheVariants.{Interval, Matrix, Sequence, Cumulated, State};
 
 use crate::counts::{constraint_nodes, nodes, pair_count};
 use crate::names::{Meaning, Names, Sort, same_sort};
@@ -39,6 +42,120 @@ impl std::marker::Model for Draft {
     ghost view = { λ d. d.model };
 
     ghost invariant = { λ d. IsDraft d.names d.cells d.room d.model };
+}
+
+/// Adds an interval and its name. After an error the two may not fit each other.
+///
+/// In a function of its own, as for the other sorts, so that a draft is owned over one exit alone.
+fn add_interval(
+    alloc: Global,
+    model: &mut Model,
+    names: &mut Names,
+    def: IntervalDef,
+) -> Result<(), NoMemory>
+    requires valid { IsValid (with_interval def model.old) }
+    requires fresh { lookup (bytes_eq def.name) names.old ≡ None }
+    ensures model { OnOk result (model.new ≡ with_interval def model.old) }
+    ensures names { OnOk result (names.new ≡ names.old ++ (def.name, record { sort = Interval; id = length model.old.intervals }) ∷ []) }
+{
+    let name = Vec::from_slice(alloc, def.name.as_slice())?;
+    let id = model.add_interval(def)?;
+    let meaning = Meaning {
+        sort: Sort::Interval,
+        id: id.0,
+    };
+    names.push(name, meaning)?;
+    Ok(())
+}
+
+/// Adds a matrix and its name, as `add_interval` does for an interval.
+fn add_matrix(
+    alloc: Global,
+    model: &mut Model,
+    names: &mut Names,
+    def: MatrixDef,
+) -> Result<(), NoMemory>
+    requires valid { IsValid (with_matrix def model.old) }
+    requires fresh { lookup (bytes_eq def.name) names.old ≡ None }
+    ensures model { OnOk result (model.new ≡ with_matrix def model.old) }
+    ensures names { OnOk result (names.new ≡ names.old ++ (def.name, record { sort = Matrix; id = length model.old.matrices }) ∷ []) }
+{
+    let name = Vec::from_slice(alloc, def.name.as_slice())?;
+    let id = model.add_matrix(def)?;
+    let meaning = Meaning {
+        sort: Sort::Matrix,
+        id: id.0,
+    };
+    names.push(name, meaning)?;
+    Ok(())
+}
+
+/// Adds a state function and its name, as `add_interval` does for an interval.
+fn add_state(
+    alloc: Global,
+    model: &mut Model,
+    names: &mut Names,
+    def: StateDef,
+) -> Result<(), NoMemory>
+    requires valid { IsValid (with_state def model.old) }
+    requires fresh { lookup (bytes_eq def.name) names.old ≡ None }
+    ensures model { OnOk result (model.new ≡ with_state def model.old) }
+    ensures names { OnOk result (names.new ≡ names.old ++ (def.name, record { sort = State; id = length model.old.states }) ∷ []) }
+{
+    let name = Vec::from_slice(alloc, def.name.as_slice())?;
+    let id = model.add_state(def)?;
+    let meaning = Meaning {
+        sort: Sort::State,
+        id: id.0,
+    };
+    names.push(name, meaning)?;
+    Ok(())
+}
+
+/// Adds a sequence and its name, as `add_interval` does for an interval.
+fn add_sequence(
+    alloc: Global,
+    model: &mut Model,
+    names: &mut Names,
+    name: &[u8],
+    def: SequenceDef,
+) -> Result<(), NoMemory>
+    requires valid { IsValid (with_sequence def model.old) }
+    requires fresh { lookup (bytes_eq name.now) names.old ≡ None }
+    ensures model { OnOk result (model.new ≡ with_sequence def model.old) }
+    ensures names { OnOk result (names.new ≡ names.old ++ (name.now, record { sort = Sequence; id = length model.old.sequences }) ∷ []) }
+{
+    let key = Vec::from_slice(alloc, name)?;
+    let id = model.add_sequence(def)?;
+    let meaning = Meaning {
+        sort: Sort::Sequence,
+        id: id.0,
+    };
+    names.push(key, meaning)?;
+    Ok(())
+}
+
+/// Adds a cumulative function and its name, as `add_interval` does for an interval.
+fn add_cumul(
+    alloc: Global,
+    model: &mut Model,
+    names: &mut Names,
+    name: &[u8],
+    def: CumulDef,
+) -> Result<(), NoMemory>
+    requires valid { IsValid (with_cumul def model.old) }
+    requires fresh { lookup (bytes_eq name.now) names.old ≡ None }
+    ensures model { OnOk result (model.new ≡ with_cumul def model.old) }
+    ensures names { OnOk result (names.new ≡ names.old ++ (name.now, record { sort = Cumulated; id = length model.old.cumuls }) ∷ []) }
+{
+    let key = Vec::from_slice(alloc, name)?;
+    let id = model.add_cumul(def)?;
+    let meaning = Meaning {
+        sort: Sort::Cumulated,
+        id: id.0,
+    };
+    names.push(key, meaning)?;
+    Ok(())
 }
 
 impl Draft {
@@ -167,19 +284,13 @@ impl Draft {
         requires fresh { is_defined self def.name ≡ false }
         ensures { IfOk result (λ d. d ≡ with_interval def self) }
     {
-        let name = Vec::from_slice(alloc, def.name.as_slice())?;
         let Draft {
             mut model,
             mut names,
             cells,
             room,
         } = self;
-        let id = model.add_interval(def)?;
-        let meaning = Meaning {
-            sort: Sort::Interval,
-            id: id.0,
-        };
-        names.push(name, meaning)?;
+        add_interval(alloc, &mut model, &mut names, def)?;
         let cells = cells + 5;
         Ok(Draft {
             model,
@@ -195,19 +306,13 @@ impl Draft {
         requires fresh { is_defined self def.name ≡ false }
         ensures { IfOk result (λ d. d ≡ with_matrix def self) }
     {
-        let name = Vec::from_slice(alloc, def.name.as_slice())?;
         let Draft {
             mut model,
             mut names,
             cells,
             room,
         } = self;
-        let id = model.add_matrix(def)?;
-        let meaning = Meaning {
-            sort: Sort::Matrix,
-            id: id.0,
-        };
-        names.push(name, meaning)?;
+        add_matrix(alloc, &mut model, &mut names, def)?;
         Ok(Draft {
             model,
             names,
@@ -222,19 +327,13 @@ impl Draft {
         requires fresh { is_defined self def.name ≡ false }
         ensures { IfOk result (λ d. d ≡ with_state def self) }
     {
-        let name = Vec::from_slice(alloc, def.name.as_slice())?;
         let Draft {
             mut model,
             mut names,
             cells,
             room,
         } = self;
-        let id = model.add_state(def)?;
-        let meaning = Meaning {
-            sort: Sort::State,
-            id: id.0,
-        };
-        names.push(name, meaning)?;
+        add_state(alloc, &mut model, &mut names, def)?;
         Ok(Draft {
             model,
             names,
@@ -255,7 +354,6 @@ impl Draft {
         requires named { def.name ≡ Some name.now }
         ensures { IfOk result (λ d. d ≡ with_sequence def self) }
     {
-        let key = Vec::from_slice(alloc, name)?;
         let pairs = pair_count(def.members.len());
         let Draft {
             mut model,
@@ -263,12 +361,7 @@ impl Draft {
             cells,
             room,
         } = self;
-        let id = model.add_sequence(def)?;
-        let meaning = Meaning {
-            sort: Sort::Sequence,
-            id: id.0,
-        };
-        names.push(key, meaning)?;
+        add_sequence(alloc, &mut model, &mut names, name, def)?;
         let cells = cells + pairs;
         Ok(Draft {
             model,
@@ -308,7 +401,6 @@ impl Draft {
         requires named { def.name ≡ Some name.now }
         ensures { IfOk result (λ d. d ≡ with_cumul def self) }
     {
-        let key = Vec::from_slice(alloc, name)?;
         let parts = def.parts.len();
         let Draft {
             mut model,
@@ -316,12 +408,7 @@ impl Draft {
             cells,
             room,
         } = self;
-        let id = model.add_cumul(def)?;
-        let meaning = Meaning {
-            sort: Sort::Cumulated,
-            id: id.0,
-        };
-        names.push(key, meaning)?;
+        add_cumul(alloc, &mut model, &mut names, name, def)?;
         let room = room - parts;
         Ok(Draft {
             model,
