@@ -58,14 +58,16 @@ fn too_short(alloc: Global) -> Result<IntervalDef, NoMemory>
 fn one_interval(alloc: Global) -> Result<Model, NoMemory>
     ensures { IfOk result (λ m. m ≡ with_interval (record { name = 97 ∷ []; optional = false; start_lo = pos 0; start_hi = pos 1; end_lo = pos 1; end_hi = pos 2; size_lo = pos 1; size_hi = pos 1 }) empty_model) }
 {
+    let def = interval(alloc)?;
     let mut model = Model::new(alloc);
-    model.add_interval(interval(alloc)?)?;
+    model.add_interval(def)?;
     Ok(model)
 }
 
 fn cramped(alloc: Global) -> Result<Model, NoMemory> {
+    let def = too_short(alloc)?;
     let mut model = Model::new(alloc);
-    model.add_interval(too_short(alloc)?)?;
+    model.add_interval(def)?;
     Ok(model)
 }
 
@@ -136,17 +138,49 @@ fn step(kernel: &mut Kernel<NoExtra>, model: &Model, line: Line<NoWitness>) -> O
 /// A line, the fault that it is refused with, the nodes after it, and the verdict.
 type Row = (Said, Option<StepFault>, u64, Verdict);
 
-/// The number of the first line that doesn't come to what its row says.
-fn first_wrong(alloc: Global, model: &Model, rows: &[Row]) -> Result<Option<usize>, NoMemory> {
-    let mut kernel = Kernel::<NoExtra>::new(alloc, model)?;
+/// The number of the first line that doesn't come to what its row says, from this state on.
+fn first_wrong(
+    alloc: Global,
+    kernel: &mut Kernel<NoExtra>,
+    model: &Model,
+    rows: &[Row],
+) -> Result<Option<usize>, NoMemory>
+    requires { Ready model.now kernel.old }
+{
     for n in 0..rows.len() {
         let (said, fault, nodes, verdict) = rows[n];
-        let given = step(&mut kernel, model, line(alloc, said)?);
+        let given = step(kernel, model, line(alloc, said)?);
         if given != fault || kernel.nodes() != nodes || kernel.verdict() != verdict {
             return Ok(Some(n));
         }
     }
     Ok(None)
+}
+
+/// The same from the state before the first line.
+fn wrong_in(alloc: Global, model: &Model, rows: &[Row]) -> Result<Option<usize>, NoMemory> {
+    let mut kernel = Kernel::<NoExtra>::new(alloc, model)?;
+    first_wrong(alloc, &mut kernel, model, rows)
+}
+
+fn wrong_in_one_interval(alloc: Global, rows: &[Row]) -> Result<Option<usize>, NoMemory> {
+    let model = one_interval(alloc)?;
+    wrong_in(alloc, &model, rows)
+}
+
+fn wrong_in_cramped(alloc: Global, rows: &[Row]) -> Result<Option<usize>, NoMemory> {
+    let model = cramped(alloc)?;
+    wrong_in(alloc, &model, rows)
+}
+
+fn wrong_in_aimed(alloc: Global, sense: Sense, rows: &[Row]) -> Result<Option<usize>, NoMemory> {
+    let model = aimed(alloc, sense)?;
+    wrong_in(alloc, &model, rows)
+}
+
+fn wrong_at_the_size(alloc: Global, rows: &[Row]) -> Result<Option<usize>, NoMemory> {
+    let model = aimed_at_the_size(alloc)?;
+    wrong_in(alloc, &model, rows)
 }
 
 #[test]
@@ -169,8 +203,7 @@ fn finds_a_solution(rt: HostRuntime) -> Result<(), Fail> {
             Verdict::Feasible,
         ),
     ];
-    let model = one_interval(rt.alloc())?;
-    assert_eq!(rt; first_wrong(rt.alloc(), &model, &rows)?, None);
+    assert_eq!(rt; wrong_in_one_interval(rt.alloc(), &rows)?, None);
     Ok(())
 }
 
@@ -187,8 +220,7 @@ fn shows_that_there_is_none(rt: HostRuntime) -> Result<(), Fail> {
             Verdict::Infeasible,
         ),
     ];
-    let model = cramped(rt.alloc())?;
-    assert_eq!(rt; first_wrong(rt.alloc(), &model, &rows)?, None);
+    assert_eq!(rt; wrong_in_cramped(rt.alloc(), &rows)?, None);
     Ok(())
 }
 
@@ -206,8 +238,7 @@ fn derives_from_what_is_refuted(rt: HostRuntime) -> Result<(), Fail> {
         (Said::Derive(Guess::StartGe(A, 1), 0), None, 2, OPEN),
         (Said::Sol(0, 1), None, 2, Verdict::Feasible),
     ];
-    let model = one_interval(rt.alloc())?;
-    assert_eq!(rt; first_wrong(rt.alloc(), &model, &rows)?, None);
+    assert_eq!(rt; wrong_in_one_interval(rt.alloc(), &rows)?, None);
     Ok(())
 }
 
@@ -222,8 +253,7 @@ fn closes_all_but_the_least(rt: HostRuntime) -> Result<(), Fail> {
         (Said::Sol(1, 2), Some(StepFault::NotSolution), 3, OPEN_AT_1),
         (Said::Fail(2), None, 3, Verdict::Optimal(1)),
     ];
-    let model = aimed(rt.alloc(), Sense::Minimize)?;
-    assert_eq!(rt; first_wrong(rt.alloc(), &model, &rows)?, None);
+    assert_eq!(rt; wrong_in_aimed(rt.alloc(), Sense::Minimize, &rows)?, None);
     Ok(())
 }
 
@@ -238,8 +268,7 @@ fn looks_for_what_is_greater(rt: HostRuntime) -> Result<(), Fail> {
         (Said::Fail(2), Some(StepFault::NotRefuted), 3, OPEN_AT_1),
         (Said::Sol(1, 2), None, 3, Verdict::Optimal(2)),
     ];
-    let model = aimed(rt.alloc(), Sense::Maximize)?;
-    assert_eq!(rt; first_wrong(rt.alloc(), &model, &rows)?, None);
+    assert_eq!(rt; wrong_in_aimed(rt.alloc(), Sense::Maximize, &rows)?, None);
     Ok(())
 }
 
@@ -254,7 +283,6 @@ fn wants_what_is_better(rt: HostRuntime) -> Result<(), Fail> {
         (Said::Sol(1, 2), Some(StepFault::NotSolution), 3, OPEN_AT_1),
         (Said::Fail(2), None, 3, Verdict::Optimal(1)),
     ];
-    let model = aimed_at_the_size(rt.alloc())?;
-    assert_eq!(rt; first_wrong(rt.alloc(), &model, &rows)?, None);
+    assert_eq!(rt; wrong_at_the_size(rt.alloc(), &rows)?, None);
     Ok(())
 }

@@ -3,12 +3,13 @@ ghost use Rattle.std.specs.Prelude.{◌≡◌, ◌∷◌, [], IfOk, false, pos};
 ghost use Rattle.sched_model.specs.Data.{empty_model, with_interval};
 ghost use Rattle.sched_model.specs.declared.types.Constraint.TheVariants.{Logic};
 ghost use Rattle.sched_model.specs.declared.types.Expr.TheVariants.{Not, PresenceOf};
+ghost use Rattle.region.specs.Looks.{IsRegionOf};
 
 use crate::basic::Basic;
 use crate::find::{find_leaf, settled_assignment};
 use crate::served::is_served;
 use crate::witness::BasicWitness;
-use region::{Refuter, Region};
+use region::{Look, Refuter, Region};
 use sched_base::{Boxed, Itv, List, NoMemory};
 use sched_model::{Constraint, End, Expr, IntervalDef, Model, Objective, Sense, SequenceDef, Slot};
 use std::alloc::Global;
@@ -55,16 +56,18 @@ fn fitting(alloc: Global) -> Result<IntervalDef, NoMemory>
 fn placed(alloc: Global) -> Result<Model, NoMemory>
     ensures { IfOk result (λ m. m ≡ with_interval (record { name = 97 ∷ []; optional = false; start_lo = pos 0; start_hi = pos 0; end_lo = pos 1; end_hi = pos 1; size_lo = pos 1; size_hi = pos 1 }) empty_model) }
 {
+    let def = fitting(alloc)?;
     let mut model = Model::new(alloc);
-    model.add_interval(fitting(alloc)?)?;
+    model.add_interval(def)?;
     Ok(model)
 }
 
 fn cramped(alloc: Global) -> Result<Model, NoMemory>
     ensures { IfOk result (λ m. m ≡ with_interval (record { name = 97 ∷ []; optional = false; start_lo = pos 0; start_hi = pos 0; end_lo = pos 0; end_hi = pos 0; size_lo = pos 1; size_hi = pos 1 }) empty_model) }
 {
+    let def = too_short(alloc)?;
     let mut model = Model::new(alloc);
-    model.add_interval(too_short(alloc)?)?;
+    model.add_interval(def)?;
     Ok(model)
 }
 
@@ -72,6 +75,15 @@ fn refuted(alloc: Global, model: &Model, k: u32, u: u32) -> Result<bool, NoMemor
     let region = Region::root(alloc, model)?;
     let look = region.look(None, None);
     Ok(Basic::refutes(model, &look, &BasicWitness::Leaf { k, u }))
+}
+
+fn found_at(model: &Model, look: &Look<'_>) -> Option<BasicWitness>
+    requires { IsRegionOf model.now look.now.region }
+{
+    if !look.settled() {
+        return None;
+    }
+    find_leaf(model, look)
 }
 
 /// What is found at the root, which is settled.
@@ -82,20 +94,23 @@ fn found(
 ) -> Result<Option<BasicWitness>, NoMemory> {
     let region = Region::root(alloc, model)?;
     let look = region.look(None, best);
+    Ok(found_at(model, &look))
+}
+
+fn slot_at(alloc: Global, model: &Model, look: &Look<'_>) -> Result<Option<Slot>, NoMemory>
+    requires { IsRegionOf model.now look.now.region }
+{
     if !look.settled() {
         return Ok(None);
     }
-    Ok(find_leaf(model, &look))
+    let a = settled_assignment(alloc, model, look)?;
+    Ok(a.slots.as_slice().first().copied())
 }
 
 fn first_slot(alloc: Global, model: &Model) -> Result<Option<Slot>, NoMemory> {
     let region = Region::root(alloc, model)?;
     let look = region.look(None, None);
-    if !look.settled() {
-        return Ok(None);
-    }
-    let a = settled_assignment(alloc, model, &look)?;
-    Ok(a.slots.as_slice().first().copied())
+    slot_at(alloc, model, &look)
 }
 
 /// Leaves, and whether each refutes where the size doesn't fit.
@@ -121,26 +136,57 @@ fn are_as_said(
     Ok(true)
 }
 
+// Each exit of a function that owns a model makes its proof longer. So a model is owned by a
+// function that makes it and asks once, and a test owns none.
+
+/// Whether each leaf is as it is said, and what is found at the root.
+fn leaves_and_found(
+    alloc: Global,
+    model: &Model,
+    leaves: &[(u32, u32, bool)],
+) -> Result<(bool, Option<BasicWitness>), NoMemory> {
+    let said = are_as_said(alloc, model, leaves)?;
+    Ok((said, found(alloc, model, None)?))
+}
+
+fn asked_of_cramped(alloc: Global) -> Result<(bool, Option<BasicWitness>), NoMemory> {
+    let model = cramped(alloc)?;
+    leaves_and_found(alloc, &model, &BY_THE_SIZE)
+}
+
 #[test]
 fn refutes_by_the_size(rt: HostRuntime) -> Result<(), Fail> {
-    let model = cramped(rt.alloc())?;
-    assert!(rt; are_as_said(rt.alloc(), &model, &BY_THE_SIZE)?);
-    assert_eq!(rt;
-        found(rt.alloc(), &model, None)?,
-        Some(BasicWitness::Leaf { k: 0, u: 0 })
-    );
+    let (said, found) = asked_of_cramped(rt.alloc())?;
+    assert!(rt; said);
+    assert_eq!(rt; found, Some(BasicWitness::Leaf { k: 0, u: 0 }));
     Ok(())
+}
+
+/// What is found at the root, and the first slot there.
+fn found_and_slot(
+    alloc: Global,
+    model: &Model,
+) -> Result<(Option<BasicWitness>, Option<Slot>), NoMemory> {
+    let found = found(alloc, model, None)?;
+    Ok((found, first_slot(alloc, model)?))
+}
+
+fn serves_placed(alloc: Global) -> Result<bool, NoMemory> {
+    let model = placed(alloc)?;
+    Ok(is_served(&model))
+}
+
+fn asked_of_placed(alloc: Global) -> Result<(Option<BasicWitness>, Option<Slot>), NoMemory> {
+    let model = placed(alloc)?;
+    found_and_slot(alloc, &model)
 }
 
 #[test]
 fn leaves_what_fits(rt: HostRuntime) -> Result<(), Fail> {
-    let model = placed(rt.alloc())?;
-    assert!(rt; is_served(&model));
-    assert_eq!(rt; found(rt.alloc(), &model, None)?, None);
-    assert_eq!(rt;
-        first_slot(rt.alloc(), &model)?,
-        Some(Slot::Present { s: 0, e: 1 })
-    );
+    assert!(rt; serves_placed(rt.alloc())?);
+    let (found, slot) = asked_of_placed(rt.alloc())?;
+    assert_eq!(rt; found, None);
+    assert_eq!(rt; slot, Some(Slot::Present { s: 0, e: 1 }));
     Ok(())
 }
 
@@ -158,15 +204,22 @@ fn behind_itself(alloc: Global) -> Result<Model, NoMemory> {
     Ok(model)
 }
 
+fn serves_behind_itself(alloc: Global) -> Result<bool, NoMemory> {
+    let model = behind_itself(alloc)?;
+    Ok(is_served(&model))
+}
+
+fn asked_of_behind_itself(alloc: Global) -> Result<(bool, Option<BasicWitness>), NoMemory> {
+    let model = behind_itself(alloc)?;
+    leaves_and_found(alloc, &model, &[(0, 0, false), (1, 1, false)])
+}
+
 #[test]
 fn refutes_by_a_precedence(rt: HostRuntime) -> Result<(), Fail> {
-    let model = behind_itself(rt.alloc())?;
-    assert!(rt; is_served(&model));
-    assert!(rt; are_as_said(rt.alloc(), &model, &[(0, 0, false), (1, 1, false)])?);
-    assert_eq!(rt;
-        found(rt.alloc(), &model, None)?,
-        Some(BasicWitness::Leaf { k: 1, u: 0 })
-    );
+    assert!(rt; serves_behind_itself(rt.alloc())?);
+    let (said, found) = asked_of_behind_itself(rt.alloc())?;
+    assert!(rt; said);
+    assert_eq!(rt; found, Some(BasicWitness::Leaf { k: 1, u: 0 }));
     Ok(())
 }
 
@@ -181,11 +234,15 @@ fn aimed(alloc: Global, sense: Sense) -> Result<Model, NoMemory> {
 
 /// Whether the value 1 is refuted where it must be better than `best`, and isn't where it may be
 /// anything.
+fn is_refuted_beside(alloc: Global, model: &Model, best: i64) -> Result<bool, NoMemory> {
+    let free = found(alloc, model, None)?;
+    let bounded = found(alloc, model, Some(best))?;
+    Ok(free.is_none() && bounded == Some(BasicWitness::Leaf { k: 2, u: 0 }))
+}
+
 fn refutes_beside(alloc: Global, sense: Sense, best: i64) -> Result<bool, NoMemory> {
     let model = aimed(alloc, sense)?;
-    let free = found(alloc, &model, None)?;
-    let bounded = found(alloc, &model, Some(best))?;
-    Ok(free.is_none() && bounded == Some(BasicWitness::Leaf { k: 2, u: 0 }))
+    is_refuted_beside(alloc, &model, best)
 }
 
 #[test]
@@ -211,17 +268,27 @@ fn presence(alloc: Global) -> Result<Constraint, NoMemory>
 
 /// It is present.
 fn absent(alloc: Global) -> Result<Model, NoMemory> {
+    let presence = presence(alloc)?;
     let mut model = placed(alloc)?;
-    model.add_constraint(presence(alloc)?)?;
+    model.add_constraint(presence)?;
     Ok(model)
+}
+
+fn serves_absent(alloc: Global) -> Result<bool, NoMemory> {
+    let model = absent(alloc)?;
+    Ok(is_served(&model))
+}
+
+fn found_in_absent(alloc: Global) -> Result<Option<BasicWitness>, NoMemory> {
+    let model = absent(alloc)?;
+    found(alloc, &model, None)
 }
 
 #[test]
 fn refutes_by_an_expression(rt: HostRuntime) -> Result<(), Fail> {
-    let model = absent(rt.alloc())?;
-    assert!(rt; is_served(&model));
+    assert!(rt; serves_absent(rt.alloc())?);
     assert_eq!(rt;
-        found(rt.alloc(), &model, None)?,
+        found_in_absent(rt.alloc())?,
         Some(BasicWitness::Leaf { k: 1, u: 0 })
     );
     Ok(())
@@ -237,9 +304,13 @@ fn ordered(alloc: Global) -> Result<Model, NoMemory> {
     Ok(model)
 }
 
+fn serves_ordered(alloc: Global) -> Result<bool, NoMemory> {
+    let model = ordered(alloc)?;
+    Ok(is_served(&model))
+}
+
 #[test]
 fn serves_no_sequence(rt: HostRuntime) -> Result<(), Fail> {
-    let model = ordered(rt.alloc())?;
-    assert!(rt; !is_served(&model));
+    assert!(rt; !serves_ordered(rt.alloc())?);
     Ok(())
 }

@@ -30,12 +30,13 @@ fn optional(alloc: Global) -> Result<IntervalDef, NoMemory>
 }
 
 fn one_interval(alloc: Global) -> Result<Model, NoMemory> {
+    let def = optional(alloc)?;
     let mut model = Model::new(alloc);
-    model.add_interval(optional(alloc)?)?;
+    model.add_interval(def)?;
     Ok(model)
 }
 
-/// The root, narrowed by one guess and one fact where these may be applied.
+/// The region, narrowed by one guess and one fact where these may be applied.
 fn narrowed(region: &mut Region, g: Guess, f: Fact) -> Result<bool, NoMemory> {
     if !region.splits(g) {
         return Ok(false);
@@ -55,44 +56,99 @@ fn seen(look: &Look<'_>) -> Option<Bounds> {
     Some(look.bounds(A))
 }
 
-#[test]
-fn narrows_and_goes_back(rt: HostRuntime) -> Result<(), Fail> {
-    let model = one_interval(rt.alloc())?;
-    let mut region = Region::root(rt.alloc(), &model)?;
+/// What is seen of the first interval before and after it was narrowed behind a save, and after
+/// that save was taken back.
+type Seen = (Option<Bounds>, Option<Bounds>, Option<Bounds>);
+
+fn there_and_back(region: &mut Region) -> Result<Option<Seen>, NoMemory> {
     let first = seen(&region.look(None, None));
     region.save()?;
-    assert!(rt; narrowed(&mut region, Guess::Present(A), Fact(Guess::EndGe(A, 3)))?);
-    let now = seen(&region.look(None, None)).ok_or("none")?;
+    if !narrowed(region, Guess::Present(A), Fact(Guess::EndGe(A, 3)))? {
+        return Ok(None);
+    }
+    let now = seen(&region.look(None, None));
+    if region.saves() != 1 {
+        return Ok(None);
+    }
+    region.undo();
+    Ok(Some((first, now, seen(&region.look(None, None)))))
+}
+
+fn from_the_root(alloc: Global, model: &Model) -> Result<Option<Seen>, NoMemory> {
+    let mut region = Region::root(alloc, model)?;
+    there_and_back(&mut region)
+}
+
+// A model is owned by functions with one way out, since each way has to let go of it.
+fn of_one_interval(alloc: Global) -> Result<Option<Seen>, NoMemory> {
+    let model = one_interval(alloc)?;
+    from_the_root(alloc, &model)
+}
+
+#[test]
+fn narrows_and_goes_back(rt: HostRuntime) -> Result<(), Fail> {
+    let (first, now, last) = of_one_interval(rt.alloc())?.ok_or("not narrowed")?;
+    let now = now.ok_or("no interval")?;
     assert_eq!(rt; now.presence, Presence::Present);
     assert_eq!(rt; now.emax, 2);
-    assert_eq!(rt; region.saves(), 1);
-    region.undo();
-    assert_eq!(rt; seen(&region.look(None, None)), first);
+    assert_eq!(rt; last, first);
     Ok(())
+}
+
+/// The first of these guesses that the region doesn't admit, or does, as it is said.
+fn first_wrong(region: &Region, guesses: &[(Guess, bool)]) -> Option<Guess> {
+    for (g, want) in guesses {
+        if region.admits(*g) != *want {
+            return Some(*g);
+        }
+    }
+    None
+}
+
+fn wrong_at_the_root(
+    alloc: Global,
+    model: &Model,
+    guesses: &[(Guess, bool)],
+) -> Result<Option<Guess>, NoMemory> {
+    let region = Region::root(alloc, model)?;
+    Ok(first_wrong(&region, guesses))
+}
+
+fn wrong_in_one_interval(
+    alloc: Global,
+    guesses: &[(Guess, bool)],
+) -> Result<Option<Guess>, NoMemory> {
+    let model = one_interval(alloc)?;
+    wrong_at_the_root(alloc, &model, guesses)
 }
 
 #[test]
 fn admits_what_empties_no_cell(rt: HostRuntime) -> Result<(), Fail> {
-    let model = one_interval(rt.alloc())?;
-    let region = Region::root(rt.alloc(), &model)?;
-    let admitted = [
-        Guess::Present(A),
-        Guess::StartLe(A, 0),
-        Guess::StartGe(A, 3),
-        Guess::EndLe(A, 4),
+    let guesses = [
+        (Guess::Present(A), true),
+        (Guess::StartLe(A, 0), true),
+        (Guess::StartGe(A, 3), true),
+        (Guess::EndLe(A, 4), true),
+        (Guess::Absent(Itv(1)), false),
+        (Guess::StartLe(A, 3), false),
+        (Guess::EndGe(A, 6), false),
     ];
-    for g in admitted {
-        assert!(rt; region.admits(g));
-    }
-    let refused = [
-        Guess::Absent(Itv(1)),
-        Guess::StartLe(A, 3),
-        Guess::EndGe(A, 6),
-    ];
-    for g in refused {
-        assert!(rt; !region.admits(g));
-    }
-    assert_eq!(rt; region.cells(), 5);
-    assert!(rt; !region.settled());
+    assert_eq!(rt; wrong_in_one_interval(rt.alloc(), &guesses)?, None);
+    Ok(())
+}
+
+fn told_of_the_root(alloc: Global, model: &Model) -> Result<(u64, bool), NoMemory> {
+    let region = Region::root(alloc, model)?;
+    Ok((region.cells(), region.settled()))
+}
+
+fn told_of_one_interval(alloc: Global) -> Result<(u64, bool), NoMemory> {
+    let model = one_interval(alloc)?;
+    told_of_the_root(alloc, &model)
+}
+
+#[test]
+fn has_five_cells_for_an_interval(rt: HostRuntime) -> Result<(), Fail> {
+    assert_eq!(rt; told_of_one_interval(rt.alloc())?, (5, false));
     Ok(())
 }

@@ -124,14 +124,18 @@ fn is_apart(model: &Model, all: &Assignment, direct: bool) -> bool {
     has_no_overlap(model, all, Seq(0), None, direct, order_of(all, Seq(0)))
 }
 
+/// Whether it is, under `noOverlap` as it is written without a matrix, and between neighbours.
+fn is_kept_apart(alloc: Global, all: &Assignment) -> (bool, bool) {
+    let model = Model::new(alloc);
+    (is_apart(&model, all, false), is_apart(&model, all, true))
+}
+
 #[test]
 fn separations(rt: HostRuntime) -> Result<(), Fail> {
-    let model = Model::new(rt.alloc());
     // a ends at 1, b lasts from 3 to 4; where c starts, and whether noOverlap holds
     for (c, apart) in [(5, true), (4, true), (3, false)] {
         let all = placed(rt.alloc(), [at(0, 1), at(3, 4), at(c, 9)], &[A, B, C], &[])?;
-        assert_eq!(rt; is_apart(&model, &all, false), apart, "c {c}");
-        assert_eq!(rt; is_apart(&model, &all, true), apart, "c {c}");
+        assert_eq!(rt; is_kept_apart(rt.alloc(), &all), (apart, apart), "c {c}");
     }
     Ok(())
 }
@@ -239,17 +243,18 @@ fn segment(p: i64, q: i64) -> Segment {
     Segment { p, q, v: 0 }
 }
 
-fn are_fitting(model: &Model, g: &StateDef, i: Segment, j: Segment) -> bool {
-    are_segments(model, g, &[i, j])
+/// Whether two are segments of a state function without a matrix.
+fn are_fitting(alloc: Global, i: Segment, j: Segment) -> Result<bool, NoMemory> {
+    let free = StateDef {
+        name: listed(alloc, b"g")?,
+        matrix: None,
+    };
+    let model = Model::new(alloc);
+    Ok(are_segments(&model, &free, &[i, j]))
 }
 
 #[test]
 fn segments(rt: HostRuntime) -> Result<(), Fail> {
-    let model = Model::new(rt.alloc());
-    let free = StateDef {
-        name: listed(rt.alloc(), b"g")?,
-        matrix: None,
-    };
     // the second of two segments, and whether they are segments
     let rows = [
         (segment(3, 9), true),
@@ -258,7 +263,7 @@ fn segments(rt: HostRuntime) -> Result<(), Fail> {
         (segment(4, 4), false),
     ];
     for (second, fitting) in rows {
-        assert_eq!(rt; are_fitting(&model, &free, segment(0, 2), second), fitting);
+        assert_eq!(rt; are_fitting(rt.alloc(), segment(0, 2), second)?, fitting);
     }
     Ok(())
 }

@@ -50,14 +50,16 @@ fn too_short(alloc: Global) -> Result<IntervalDef, NoMemory>
 fn one_interval(alloc: Global) -> Result<Model, NoMemory>
     ensures { IfOk result (λ m. m ≡ with_interval (record { name = 97 ∷ []; optional = false; start_lo = pos 0; start_hi = pos 1; end_lo = pos 1; end_hi = pos 2; size_lo = pos 1; size_hi = pos 1 }) empty_model) }
 {
+    let def = small(alloc)?;
     let mut model = Model::new(alloc);
-    model.add_interval(small(alloc)?)?;
+    model.add_interval(def)?;
     Ok(model)
 }
 
 fn cramped(alloc: Global) -> Result<Model, NoMemory> {
+    let def = too_short(alloc)?;
     let mut model = Model::new(alloc);
-    model.add_interval(too_short(alloc)?)?;
+    model.add_interval(def)?;
     Ok(model)
 }
 
@@ -103,14 +105,25 @@ fn run(alloc: Global, model: &Model, nodes: u64, desk: &mut MemDesk) -> Told {
     seen(&solve(alloc, model, nodes, desk))
 }
 
+/// The answer, where the log on the desk is then this one.
+fn logged_on(
+    alloc: Global,
+    model: &Model,
+    nodes: u64,
+    log: &[u8],
+    desk: &mut MemDesk,
+) -> Option<Told> {
+    let answer = run(alloc, model, nodes, desk);
+    if desk.log_bytes() != log {
+        return None;
+    }
+    Some(answer)
+}
+
 /// The answer, where the log is this one.
 fn logged(alloc: Global, model: &Model, nodes: u64, log: &[u8]) -> Result<Option<Told>, NoMemory> {
     let mut desk = MemDesk::new(alloc, List::new(alloc), List::new(alloc))?;
-    let answer = run(alloc, model, nodes, &mut desk);
-    if desk.log_bytes() != log {
-        return Ok(None);
-    }
-    Ok(Some(answer))
+    Ok(logged_on(alloc, model, nodes, log, &mut desk))
 }
 
 fn answer(alloc: Global, model: &Model) -> Result<Told, NoMemory> {
@@ -118,29 +131,57 @@ fn answer(alloc: Global, model: &Model) -> Result<Told, NoMemory> {
     Ok(run(alloc, model, 100_000, &mut desk))
 }
 
+fn logged_in_one_interval(alloc: Global, nodes: u64, log: &[u8]) -> Result<Option<Told>, NoMemory> {
+    let model = one_interval(alloc)?;
+    logged(alloc, &model, nodes, log)
+}
+
+fn logged_in_cramped(alloc: Global, nodes: u64, log: &[u8]) -> Result<Option<Told>, NoMemory> {
+    let model = cramped(alloc)?;
+    logged(alloc, &model, nodes, log)
+}
+
+fn logged_in_aimed(
+    alloc: Global,
+    sense: Sense,
+    nodes: u64,
+    log: &[u8],
+) -> Result<Option<Told>, NoMemory> {
+    let model = aimed(alloc, sense)?;
+    logged(alloc, &model, nodes, log)
+}
+
+fn answer_in_aimed(alloc: Global, sense: Sense) -> Result<Told, NoMemory> {
+    let model = aimed(alloc, sense)?;
+    answer(alloc, &model)
+}
+
 #[test]
 fn ends_at_the_first_solution_without_an_objective(rt: HostRuntime) -> Result<(), Fail> {
-    let model = one_interval(rt.alloc())?;
     let log = b"schedlog 1\ns SL 0 0\ns EL 0 1\nv p 0 1\nend\n";
-    assert_eq!(rt; logged(rt.alloc(), &model, 100, log)?, Some(Told::Feasible));
+    assert_eq!(rt;
+        logged_in_one_interval(rt.alloc(), 100, log)?,
+        Some(Told::Feasible)
+    );
     Ok(())
 }
 
 #[test]
 fn stops_at_the_limit_of_nodes(rt: HostRuntime) -> Result<(), Fail> {
-    let model = one_interval(rt.alloc())?;
     let log = b"schedlog 1\ns SL 0 0\ns EL 0 1\nend\n";
-    assert_eq!(rt; logged(rt.alloc(), &model, 2, log)?, Some(Told::Unfinished));
+    assert_eq!(rt;
+        logged_in_one_interval(rt.alloc(), 2, log)?,
+        Some(Told::Unfinished)
+    );
     Ok(())
 }
 
 /// The first solution ends at 1, and a later end would be better.
 #[test]
 fn stops_with_the_best_so_far(rt: HostRuntime) -> Result<(), Fail> {
-    let model = aimed(rt.alloc(), Sense::Maximize)?;
     let log = b"schedlog 1\ns SL 0 0\ns EL 0 1\nv p 0 1\nend\n";
     assert_eq!(rt;
-        logged(rt.alloc(), &model, 3, log)?,
+        logged_in_aimed(rt.alloc(), Sense::Maximize, 3, log)?,
         Some(Told::UnfinishedAt(1))
     );
     Ok(())
@@ -148,10 +189,9 @@ fn stops_with_the_best_so_far(rt: HostRuntime) -> Result<(), Fail> {
 
 #[test]
 fn shows_that_there_is_none(rt: HostRuntime) -> Result<(), Fail> {
-    let model = cramped(rt.alloc())?;
     let log = b"schedlog 1\nf LEAF 0 0\nend\n";
     assert_eq!(rt;
-        logged(rt.alloc(), &model, 100, log)?,
+        logged_in_cramped(rt.alloc(), 100, log)?,
         Some(Told::Infeasible)
     );
     Ok(())
@@ -161,8 +201,7 @@ fn shows_that_there_is_none(rt: HostRuntime) -> Result<(), Fail> {
 #[test]
 fn finds_the_best(rt: HostRuntime) -> Result<(), Fail> {
     for (sense, best) in [(Sense::Minimize, 1), (Sense::Maximize, 2)] {
-        let model = aimed(rt.alloc(), sense)?;
-        assert_eq!(rt; answer(rt.alloc(), &model)?, Told::Optimal(best));
+        assert_eq!(rt; answer_in_aimed(rt.alloc(), sense)?, Told::Optimal(best));
     }
     Ok(())
 }
