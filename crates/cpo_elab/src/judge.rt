@@ -1,10 +1,10 @@
-ghost use Rattle.std.specs.Prelude.{◌≡◌, ◌+◌, is_none, option_map, IfOk};
+ghost use Rattle.std.specs.Prelude.{◌≡◌, ◌+◌, [], ◌∷◌, is_none, option_map, IfOk};
 ghost use Rattle.sched_model.specs.Words.{passes};
 ghost use Rattle.sched_model.specs.Hull.{hull_of};
 ghost use Rattle.cpo_elab.specs.Held.{logic_in};
 ghost use Rattle.cpo_elab.specs.Elaborated.{expr_of};
 ghost use Rattle.cpo_elab.specs.Factors.{factor_of};
-ghost use Rattle.cpo_elab.specs.Judged.{aims_again, has_no_hull, is_crowded, has_crowded, number_in};
+ghost use Rattle.cpo_elab.specs.Judged.{passes_limit, aims_again, has_no_hull, is_crowded, has_crowded, first_of, number_in};
 
 use crate::draft::Draft;
 use crate::exprs::expr_of;
@@ -87,6 +87,28 @@ fn has_crowded(s: &Statement) -> bool
     }
 }
 
+/// The number that the last four tests give a statement, whose expression is `written`.
+///
+/// In a function that borrows the expression, since each way out of one that owns it lets it go.
+fn late_number(draft: &Draft, before: u32, s: &Statement, written: &Option<Expr>) -> Option<u32>
+    requires { written.now ≡ option_map (expr_of draft.now) (logic_in s.now) }
+    ensures { result ≡ first_of ((passes_limit draft.now (before + 1) s.now, 11) ∷ (aims_again draft.now s.now, 12) ∷ (has_no_hull draft.now s.now, 13) ∷ (has_crowded s.now, 14) ∷ []) }
+{
+    if passes_limit(draft, before, s, written) {
+        return Some(number::LIMIT_PASSED);
+    }
+    if aims_again(draft, s) {
+        return Some(number::SECOND_OBJECTIVE);
+    }
+    if has_no_hull(draft, s, written) {
+        return Some(number::NO_HULL);
+    }
+    if has_crowded(s) {
+        return Some(number::TWO_FACTORS);
+    }
+    None
+}
+
 /// The number that a statement deserves behind so many others.
 #[tactic(auto, unfolding(crate::specs::Judged::number_in))]
 pub fn number_in(
@@ -119,17 +141,5 @@ pub fn number_in(
         return Ok(Some(number::TWICE_IN_LIST));
     }
     let written = written(alloc, draft, s)?;
-    if passes_limit(draft, before, s, &written) {
-        return Ok(Some(number::LIMIT_PASSED));
-    }
-    if aims_again(draft, s) {
-        return Ok(Some(number::SECOND_OBJECTIVE));
-    }
-    if has_no_hull(draft, s, &written) {
-        return Ok(Some(number::NO_HULL));
-    }
-    if has_crowded(s) {
-        return Ok(Some(number::TWO_FACTORS));
-    }
-    Ok(None)
+    Ok(late_number(draft, before, s, &written))
 }
