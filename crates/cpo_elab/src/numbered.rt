@@ -1,5 +1,7 @@
-ghost use Rattle.std.specs.Prelude.{◌≡◌, ℕ, ◌<◌, ◌^◌, map, length, slice_index, IfOk, IsTrue};
+ghost use Rattle.std.specs.Prelude.{◌≡◌, ℕ, ◌<◌, ◌^◌, map, length, slice_index, IfOk, OnOk};
 ghost use Rattle.std.specs.List.{count_by};
+ghost use Rattle.sched_model.specs.Valid.{IsValid};
+ghost use Rattle.sched_model.specs.Whole.{data_of};
 ghost use Rattle.cpo_elab.specs.Numbered.{parted, new_place, new_seq, new_cum, renumbered, named_first};
 
 use sched_base::{Cum, List, NoMemory, Seq};
@@ -137,6 +139,15 @@ fn renumbered(sequences: &[u32], cumuls: &[u32], c: Constraint) -> Constraint
     }
 }
 
+/// Puts the named items before the others. After an error they are lost.
+fn part<T: MayHaveName>(alloc: Global, items: &mut List<T>) -> Result<(), NoMemory>
+    ensures { OnOk result (items.new ≡ parted T.is_named items.old) }
+{
+    let all = std::mem::replace(items, List::new(alloc));
+    *items = parted(alloc, all)?;
+    Ok(())
+}
+
 fn all_renumbered(
     alloc: Global,
     sequences: &[u32],
@@ -152,26 +163,46 @@ fn all_renumbered(
     Ok(changed)
 }
 
+/// Has constraints speak of the new places. After an error they are lost.
+fn renumber_all(
+    alloc: Global,
+    sequences: &[u32],
+    cumuls: &[u32],
+    constraints: &mut List<Constraint>,
+) -> Result<(), NoMemory>
+    ensures { OnOk result (constraints.new ≡ map (renumbered (slice_index sequences.now) (slice_index cumuls.now)) constraints.old) }
+{
+    let all = std::mem::replace(constraints, List::new(alloc));
+    *constraints = all_renumbered(alloc, sequences, cumuls, all)?;
+    Ok(())
+}
+
+/// Renumbers the things of a model. After an error they may not fit each other.
+///
+/// In a function that borrows them, since each way out of one that owns them lets them go.
+fn renumber(alloc: Global, parts: &mut Parts) -> Result<(), NoMemory>
+    requires { IsValid (data_of parts.old) }
+    ensures { OnOk result (data_of parts.new ≡ named_first (data_of parts.old)) }
+{
+    let sequences = new_places(alloc, parts.sequences.as_slice())?;
+    let cumuls = new_places(alloc, parts.cumuls.as_slice())?;
+    part(alloc, &mut parts.sequences)?;
+    part(alloc, &mut parts.cumuls)?;
+    renumber_all(
+        alloc,
+        sequences.as_slice(),
+        cumuls.as_slice(),
+        &mut parts.constraints,
+    )?;
+    Ok(())
+}
+
 /// The same model with its named sequences and cumulative functions numbered first, each kind in
 /// the order of the text.
 pub fn named_first(alloc: Global, model: Model) -> Result<Model, NoMemory>
     ensures { IfOk result (λ m. m ≡ named_first model) }
 {
-    let sequences = new_places(alloc, model.sequences())?;
-    let cumuls = new_places(alloc, model.cumuls())?;
-    let parts = model.into_parts();
-    Ok(Model::of(Parts {
-        sequences: parted(alloc, parts.sequences)?,
-        cumuls: parted(alloc, parts.cumuls)?,
-        constraints: all_renumbered(
-            alloc,
-            sequences.as_slice(),
-            cumuls.as_slice(),
-            parts.constraints,
-        )?,
-        intervals: parts.intervals,
-        matrices: parts.matrices,
-        states: parts.states,
-        objective: parts.objective,
-    }))
+    let mut parts = model.into_parts();
+    renumber(alloc, &mut parts)?;
+    Ok(Model::of(parts))
 }
