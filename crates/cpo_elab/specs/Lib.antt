@@ -5,6 +5,7 @@ pub mod Elaborated
 pub mod Factors
 pub mod Judged
 pub mod Drafts
+pub mod Items
 pub mod Numbered
 pub mod NumberedLaws
 pub mod Answers

@@ -6,6 +6,7 @@ ghost use Rattle.cpo_text.specs.declared.tree.Statement.TheVariants.{Define};
 ghost use Rattle.cpo_elab.specs.Named.{is_defined};
 ghost use Rattle.cpo_elab.specs.Held.{some_amount, some_int, rows_in};
 ghost use Rattle.cpo_elab.specs.Elaborated.{types_in, sequence_named, matrix_named, state_named, cumul_named, defined, constraint_of, named_itself, with_unnamed, with_listed, with_written, objective_of, after};
+ghost use Rattle.cpo_elab.specs.Items.{with_item, item_name, with_any, IsUnnamed};
 ghost use Rattle.cpo_elab.specs.Judged.{is_large, is_negative, number_in};
 ghost use Rattle.cpo_elab.specs.Shaped.{is_shaped};
 
@@ -14,10 +15,11 @@ use crate::copies::{cells_in, itvs_of, types_in};
 use crate::draft::Draft;
 use crate::exprs::expr_of;
 use crate::interval::interval_of;
+use crate::item::Item;
 use crate::parts::parts_in;
 use cpo_text::{Constrained, Cumul, Definition, Int, Logic, Over, Sense, Statement};
 use sched_base::{List, NoMemory};
-use sched_model::{CumulDef, MatrixDef, Objective, SequenceDef, StateDef};
+use sched_model::{Constraint, CumulDef, MatrixDef, Objective, SequenceDef, StateDef};
 use std::alloc::Global;
 
 fn copy(alloc: Global, name: &[u8]) -> Result<List<u8>, NoMemory>
@@ -96,7 +98,42 @@ fn cumul_named(alloc: Global, draft: &Draft, name: &[u8], c: &Cumul) -> Result<C
     })
 }
 
+/// The thing that a definition names.
+fn item_of(alloc: Global, draft: &Draft, name: &[u8], d: &Definition) -> Result<Item, NoMemory>
+    requires large { some_amount is_large (Define name.now d.now) ≡ false }
+    requires negative { some_amount is_negative (Define name.now d.now) ≡ false }
+    requires rows { length (rows_in (Define name.now d.now)) ≤ 200 }
+    ensures item { IfOk result (λ x. with_item x draft.now ≡ defined draft.now name.now d.now) }
+    ensures name { IfOk result (λ x. item_name x ≡ Some name.now) }
+{
+    match d {
+        Definition::IntervalVar(args) => {
+            let def = interval_of(alloc, name, args.as_slice())?;
+            Ok(Item::Interval(def))
+        }
+        Definition::SequenceVar(members, types) => {
+            let def = sequence_named(alloc, draft, name, members.as_slice(), types)?;
+            Ok(Item::Sequence(def))
+        }
+        Definition::TransitionMatrix(rows) => {
+            let def = matrix_named(alloc, name, rows.as_slice())?;
+            Ok(Item::Matrix(def))
+        }
+        Definition::StateFunction(matrix) => {
+            let def = state_named(alloc, draft, name, matrix)?;
+            Ok(Item::State(def))
+        }
+        Definition::Cumulative(c) => {
+            let def = cumul_named(alloc, draft, name, c)?;
+            Ok(Item::Cumulated(def))
+        }
+    }
+}
+
 /// The draft with a definition.
+///
+/// What can fail stands in functions that borrow the draft or take it whole, since each other way
+/// out of one that owns it lets it go.
 fn define(alloc: Global, draft: Draft, name: &[u8], d: &Definition) -> Result<Draft, NoMemory>
     requires valid { IsValid (defined draft name.now d.now) }
     requires fresh { is_defined draft name.now ≡ false }
@@ -105,71 +142,66 @@ fn define(alloc: Global, draft: Draft, name: &[u8], d: &Definition) -> Result<Dr
     requires rows { length (rows_in (Define name.now d.now)) ≤ 200 }
     ensures { IfOk result (λ e. e ≡ defined draft name.now d.now) }
 {
-    match d {
-        Definition::IntervalVar(args) => {
-            let def = interval_of(alloc, name, args.as_slice())?;
-            draft.with_interval(alloc, def)
-        }
-        Definition::SequenceVar(members, types) => {
-            let def = sequence_named(alloc, &draft, name, members.as_slice(), types)?;
-            draft.with_sequence(alloc, name, def)
-        }
-        Definition::TransitionMatrix(rows) => {
-            let def = matrix_named(alloc, name, rows.as_slice())?;
-            draft.with_matrix(alloc, def)
-        }
-        Definition::StateFunction(matrix) => {
-            let def = state_named(alloc, &draft, name, matrix)?;
-            draft.with_state(alloc, def)
-        }
-        Definition::Cumulative(c) => {
-            let def = cumul_named(alloc, &draft, name, c)?;
-            draft.with_cumul(alloc, name, def)
-        }
-    }
+    let item = item_of(alloc, &draft, name, d)?;
+    draft.with_named(alloc, name, item)
 }
 
-/// The draft with the sequence of a list, which has no name.
-fn with_listed(alloc: Global, draft: Draft, over: &Over) -> Result<Draft, NoMemory>
-    requires { IsValid (with_listed draft over.now) }
-    ensures { IfOk result (λ e. e ≡ with_listed draft over.now) }
+/// The sequence of a list, which has no name.
+fn listed(alloc: Global, draft: &Draft, over: &Over) -> Result<Option<Item>, NoMemory>
+    ensures item { IfOk result (λ o. with_any o draft.now ≡ with_listed draft.now over.now) }
+    ensures name { IfOk result (λ o. IsUnnamed o) }
 {
     match over {
-        Over::Named(_) => Ok(draft),
+        Over::Named(_) => Ok(None),
         Over::Listed(names) => {
-            let members = itvs_of(alloc, &draft, names.as_slice())?;
-            draft.with_listed(SequenceDef {
+            let members = itvs_of(alloc, draft, names.as_slice())?;
+            Ok(Some(Item::Sequence(SequenceDef {
                 name: None,
                 members,
                 types: None,
-            })
+            })))
         }
     }
 }
 
-/// The draft with the function of a cumulative expression, where that has no name.
-fn with_unnamed(alloc: Global, draft: Draft, c: &Cumul) -> Result<Draft, NoMemory>
-    requires { IsValid (with_unnamed draft c.now (named_itself c.now)) }
-    ensures { IfOk result (λ e. e ≡ with_unnamed draft c.now (named_itself c.now)) }
+/// The function of a cumulative expression, where that has no name.
+fn unnamed(alloc: Global, draft: &Draft, c: &Cumul) -> Result<Option<Item>, NoMemory>
+    ensures item { IfOk result (λ o. with_any o draft.now ≡ with_unnamed draft.now c.now (named_itself c.now)) }
+    ensures name { IfOk result (λ o. IsUnnamed o) }
 {
     if !is_unnamed(c) {
-        return Ok(draft);
+        return Ok(None);
     }
-    let parts = parts_in(alloc, &draft, c)?;
-    draft.with_unnamed(CumulDef { name: None, parts })
+    let parts = parts_in(alloc, draft, c)?;
+    Ok(Some(Item::Cumulated(CumulDef { name: None, parts })))
 }
 
-/// The draft with what a constraint writes without a name.
-fn with_written(alloc: Global, draft: Draft, c: &Constrained) -> Result<Draft, NoMemory>
-    requires { IsValid (with_written draft c.now) }
-    ensures { IfOk result (λ e. e ≡ with_written draft c.now) }
+/// What a constraint writes without a name.
+fn written(alloc: Global, draft: &Draft, c: &Constrained) -> Result<Option<Item>, NoMemory>
+    ensures item { IfOk result (λ o. with_any o draft.now ≡ with_written draft.now c.now) }
+    ensures name { IfOk result (λ o. IsUnnamed o) }
 {
     match c {
-        Constrained::NoOverlap(over, _) => with_listed(alloc, draft, over),
-        Constrained::Bounded(f, _, _) => with_unnamed(alloc, draft, f),
-        Constrained::AlwaysIn(f, _, _, _) => with_unnamed(alloc, draft, f),
-        _ => Ok(draft),
+        Constrained::NoOverlap(over, _) => listed(alloc, draft, over),
+        Constrained::Bounded(f, _, _) => unnamed(alloc, draft, f),
+        Constrained::AlwaysIn(f, _, _, _) => unnamed(alloc, draft, f),
+        _ => Ok(None),
     }
+}
+
+/// A constraint, and what it writes without a name.
+fn constraint_with(
+    alloc: Global,
+    draft: &Draft,
+    c: &Constrained,
+) -> Result<(Option<Item>, Constraint), NoMemory>
+    ensures item { IfOk result (λ x. with_any x.0 draft.now ≡ with_written draft.now c.now) }
+    ensures name { IfOk result (λ x. IsUnnamed x.0) }
+    ensures constraint { IfOk result (λ x. x.1 ≡ constraint_of draft.now c.now) }
+{
+    let constraint = constraint_of(alloc, draft, c)?;
+    let item = written(alloc, draft, c)?;
+    Ok((item, constraint))
 }
 
 /// The draft with a constraint.
@@ -178,9 +210,8 @@ fn constrain(alloc: Global, draft: Draft, c: &Constrained) -> Result<Draft, NoMe
     requires valid { IsValid (with_constraint (constraint_of draft c.now) (with_written draft c.now)) }
     ensures { IfOk result (λ e. e ≡ with_constraint (constraint_of draft c.now) (with_written draft c.now)) }
 {
-    let constraint = constraint_of(alloc, &draft, c)?;
-    let draft = with_written(alloc, draft, c)?;
-    draft.with_constraint(constraint)
+    let (item, constraint) = constraint_with(alloc, &draft, c)?;
+    draft.with_constraint(item, constraint)
 }
 
 /// The draft with an objective.

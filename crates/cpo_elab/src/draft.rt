@@ -1,18 +1,17 @@
 ghost use Rattle.std.specs.Prelude.{◌≡◌, ◌+◌, ◌≤◌, length, [], ◌∷◌, ◌++◌, false, Some, None, IfOk, OnOk};
 ghost use Rattle.std.specs.Str.{bytes_eq};
 ghost use Rattle.std.specs.Map.{lookup};
-ghost use Rattle.sched_model.specs.Data.{empty_model, with_interval, with_matrix, with_sequence, with_cumul, with_state, with_constraint, with_objective};
+ghost use Rattle.sched_model.specs.Data.{empty_model, with_constraint, with_objective};
 ghost use Rattle.sched_model.specs.Valid.{IsValid, cell_count, node_total};
 ghost use Rattle.cpo_elab.specs.Named.{number_of, id_of, is_defined, itv_of, mat_of, seq_of, cum_of, stf_of};
 ghost use Rattle.cpo_elab.specs.Judged.{node_limit};
-ghost use Rattle.cpo_elab.specs.declared.names.Sort.TheVariants.{Interval, Matrix, Sequence, Cumulated, State};
+ghost use Rattle.cpo_elab.specs.Items.{with_item, item_name, item_sort, next_id, with_any, IsUnnamed};
 
-use crate::counts::{constraint_nodes, nodes, pair_count};
+use crate::counts::{constraint_nodes, nodes};
+use crate::item::{Item, any_cells, any_nodes};
 use crate::names::{Meaning, Names, Sort, same_sort};
 use sched_base::{Cum, Itv, Mat, NoMemory, Seq, Stf};
-use sched_model::{
-    Constraint, CumulDef, IntervalDef, MatrixDef, Model, Objective, SequenceDef, StateDef,
-};
+use sched_model::{Constraint, Model, Objective};
 use std::alloc::Global;
 
 /// The nodes that the expressions of a model and the parts of its cumulative functions may have
@@ -44,117 +43,50 @@ impl std::marker::Model for Draft {
     ghost invariant = { λ d. IsDraft d.names d.cells d.room d.model };
 }
 
-/// Adds an interval and its name. After an error the two may not fit each other.
+/// Adds a thing and its name. After an error the two may not fit each other.
 ///
-/// In a function of its own, as for the other sorts, so that a draft is owned over one exit alone.
-fn add_interval(
-    alloc: Global,
-    model: &mut Model,
-    names: &mut Names,
-    def: IntervalDef,
-) -> Result<(), NoMemory>
-    requires valid { IsValid (with_interval def model.old) }
-    requires fresh { lookup (bytes_eq def.name) names.old ≡ None }
-    ensures model { OnOk result (model.new ≡ with_interval def model.old) }
-    ensures names { OnOk result (names.new ≡ names.old ++ (def.name, record { sort = Interval; id = length model.old.intervals }) ∷ []) }
-{
-    let name = Vec::from_slice(alloc, def.name.as_slice())?;
-    let id = model.add_interval(def)?;
-    let meaning = Meaning {
-        sort: Sort::Interval,
-        id: id.0,
-    };
-    names.push(name, meaning)?;
-    Ok(())
-}
-
-/// Adds a matrix and its name, as `add_interval` does for an interval.
-fn add_matrix(
-    alloc: Global,
-    model: &mut Model,
-    names: &mut Names,
-    def: MatrixDef,
-) -> Result<(), NoMemory>
-    requires valid { IsValid (with_matrix def model.old) }
-    requires fresh { lookup (bytes_eq def.name) names.old ≡ None }
-    ensures model { OnOk result (model.new ≡ with_matrix def model.old) }
-    ensures names { OnOk result (names.new ≡ names.old ++ (def.name, record { sort = Matrix; id = length model.old.matrices }) ∷ []) }
-{
-    let name = Vec::from_slice(alloc, def.name.as_slice())?;
-    let id = model.add_matrix(def)?;
-    let meaning = Meaning {
-        sort: Sort::Matrix,
-        id: id.0,
-    };
-    names.push(name, meaning)?;
-    Ok(())
-}
-
-/// Adds a state function and its name, as `add_interval` does for an interval.
-fn add_state(
-    alloc: Global,
-    model: &mut Model,
-    names: &mut Names,
-    def: StateDef,
-) -> Result<(), NoMemory>
-    requires valid { IsValid (with_state def model.old) }
-    requires fresh { lookup (bytes_eq def.name) names.old ≡ None }
-    ensures model { OnOk result (model.new ≡ with_state def model.old) }
-    ensures names { OnOk result (names.new ≡ names.old ++ (def.name, record { sort = State; id = length model.old.states }) ∷ []) }
-{
-    let name = Vec::from_slice(alloc, def.name.as_slice())?;
-    let id = model.add_state(def)?;
-    let meaning = Meaning {
-        sort: Sort::State,
-        id: id.0,
-    };
-    names.push(name, meaning)?;
-    Ok(())
-}
-
-/// Adds a sequence and its name, as `add_interval` does for an interval.
-fn add_sequence(
+/// In a function of its own, so that a draft is owned over one exit alone.
+fn add_item(
     alloc: Global,
     model: &mut Model,
     names: &mut Names,
     name: &[u8],
-    def: SequenceDef,
+    item: Item,
 ) -> Result<(), NoMemory>
-    requires valid { IsValid (with_sequence def model.old) }
+    requires valid { IsValid (with_item item model.old) }
     requires fresh { lookup (bytes_eq name.now) names.old ≡ None }
-    ensures model { OnOk result (model.new ≡ with_sequence def model.old) }
-    ensures names { OnOk result (names.new ≡ names.old ++ (name.now, record { sort = Sequence; id = length model.old.sequences }) ∷ []) }
+    ensures model { OnOk result (model.new ≡ with_item item model.old) }
+    ensures names { OnOk result (names.new ≡ names.old ++ (name.now, record { sort = item_sort item; id = next_id item model.old }) ∷ []) }
 {
-    let key = Vec::from_slice(alloc, name)?;
-    let id = model.add_sequence(def)?;
-    let meaning = Meaning {
-        sort: Sort::Sequence,
-        id: id.0,
-    };
-    names.push(key, meaning)?;
+    let sort = item.sort();
+    let id = item.add_to(model)?;
+    let name = Vec::from_slice(alloc, name)?;
+    names.push(name, Meaning { sort, id })?;
     Ok(())
 }
 
-/// Adds a cumulative function and its name, as `add_interval` does for an interval.
-fn add_cumul(
-    alloc: Global,
-    model: &mut Model,
-    names: &mut Names,
-    name: &[u8],
-    def: CumulDef,
-) -> Result<(), NoMemory>
-    requires valid { IsValid (with_cumul def model.old) }
-    requires fresh { lookup (bytes_eq name.now) names.old ≡ None }
-    ensures model { OnOk result (model.new ≡ with_cumul def model.old) }
-    ensures names { OnOk result (names.new ≡ names.old ++ (name.now, record { sort = Cumulated; id = length model.old.cumuls }) ∷ []) }
+/// Adds what a constraint writes without a name. After an error the model is as it was.
+fn add_any(model: &mut Model, written: Option<Item>) -> Result<(), NoMemory>
+    requires { IsValid (with_any written model.old) }
+    ensures { OnOk result (model.new ≡ with_any written model.old) }
 {
-    let key = Vec::from_slice(alloc, name)?;
-    let id = model.add_cumul(def)?;
-    let meaning = Meaning {
-        sort: Sort::Cumulated,
-        id: id.0,
-    };
-    names.push(key, meaning)?;
+    match written {
+        None => Ok(()),
+        Some(item) => {
+            let _ = item.add_to(model)?;
+            Ok(())
+        }
+    }
+}
+
+/// Adds a constraint behind what it writes without a name.
+fn add_constraint(model: &mut Model, written: Option<Item>, c: Constraint) -> Result<(), NoMemory>
+    requires written { IsValid (with_any written model.old) }
+    requires valid { IsValid (with_constraint c (with_any written model.old)) }
+    ensures { OnOk result (model.new ≡ with_constraint c (with_any written model.old)) }
+{
+    add_any(model, written)?;
+    let _ = model.add_constraint(c)?;
     Ok(())
 }
 
@@ -278,91 +210,24 @@ impl Draft {
         Cum(self.model.cumuls().len() as u32)
     }
 
-    /// With an interval, whose name is new.
-    pub fn with_interval(self, alloc: Global, def: IntervalDef) -> Result<Draft, NoMemory>
-        requires valid { IsValid (with_interval def self) }
-        requires fresh { is_defined self def.name ≡ false }
-        ensures { IfOk result (λ d. d ≡ with_interval def self) }
-    {
-        let Draft {
-            mut model,
-            mut names,
-            cells,
-            room,
-        } = self;
-        add_interval(alloc, &mut model, &mut names, def)?;
-        let cells = cells + 5;
-        Ok(Draft {
-            model,
-            names,
-            cells,
-            room,
-        })
-    }
-
-    /// With a matrix, whose name is new.
-    pub fn with_matrix(self, alloc: Global, def: MatrixDef) -> Result<Draft, NoMemory>
-        requires valid { IsValid (with_matrix def self) }
-        requires fresh { is_defined self def.name ≡ false }
-        ensures { IfOk result (λ d. d ≡ with_matrix def self) }
-    {
-        let Draft {
-            mut model,
-            mut names,
-            cells,
-            room,
-        } = self;
-        add_matrix(alloc, &mut model, &mut names, def)?;
-        Ok(Draft {
-            model,
-            names,
-            cells,
-            room,
-        })
-    }
-
-    /// With a state function, whose name is new.
-    pub fn with_state(self, alloc: Global, def: StateDef) -> Result<Draft, NoMemory>
-        requires valid { IsValid (with_state def self) }
-        requires fresh { is_defined self def.name ≡ false }
-        ensures { IfOk result (λ d. d ≡ with_state def self) }
-    {
-        let Draft {
-            mut model,
-            mut names,
-            cells,
-            room,
-        } = self;
-        add_state(alloc, &mut model, &mut names, def)?;
-        Ok(Draft {
-            model,
-            names,
-            cells,
-            room,
-        })
-    }
-
-    /// With a sequence, whose name is new.
-    pub fn with_sequence(
-        self,
-        alloc: Global,
-        name: &[u8],
-        def: SequenceDef,
-    ) -> Result<Draft, NoMemory>
-        requires valid { IsValid (with_sequence def self) }
+    /// With a thing that has a name, which is new.
+    pub fn with_named(self, alloc: Global, name: &[u8], item: Item) -> Result<Draft, NoMemory>
+        requires valid { IsValid (with_item item self) }
         requires fresh { is_defined self name.now ≡ false }
-        requires named { def.name ≡ Some name.now }
-        ensures { IfOk result (λ d. d ≡ with_sequence def self) }
+        requires named { item_name item ≡ Some name.now }
+        ensures { IfOk result (λ d. d ≡ with_item item self) }
     {
-        let pairs = pair_count(def.members.len());
+        let more = item.cells();
+        let nodes = item.nodes();
         let Draft {
             mut model,
             mut names,
             cells,
             room,
         } = self;
-        add_sequence(alloc, &mut model, &mut names, name, def)?;
-        let cells = cells + pairs;
+        add_item(alloc, &mut model, &mut names, name, item)?;
+        let cells = cells + more;
+        let room = room - nodes;
         Ok(Draft {
             model,
             names,
@@ -371,80 +236,15 @@ impl Draft {
         })
     }
 
-    /// With a sequence that has no name.
-    pub fn with_listed(self, def: SequenceDef) -> Result<Draft, NoMemory>
-        requires valid { IsValid (with_sequence def self) }
-        requires unnamed { def.name ≡ None }
-        ensures { IfOk result (λ d. d ≡ with_sequence def self) }
+    /// With a constraint, and with what it writes without a name in front of it.
+    pub fn with_constraint(self, written: Option<Item>, c: Constraint) -> Result<Draft, NoMemory>
+        requires written { IsValid (with_any written self) }
+        requires unnamed { IsUnnamed written }
+        requires valid { IsValid (with_constraint c (with_any written self)) }
+        ensures { IfOk result (λ d. d ≡ with_constraint c (with_any written self)) }
     {
-        let pairs = pair_count(def.members.len());
-        let Draft {
-            mut model,
-            names,
-            cells,
-            room,
-        } = self;
-        let _ = model.add_sequence(def)?;
-        let cells = cells + pairs;
-        Ok(Draft {
-            model,
-            names,
-            cells,
-            room,
-        })
-    }
-
-    /// With a cumulative function, whose name is new.
-    pub fn with_cumul(self, alloc: Global, name: &[u8], def: CumulDef) -> Result<Draft, NoMemory>
-        requires valid { IsValid (with_cumul def self) }
-        requires fresh { is_defined self name.now ≡ false }
-        requires named { def.name ≡ Some name.now }
-        ensures { IfOk result (λ d. d ≡ with_cumul def self) }
-    {
-        let parts = def.parts.len();
-        let Draft {
-            mut model,
-            mut names,
-            cells,
-            room,
-        } = self;
-        add_cumul(alloc, &mut model, &mut names, name, def)?;
-        let room = room - parts;
-        Ok(Draft {
-            model,
-            names,
-            cells,
-            room,
-        })
-    }
-
-    /// With a cumulative function that has no name.
-    pub fn with_unnamed(self, def: CumulDef) -> Result<Draft, NoMemory>
-        requires valid { IsValid (with_cumul def self) }
-        requires unnamed { def.name ≡ None }
-        ensures { IfOk result (λ d. d ≡ with_cumul def self) }
-    {
-        let parts = def.parts.len();
-        let Draft {
-            mut model,
-            names,
-            cells,
-            room,
-        } = self;
-        let _ = model.add_cumul(def)?;
-        let room = room - parts;
-        Ok(Draft {
-            model,
-            names,
-            cells,
-            room,
-        })
-    }
-
-    pub fn with_constraint(self, c: Constraint) -> Result<Draft, NoMemory>
-        requires { IsValid (with_constraint c self) }
-        ensures { IfOk result (λ d. d ≡ with_constraint c self) }
-    {
+        let more = any_cells(&written);
+        let nodes = any_nodes(&written);
         let count = constraint_nodes(&c) as usize;
         let Draft {
             mut model,
@@ -452,8 +252,10 @@ impl Draft {
             cells,
             room,
         } = self;
-        let _ = model.add_constraint(c)?;
-        let room = room - count;
+        add_constraint(&mut model, written, c)?;
+        let cells = cells + more;
+        let left = room - nodes;
+        let room = left - count;
         Ok(Draft {
             model,
             names,

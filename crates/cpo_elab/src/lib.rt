@@ -13,6 +13,7 @@ mod factors;
 mod fits;
 mod flaws;
 mod interval;
+mod item;
 mod judge;
 mod laws;
 mod limits;
