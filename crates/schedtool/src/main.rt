@@ -17,6 +17,8 @@ mod stop;
 #[cfg(test)]
 mod tests;
 #[cfg(test)]
+mod told;
+#[cfg(test)]
 mod word_tests;
 
 pub use ended::Ended;

@@ -1,5 +1,5 @@
 //! Whole runs: models, and what the commands print for them.
-use crate::tests::{CHECK, SOLVE, desk_with, prints, run_words, solves};
+use crate::told::{CHECK, SOLVE, SolvedRow, prints, refuses, refuses_all, solves_all};
 use sched_base::NoMemory;
 use std::alloc::Global;
 use std::test::Fail;
@@ -7,7 +7,7 @@ use std::test::Fail;
 const SHOW: [&str; 2] = ["show", "m"];
 
 /// Models, the status of `solve`, and how its answer begins and ends.
-const SOLVED: [(&str, u8, &str, &str); 7] = [
+const SOLVED: [SolvedRow; 7] = [
     ("\n", 0, "feasible\nnodes 1\n", "end\n"),
     (
         "x = intervalVar(size=1,start=0..1,end=1..2);",
@@ -49,20 +49,8 @@ const SOLVED: [(&str, u8, &str, &str); 7] = [
 
 #[test]
 fn solved_models(rt: HostRuntime) -> Result<(), Fail> {
-    for (text, status, begin, end) in SOLVED {
-        let is_so = solves(rt.alloc(), text, status, begin.as_bytes(), end.as_bytes())?;
-        assert!(rt; is_so, "at {text}");
-    }
+    assert!(rt; solves_all(rt.alloc(), &SOLVED)?);
     Ok(())
-}
-
-/// Whether the model is refused so, and no log is written.
-fn refuses(alloc: Global, words: &[&str], text: &str, how: &str) -> Result<bool, NoMemory> {
-    let line = format!(in alloc; "model refused {how}\n")?;
-    let mut desk = desk_with(alloc, text.as_bytes(), b"", &[])?;
-    let ended = run_words(alloc, words, &mut desk)?;
-    let is_quiet = desk.out().is_empty() && desk.log_bytes().is_empty();
-    Ok(ended.status() == 3 && desk.err() == line.as_bytes() && is_quiet)
 }
 
 /// Texts that deserve a refusal, and how it is told.
@@ -103,30 +91,39 @@ const REFUSED: [(&str, &str); 10] = [
 #[test]
 fn refused_everywhere(rt: HostRuntime) -> Result<(), Fail> {
     let alloc = rt.alloc();
-    for (text, how) in REFUSED {
-        assert!(rt; refuses(alloc, &SOLVE, text, how)?, "solve at {text}");
-        assert!(rt; refuses(alloc, &CHECK, text, how)?, "check at {text}");
-        assert!(rt; refuses(alloc, &SHOW, text, how)?, "show at {text}");
-    }
+    assert!(rt; refuses_all(alloc, &SOLVE, &REFUSED)?);
+    assert!(rt; refuses_all(alloc, &CHECK, &REFUSED)?);
+    assert!(rt; refuses_all(alloc, &SHOW, &REFUSED)?);
+    Ok(())
+}
+
+fn push_interval(alloc: Global, text: &mut String, i: u32) -> Result<(), NoMemory> {
+    let line = format!(in alloc; "a{i:04} = intervalVar();\n")?;
+    text.push_str(line.as_str())?;
     Ok(())
 }
 
 /// A line for each interval of a model with 2,001.
-fn many(alloc: Global) -> Result<String, NoMemory> {
-    let mut text = String::new(alloc);
+fn push_many(alloc: Global, text: &mut String) -> Result<(), NoMemory> {
     for i in 1..2002u32 {
-        let line = format!(in alloc; "a{i:04} = intervalVar();\n")?;
-        text.push_str(line.as_str())?;
+        push_interval(alloc, text, i)?;
     }
-    Ok(text)
+    Ok(())
+}
+
+fn refuses_many(alloc: Global, text: &mut String) -> Result<bool, NoMemory> {
+    push_many(alloc, text)?;
+    refuses(alloc, &SOLVE, text.as_str(), "11 statement 2001 at 46000")
+}
+
+fn many_are_refused(alloc: Global) -> Result<bool, NoMemory> {
+    let mut text = String::new(alloc);
+    refuses_many(alloc, &mut text)
 }
 
 #[test]
 fn one_interval_too_many(rt: HostRuntime) -> Result<(), Fail> {
-    let alloc = rt.alloc();
-    let text = many(alloc)?;
-    let is_so = refuses(alloc, &SOLVE, text.as_str(), "11 statement 2001 at 46000")?;
-    assert!(rt; is_so);
+    assert!(rt; many_are_refused(rt.alloc())?);
     Ok(())
 }
 
@@ -148,14 +145,20 @@ const UNSERVED: [&str; 8] = [
     "s = stateFunction(); a = intervalVar(size=2); alwaysEqual(s,a,0);",
 ];
 
+fn all_unserved(alloc: Global, words: &[&str], texts: &[&str]) -> Result<bool, NoMemory> {
+    for text in texts {
+        if !refuses(alloc, words, text, "15 statement 0 at 0")? {
+            return Ok(false);
+        }
+    }
+    Ok(true)
+}
+
 #[test]
 fn unserved_models(rt: HostRuntime) -> Result<(), Fail> {
     let alloc = rt.alloc();
-    for text in UNSERVED {
-        let how = "15 statement 0 at 0";
-        assert!(rt; refuses(alloc, &SOLVE, text, how)?, "solve at {text}");
-        assert!(rt; refuses(alloc, &CHECK, text, how)?, "check at {text}");
-    }
+    assert!(rt; all_unserved(alloc, &SOLVE, &UNSERVED)?);
+    assert!(rt; all_unserved(alloc, &CHECK, &UNSERVED)?);
     Ok(())
 }
 
@@ -200,14 +203,22 @@ const SHOWN: [(&str, &str); 10] = [
     ),
 ];
 
+fn is_shown(alloc: Global, text: &str, canonical: &str) -> Result<bool, NoMemory> {
+    prints(alloc, &SHOW, (text, ""), 0, canonical.as_bytes(), b"")
+}
+
+/// Whether each model is shown so, and so is its canonical text.
+fn all_shown(alloc: Global, rows: &[(&str, &str)]) -> Result<bool, NoMemory> {
+    for (text, canonical) in rows {
+        if !is_shown(alloc, text, canonical)? || !is_shown(alloc, canonical, canonical)? {
+            return Ok(false);
+        }
+    }
+    Ok(true)
+}
+
 #[test]
 fn shown_models(rt: HostRuntime) -> Result<(), Fail> {
-    let alloc = rt.alloc();
-    for (text, canonical) in SHOWN {
-        let is_so = prints(alloc, &SHOW, (text, ""), 0, canonical.as_bytes(), b"")?;
-        assert!(rt; is_so, "at {text}");
-        let again = prints(alloc, &SHOW, (canonical, ""), 0, canonical.as_bytes(), b"")?;
-        assert!(rt; again, "again at {text}");
-    }
+    assert!(rt; all_shown(rt.alloc(), &SHOWN)?);
     Ok(())
 }

@@ -1,17 +1,11 @@
-use crate::ended::Ended;
-use crate::run::run;
+use crate::told::{
+    CHECK, SOLVE, SolvedRow, TWO_IN_A_ROW, prints, refuses_all, solves, solves_all, tell,
+};
 use cpo_elab::read_model;
-use sched_base::{File, List, MemDesk, NoMemory};
+use sched_base::{List, NoMemory};
 use sched_model::{Assignment, Model, Slot, is_solution, value};
 use std::alloc::Global;
 use std::test::Fail;
-
-pub const SOLVE: [&str; 3] = ["solve", "m", "l"];
-
-pub const CHECK: [&str; 3] = ["check", "m", "l"];
-
-pub const TWO_IN_A_ROW: &str =
-    "a = intervalVar(size=1,start=0..2,end=0..3); b = intervalVar(size=1,start=0..2,end=0..3); endBeforeStart(a,b); minimize(endOf(b));\n";
 
 const NO_ROOM: &str = "a = intervalVar(size=1,start=0,end=0);\n";
 
@@ -19,183 +13,150 @@ const ONE_PLACE: &str = "a = intervalVar(size=2,start=3,end=5);\n";
 
 const TWO_PLACES: &str = "x = intervalVar(size=1,start=0..1,end=1..2);\n";
 
-fn file(alloc: Global, name: u8, bytes: &[u8]) -> Result<File, NoMemory> {
-    let mut list = List::new(alloc);
-    for b in bytes {
-        list.push(*b)?;
-    }
-    let mut named = List::new(alloc);
-    named.push(name)?;
-    Ok(File {
-        name: named,
-        bytes: list,
-    })
-}
-
-/// A desk with the model in the file `m` and the log in the file `l`, that fails the calls of
-/// these numbers.
-pub fn desk_with(
-    alloc: Global,
-    model: &[u8],
-    log: &[u8],
-    failing: &[u32],
-) -> Result<MemDesk, NoMemory> {
-    let mut files = List::new(alloc);
-    files.push(file(alloc, b'm', model)?)?;
-    files.push(file(alloc, b'l', log)?)?;
-    let mut numbers = List::new(alloc);
-    for n in failing {
-        numbers.push(*n)?;
-    }
-    MemDesk::new(alloc, files, numbers)
-}
-
-pub fn run_words(alloc: Global, words: &[&str], desk: &mut MemDesk) -> Result<Ended, NoMemory> {
-    let mut list = Vec::new(alloc);
-    for word in words {
-        list.push(String::from_str(alloc, word)?)?;
-    }
-    Ok(run(alloc, list.as_slice(), desk))
-}
-
-/// Whether what `check` printed is the verdict and the count that `solve` did.
-fn agrees(solved: &[u8], checked: &[u8]) -> bool {
-    let Some(told) = checked.strip_prefix(b"accepted ") else {
-        return false;
-    };
-    let Some(told) = told.strip_suffix(b"end\n") else {
-        return false;
-    };
-    solved.starts_with(told)
-}
-
-/// Whether `check` accepts the log of `solve` with the same verdict and count.
-pub fn is_checked(alloc: Global, text: &str, solved: &MemDesk) -> Result<bool, NoMemory> {
-    let mut desk = desk_with(alloc, text.as_bytes(), solved.log_bytes(), &[])?;
-    let ended = run_words(alloc, &CHECK, &mut desk)?;
-    Ok(ended.status() == 0 && agrees(solved.out(), desk.out()))
-}
-
-/// Whether `solve` ends so and its answer begins and ends so, and its log is accepted.
-pub fn solves(
-    alloc: Global,
-    text: &str,
-    status: u8,
-    begin: &[u8],
-    end: &[u8],
-) -> Result<bool, NoMemory> {
-    let mut desk = desk_with(alloc, text.as_bytes(), b"", &[])?;
-    let ended = run_words(alloc, &SOLVE, &mut desk)?;
-    if ended.status() != status || !desk.out().starts_with(begin) || !desk.out().ends_with(end) {
-        return Ok(false);
-    }
-    is_checked(alloc, text, &desk)
-}
-
-/// Whether a run over this model and this log ends so and prints this.
-pub fn prints(
-    alloc: Global,
-    words: &[&str],
-    files: (&str, &str),
-    status: u8,
-    out: &[u8],
-    err: &[u8],
-) -> Result<bool, NoMemory> {
-    let (model, log) = files;
-    let mut desk = desk_with(alloc, model.as_bytes(), log.as_bytes(), &[])?;
-    let ended = run_words(alloc, words, &mut desk)?;
-    Ok(ended.status() == status && desk.out() == out && desk.err() == err)
-}
-
 #[test]
 fn two_in_a_row(rt: HostRuntime) -> Result<(), Fail> {
     let begin = b"optimal 2\nnodes ";
     let end = b"\na 0 1\nb 1 2\nend\n";
-    let is_so = solves(rt.alloc(), TWO_IN_A_ROW, 0, begin, end)?;
-    assert!(rt; is_so);
+    assert!(rt; solves(rt.alloc(), TWO_IN_A_ROW, 0, begin, end)?);
     Ok(())
 }
 
+/// Models, and their whole answers.
+const ANSWERS: [SolvedRow; 3] = [
+    ("", 0, "feasible\nnodes 1\nend\n", ""),
+    (NO_ROOM, 10, "infeasible\nnodes 1\nend\n", ""),
+    (ONE_PLACE, 0, "feasible\nnodes 1\na 3 5\nend\n", ""),
+];
+
 #[test]
 fn answers(rt: HostRuntime) -> Result<(), Fail> {
-    let alloc = rt.alloc();
-    let empty = solves(alloc, "", 0, b"feasible\nnodes 1\nend\n", b"")?;
-    assert!(rt; empty);
-    let none = solves(alloc, NO_ROOM, 10, b"infeasible\nnodes 1\nend\n", b"")?;
-    assert!(rt; none);
-    let one = solves(alloc, ONE_PLACE, 0, b"feasible\nnodes 1\na 3 5\nend\n", b"")?;
-    assert!(rt; one);
+    assert!(rt; solves_all(rt.alloc(), &ANSWERS)?);
     Ok(())
 }
 
 #[test]
 fn missing_log(rt: HostRuntime) -> Result<(), Fail> {
-    let alloc = rt.alloc();
-    let is_so = prints(alloc, &["check", "m", "x"], ("", ""), 4, b"", b"fault\n")?;
-    assert!(rt; is_so);
+    let words = ["check", "m", "x"];
+    assert!(rt; prints(rt.alloc(), &words, ("", ""), 4, b"", b"fault\n")?);
     Ok(())
 }
 
 /// Whether a run with one failing call ends in a fault with a front part of what it prints.
-fn faults(alloc: Global, words: &[&str], files: (&str, &str), call: u32) -> Result<bool, NoMemory> {
-    let (model, log) = files;
-    let mut calm = desk_with(alloc, model.as_bytes(), log.as_bytes(), &[])?;
-    let _ = run_words(alloc, words, &mut calm)?;
-    let mut desk = desk_with(alloc, model.as_bytes(), log.as_bytes(), &[call])?;
-    let ended = run_words(alloc, words, &mut desk)?;
-    Ok(ended.status() == 4 && calm.out().starts_with(desk.out()) && desk.out() != calm.out())
+fn faults(
+    alloc: Global,
+    words: &[&str],
+    files: (&str, &[u8]),
+    call: u32,
+    calm: &[u8],
+) -> Result<bool, NoMemory> {
+    let told = tell(alloc, words, files, &[call])?;
+    let out = told.out.as_slice();
+    Ok(told.status == 4 && calm.starts_with(out) && out != calm)
+}
+
+fn faults_each(
+    alloc: Global,
+    words: &[&str],
+    files: (&str, &[u8]),
+    calls: u32,
+    calm: &[u8],
+) -> Result<bool, NoMemory> {
+    for call in 0..calls {
+        if !faults(alloc, words, files, call, calm)? {
+            return Ok(false);
+        }
+    }
+    Ok(true)
+}
+
+/// Whether a run ends in a fault whichever of its first calls fails.
+fn faults_at_each(
+    alloc: Global,
+    words: &[&str],
+    files: (&str, &[u8]),
+    calls: u32,
+) -> Result<bool, NoMemory> {
+    let calm = tell(alloc, words, files, &[])?;
+    faults_each(alloc, words, files, calls, calm.out.as_slice())
 }
 
 #[test]
 fn failing_calls(rt: HostRuntime) -> Result<(), Fail> {
     let alloc = rt.alloc();
-    for call in 0..5u32 {
-        let is_so = faults(alloc, &SOLVE, ("", ""), call)?;
-        assert!(rt; is_so);
-    }
-    for call in 0..6u32 {
-        let is_so = faults(alloc, &CHECK, ("", "schedlog 1\nv\nend\n"), call)?;
-        assert!(rt; is_so);
-    }
-    for call in 0..4u32 {
-        let is_so = faults(alloc, &["show", "m"], (ONE_PLACE, ""), call)?;
-        assert!(rt; is_so);
-    }
+    let log = b"schedlog 1\nv\nend\n";
+    assert!(rt; faults_at_each(alloc, &SOLVE, ("", b""), 5)?);
+    assert!(rt; faults_at_each(alloc, &CHECK, ("", log), 6)?);
+    assert!(rt; faults_at_each(alloc, &["show", "m"], (ONE_PLACE, b""), 4)?);
     Ok(())
 }
 
-fn accepts(alloc: Global, model: &str, log: &str, out: &[u8]) -> Result<bool, NoMemory> {
-    prints(alloc, &CHECK, (model, log), 0, out, b"")
+/// Logs, the status of `check`, and what it prints to the two streams.
+type LogRow = (&'static str, u8, &'static str, &'static str);
+
+fn judges_all(alloc: Global, model: &str, rows: &[LogRow]) -> Result<bool, NoMemory> {
+    for (log, status, out, err) in rows {
+        if !prints(
+            alloc,
+            &CHECK,
+            (model, log),
+            *status,
+            out.as_bytes(),
+            err.as_bytes(),
+        )? {
+            return Ok(false);
+        }
+    }
+    Ok(true)
 }
 
-fn refuses(alloc: Global, model: &str, log: &str, err: &[u8]) -> Result<bool, NoMemory> {
-    prints(alloc, &CHECK, (model, log), 5, b"", err)
-}
+/// A whole log, one with a wrong line, and one without its last line.
+const CLOSED: [LogRow; 3] = [
+    (
+        "schedlog 1\nf LEAF 0 0\nend\n",
+        0,
+        "accepted infeasible\nnodes 1\nend\n",
+        "",
+    ),
+    (
+        "schedlog 1\nf LEAF 1 0\nend\n",
+        5,
+        "",
+        "log refused line 2\n",
+    ),
+    ("schedlog 1\nf LEAF 0 0\n", 5, "", "log refused line 3\n"),
+];
 
 #[test]
 fn closed_logs(rt: HostRuntime) -> Result<(), Fail> {
-    let alloc = rt.alloc();
-    let whole = "schedlog 1\nf LEAF 0 0\nend\n";
-    let infeasible = b"accepted infeasible\nnodes 1\nend\n";
-    assert!(rt; accepts(alloc, NO_ROOM, whole, infeasible)?);
-    let wrong = "schedlog 1\nf LEAF 1 0\nend\n";
-    assert!(rt; refuses(alloc, NO_ROOM, wrong, b"log refused line 2\n")?);
-    let short = "schedlog 1\nf LEAF 0 0\n";
-    assert!(rt; refuses(alloc, NO_ROOM, short, b"log refused line 3\n")?);
+    assert!(rt; judges_all(rt.alloc(), NO_ROOM, &CLOSED)?);
     Ok(())
 }
 
+/// A whole log, one with a wrong line, and one that is cut off.
+const SPLIT: [LogRow; 3] = [
+    (
+        "schedlog 1\ns SL 0 0\ns EL 0 1\nv p 0 1\nend\n",
+        0,
+        "accepted feasible\nnodes 3\nend\n",
+        "",
+    ),
+    (
+        "schedlog 1\ns SL 0 0\ns EL 0 1\nv p 0 2\nend\n",
+        5,
+        "",
+        "log refused line 4\n",
+    ),
+    (
+        "schedlog 1\ns SL 0 0\nend\n",
+        0,
+        "accepted unfinished none\nnodes 1\nend\n",
+        "",
+    ),
+];
+
 #[test]
 fn split_logs(rt: HostRuntime) -> Result<(), Fail> {
-    let alloc = rt.alloc();
-    let whole = "schedlog 1\ns SL 0 0\ns EL 0 1\nv p 0 1\nend\n";
-    let feasible = b"accepted feasible\nnodes 3\nend\n";
-    assert!(rt; accepts(alloc, TWO_PLACES, whole, feasible)?);
-    let wrong = "schedlog 1\ns SL 0 0\ns EL 0 1\nv p 0 2\nend\n";
-    assert!(rt; refuses(alloc, TWO_PLACES, wrong, b"log refused line 4\n")?);
-    let cut_off = "schedlog 1\ns SL 0 0\nend\n";
-    let unfinished = b"accepted unfinished none\nnodes 1\nend\n";
-    assert!(rt; accepts(alloc, TWO_PLACES, cut_off, unfinished)?);
+    assert!(rt; judges_all(rt.alloc(), TWO_PLACES, &SPLIT)?);
     Ok(())
 }
 
@@ -220,53 +181,87 @@ fn slot(code: u32) -> Slot {
 
 /// Two intervals that start at 0 to 3 and end at 0 to 7, by a number below 1,024.
 fn placed(alloc: Global, code: u32) -> Result<Assignment, NoMemory> {
-    let mut slots = List::new(alloc);
-    slots.push(slot(code % 32))?;
-    slots.push(slot(code / 32))?;
+    let slots = [slot(code % 32), slot(code / 32)];
     Ok(Assignment {
-        slots,
+        slots: List::from_vec(Vec::from_slice(alloc, &slots)?),
         orders: List::new(alloc),
         segs: List::new(alloc),
     })
 }
 
-/// The first line of the right answer, by a look at each assignment.
-fn verdict_by_listing(alloc: Global, model: &Model) -> Result<String, NoMemory> {
-    let mut any = false;
-    let mut best: Option<i64> = None;
+/// How good a solution is, and None for what is no solution.
+fn worth(model: &Model, a: &Assignment) -> Option<Option<i64>> {
+    if is_solution(model, a) {
+        Some(value(model, a))
+    } else {
+        None
+    }
+}
+
+fn worth_at(alloc: Global, model: &Model, code: u32) -> Result<Option<Option<i64>>, NoMemory> {
+    let a = placed(alloc, code)?;
+    Ok(worth(model, &a))
+}
+
+fn least(best: Option<i64>, next: Option<i64>) -> Option<i64> {
+    match (best, next) {
+        (Some(b), Some(v)) => Some(b.min(v)),
+        (None, v) => v,
+        (b, None) => b,
+    }
+}
+
+/// The least value of a solution, by a look at each assignment, and None where there is none.
+fn best_by_listing(alloc: Global, model: &Model) -> Result<Option<Option<i64>>, Fail> {
+    let mut best = None;
     for code in 0..1024u32 {
-        let a = placed(alloc, code)?;
-        if !is_solution(model, &a) {
-            continue;
-        }
-        any = true;
-        if let Some(v) = value(model, &a) {
-            best = Some(best.map_or(v, |b| b.min(v)));
+        if let Some(v) = worth_at(alloc, model, code)? {
+            best = match best {
+                None => Some(v),
+                Some(b) => Some(least(b, v)),
+            };
         }
     }
-    let line = match best {
-        Some(v) => format!(in alloc; "optimal {v}\n")?,
-        None if any => String::from_str(alloc, "feasible\n")?,
-        None => String::from_str(alloc, "infeasible\n")?,
+    Ok(best)
+}
+
+fn best_of_text(alloc: Global, text: &str) -> Result<Option<Option<i64>>, Fail> {
+    let model = read_model(alloc, text.as_bytes())?;
+    best_by_listing(alloc, &model)
+}
+
+/// Whether the best value is this, and the log is accepted.
+fn has_optimum(alloc: Global, text: &str, v: i64) -> Result<bool, NoMemory> {
+    let line = format!(in alloc; "optimal {v}\n")?;
+    solves(alloc, text, 0, line.as_bytes(), b"\nend\n")
+}
+
+fn is_right_of(alloc: Global, text: &str) -> Result<bool, Fail> {
+    let is_so = match best_of_text(alloc, text)? {
+        Some(Some(v)) => has_optimum(alloc, text, v)?,
+        Some(None) => solves(alloc, text, 0, b"feasible\n", b"\nend\n")?,
+        None => solves(alloc, text, 10, b"infeasible\n", b"\nend\n")?,
     };
-    Ok(line)
+    Ok(is_so)
 }
 
 fn is_right(alloc: Global, n: u32) -> Result<bool, Fail> {
     let text = small_text(alloc, n)?;
-    let model = read_model(alloc, text.as_bytes())?;
-    let wanted = verdict_by_listing(alloc, &model)?;
-    let mut desk = desk_with(alloc, text.as_bytes(), b"", &[])?;
-    let _ = run_words(alloc, &SOLVE, &mut desk)?;
-    Ok(desk.out().starts_with(wanted.as_bytes()) && is_checked(alloc, text.as_str(), &desk)?)
+    is_right_of(alloc, text.as_str())
+}
+
+fn are_right(alloc: Global) -> Result<bool, Fail> {
+    for n in 0..10u32 {
+        if !is_right(alloc, n)? {
+            return Ok(false);
+        }
+    }
+    Ok(true)
 }
 
 #[test]
 fn small_models(rt: HostRuntime) -> Result<(), Fail> {
-    for n in 0..10u32 {
-        let is_so = is_right(rt.alloc(), n)?;
-        assert!(rt; is_so, "at {n}");
-    }
+    assert!(rt; are_right(rt.alloc())?);
     Ok(())
 }
 
@@ -311,15 +306,12 @@ const READ: [&str; 6] = [
     "a = intervalVar(start=00000000000000000000000000000000001..5,size=1);",
 ];
 
-/// Whether the text is refused so by both commands, and no log written.
-fn is_refused(alloc: Global, text: &str, how: &str) -> Result<bool, NoMemory> {
-    let line = format!(in alloc; "model refused {how}\n")?;
-    let mut desk = desk_with(alloc, text.as_bytes(), b"", &[])?;
-    let ended = run_words(alloc, &SOLVE, &mut desk)?;
-    if ended.status() != 3 || desk.err() != line.as_bytes() || !desk.log_bytes().is_empty() {
-        return Ok(false);
-    }
-    prints(alloc, &CHECK, (text, ""), 3, b"", line.as_bytes())
+#[test]
+fn refused_texts(rt: HostRuntime) -> Result<(), Fail> {
+    let alloc = rt.alloc();
+    assert!(rt; refuses_all(alloc, &SOLVE, &REFUSED)?);
+    assert!(rt; refuses_all(alloc, &CHECK, &REFUSED)?);
+    Ok(())
 }
 
 fn all_read(alloc: Global, texts: &[&str]) -> Result<bool, NoMemory> {
@@ -332,18 +324,9 @@ fn all_read(alloc: Global, texts: &[&str]) -> Result<bool, NoMemory> {
 }
 
 #[test]
-fn refused_texts(rt: HostRuntime) -> Result<(), Fail> {
-    for (text, how) in REFUSED {
-        let is_so = is_refused(rt.alloc(), text, how)?;
-        assert!(rt; is_so, "at {text}");
-    }
+fn read_texts(rt: HostRuntime) -> Result<(), Fail> {
+    assert!(rt; all_read(rt.alloc(), &READ)?);
     Ok(())
-}
-
-/// Whether the best value is this, and the log is accepted.
-fn has_optimum(alloc: Global, text: &str, v: i64) -> Result<bool, NoMemory> {
-    let line = format!(in alloc; "optimal {v}\n")?;
-    solves(alloc, text, 0, line.as_bytes(), b"\nend\n")
 }
 
 /// The least and the greatest end of `b` under each precedence with a delay of 1.
@@ -358,19 +341,28 @@ const PRECEDENCES: [(&str, i64, i64); 8] = [
     ("endAtEnd", 6, 8),
 ];
 
+/// Whether the best end of `b` under this precedence and this objective is this.
+fn ends_best(alloc: Global, word: &str, goal: &str, v: i64) -> Result<bool, NoMemory> {
+    let text = format!(in alloc;
+        "a = intervalVar(size=2,start=3..5,end=5..7); b = intervalVar(size=2,start=0..9,end=2..11); {word}(a,b,1); {goal}(endOf(b));\n"
+    )?;
+    has_optimum(alloc, text.as_str(), v)
+}
+
+fn precedences_hold(alloc: Global) -> Result<bool, NoMemory> {
+    for (word, least, greatest) in &PRECEDENCES {
+        if !ends_best(alloc, word, "minimize", *least)?
+            || !ends_best(alloc, word, "maximize", *greatest)?
+        {
+            return Ok(false);
+        }
+    }
+    Ok(true)
+}
+
 #[test]
 fn precedences(rt: HostRuntime) -> Result<(), Fail> {
-    let alloc = rt.alloc();
-    for (word, least, greatest) in PRECEDENCES {
-        let early = format!(in alloc;
-            "a = intervalVar(size=2,start=3..5,end=5..7); b = intervalVar(size=2,start=0..9,end=2..11); {word}(a,b,1); minimize(endOf(b));\n"
-        )?;
-        assert!(rt; has_optimum(alloc, early.as_str(), least)?, "at {word}");
-        let late = format!(in alloc;
-            "a = intervalVar(size=2,start=3..5,end=5..7); b = intervalVar(size=2,start=0..9,end=2..11); {word}(a,b,1); maximize(endOf(b));\n"
-        )?;
-        assert!(rt; has_optimum(alloc, late.as_str(), greatest)?, "at {word}");
-    }
+    assert!(rt; precedences_hold(rt.alloc())?);
     Ok(())
 }
 
@@ -391,21 +383,25 @@ const EXPRESSIONS: [(&str, i64); 6] = [
     ),
 ];
 
-#[test]
-fn expressions(rt: HostRuntime) -> Result<(), Fail> {
-    let alloc = rt.alloc();
-    for (rest, v) in EXPRESSIONS {
-        let text = format!(in alloc;
-            "b = intervalVar(size=2,start=0..9,end=2..11); a = intervalVar(optional,size=1,start=0..1,end=1..2); {rest}\n"
-        )?;
-        assert!(rt; has_optimum(alloc, text.as_str(), v)?, "at {rest}");
+/// Whether the best value under these statements is this.
+fn comes_to(alloc: Global, rest: &str, v: i64) -> Result<bool, NoMemory> {
+    let text = format!(in alloc;
+        "b = intervalVar(size=2,start=0..9,end=2..11); a = intervalVar(optional,size=1,start=0..1,end=1..2); {rest}\n"
+    )?;
+    has_optimum(alloc, text.as_str(), v)
+}
+
+fn expressions_hold(alloc: Global) -> Result<bool, NoMemory> {
+    for (rest, v) in &EXPRESSIONS {
+        if !comes_to(alloc, rest, *v)? {
+            return Ok(false);
+        }
     }
-    Ok(())
+    Ok(true)
 }
 
 #[test]
-fn read_texts(rt: HostRuntime) -> Result<(), Fail> {
-    let is_so = all_read(rt.alloc(), &READ)?;
-    assert!(rt; is_so);
+fn expressions(rt: HostRuntime) -> Result<(), Fail> {
+    assert!(rt; expressions_hold(rt.alloc())?);
     Ok(())
 }

@@ -1,20 +1,28 @@
 //! Tables of word lists. A row's words stand with one space between two; E alone is the empty word,
 //! and an empty row has no word. The model is in the file `m`.
-use crate::ended::Ended;
-use crate::tests::{TWO_IN_A_ROW, desk_with, run_words};
-use sched_base::{MemDesk, NoMemory};
+use crate::told::{TWO_IN_A_ROW, Told, tell_of};
+use sched_base::NoMemory;
 use std::alloc::Global;
 use std::test::Fail;
 
-/// The ending of a run of a row's words.
-fn run_row(alloc: Global, row: &str, desk: &mut MemDesk) -> Result<Ended, NoMemory> {
-    let mut words = Vec::new(alloc);
+fn push_row<'a>(words: &mut Vec<&'a str>, row: &'a str) -> Result<(), NoMemory> {
     if !row.is_empty() {
         for word in row.split(' ') {
             words.push(if word == "E" { "" } else { word })?;
         }
     }
-    run_words(alloc, words.as_slice(), desk)
+    Ok(())
+}
+
+fn tell_words<'a>(alloc: Global, words: &mut Vec<&'a str>, row: &'a str) -> Result<Told, NoMemory> {
+    push_row(words, row)?;
+    tell_of(alloc, words.as_slice(), TWO_IN_A_ROW)
+}
+
+/// What a run of a row's words leaves behind.
+fn tell_row(alloc: Global, row: &str) -> Result<Told, NoMemory> {
+    let mut words = Vec::new(alloc);
+    tell_words(alloc, &mut words, row)
 }
 
 /// Words that are no command.
@@ -53,19 +61,23 @@ const USAGE: [&str; 30] = [
 
 /// Whether the run ends so, with this line on standard error and nothing else done.
 fn only_tells(alloc: Global, row: &str, status: u8, line: &[u8]) -> Result<bool, NoMemory> {
-    let mut desk = desk_with(alloc, TWO_IN_A_ROW.as_bytes(), b"", &[])?;
-    let ended = run_row(alloc, row, &mut desk)?;
-    let is_quiet = desk.out().is_empty() && desk.log_bytes().is_empty();
-    Ok(ended.status() == status && desk.err() == line && is_quiet)
+    let told = tell_row(alloc, row)?;
+    Ok(told.only_tells(status, line))
+}
+
+fn all_only_tell(alloc: Global, rows: &[&str], status: u8, line: &[u8]) -> Result<bool, NoMemory> {
+    for row in rows {
+        if !only_tells(alloc, row, status, line)? {
+            return Ok(false);
+        }
+    }
+    Ok(true)
 }
 
 #[test]
 fn usage(rt: HostRuntime) -> Result<(), Fail> {
     let line = b"usage: schedtool COMMAND ARGUMENTS\n";
-    for row in USAGE {
-        let is_so = only_tells(rt.alloc(), row, 2, line)?;
-        assert!(rt; is_so, "at {row}");
-    }
+    assert!(rt; all_only_tell(rt.alloc(), &USAGE, 2, line)?);
     Ok(())
 }
 
@@ -82,18 +94,23 @@ const MISSING: [&str; 7] = [
 
 #[test]
 fn missing_files(rt: HostRuntime) -> Result<(), Fail> {
-    for row in MISSING {
-        let is_so = only_tells(rt.alloc(), row, 4, b"fault\n")?;
-        assert!(rt; is_so, "at {row}");
-    }
+    assert!(rt; all_only_tell(rt.alloc(), &MISSING, 4, b"fault\n")?);
     Ok(())
 }
 
 /// Whether the run ends so, with an answer that begins so.
 fn answers(alloc: Global, row: &str, status: u8, begin: &[u8]) -> Result<bool, NoMemory> {
-    let mut desk = desk_with(alloc, TWO_IN_A_ROW.as_bytes(), b"", &[])?;
-    let ended = run_row(alloc, row, &mut desk)?;
-    Ok(ended.status() == status && desk.out().starts_with(begin) && desk.err().is_empty())
+    let told = tell_row(alloc, row)?;
+    Ok(told.only_answers(status, begin))
+}
+
+fn all_answer(alloc: Global, rows: &[&str], status: u8, begin: &[u8]) -> Result<bool, NoMemory> {
+    for row in rows {
+        if !answers(alloc, row, status, begin)? {
+            return Ok(false);
+        }
+    }
+    Ok(true)
 }
 
 /// Commands that solve.
@@ -117,13 +134,9 @@ const CUT_OFF: [&str; 4] = [
 
 #[test]
 fn limits(rt: HostRuntime) -> Result<(), Fail> {
-    for row in SOLVED {
-        let is_so = answers(rt.alloc(), row, 0, b"optimal 2\n")?;
-        assert!(rt; is_so, "at {row}");
-    }
-    for row in CUT_OFF {
-        let is_so = answers(rt.alloc(), row, 20, b"unfinished none\nnodes 1\nend\n")?;
-        assert!(rt; is_so, "at {row}");
-    }
+    let alloc = rt.alloc();
+    let begin = b"unfinished none\nnodes 1\nend\n";
+    assert!(rt; all_answer(alloc, &SOLVED, 0, b"optimal 2\n")?);
+    assert!(rt; all_answer(alloc, &CUT_OFF, 20, begin)?);
     Ok(())
 }
