@@ -3,49 +3,22 @@
 //! down through the levels, which would look at each token again and again.
 ghost use Rattle.std.specs.Prelude.{◌≡◌, ◌≤◌, ◌-◌, [], ◌∷◌, Some};
 ghost use Rattle.cpo_text.specs.Places.{said_word};
-ghost use Rattle.cpo_text.specs.Levels.{read, inner, in_front, measured_at, gathered_at, gathered_behind, gathered_none, call_of, grouped_at};
+ghost use Rattle.cpo_text.specs.Levels.{read, inner, in_front, gathered_at, gathered_behind, call_of, grouped_at};
 ghost use Rattle.cpo_text.specs.Onward.{linked_on, total_on, compared_on, implied_on, all_on, grouped_on};
 ghost use Rattle.cpo_text.specs.Levels.Task.{logic as logic_task, chain as chain_task, unit as unit_task, sum as sum_task, term as term_task, atom as atom_task, more as more_task, terms as terms_task, items as items_task};
 ghost use Rattle.cpo_text.specs.Gives.{ahead, Gives, GivesOne};
 
+use crate::atoms::{gathered_none, measured};
 use crate::built::{group, linked, negated, total};
-use crate::expression::{Gather, Link, Logic, Measure};
+use crate::expression::{Gather, Link, Logic};
 use crate::fault::Fault;
 use crate::grammar::enclosed;
 use crate::level_words::{comparison, gather_of, measure_of, plain, sign_of};
-use crate::parts::{behind, copy, int_behind, name, sign};
+use crate::parts::{behind, sign};
 use crate::place::Place;
 use crate::word::Word;
 use sched_base::{Boxed, List};
 use std::alloc::Global;
-
-#[tactic(auto, unfolding(crate::specs::Levels::measured_at))]
-fn measured(alloc: Global, measure: Measure, place: Place<'_>) -> Result<(Logic, Place<'_>), Fault>
-    ensures { GivesOne result (measured_at measure (ahead place.entry)) }
-{
-    let (interval, rest) = name(sign(b"(", place)?)?;
-    let (absent, rest) = int_behind(b",", rest)?;
-    let rest = sign(b")", rest)?;
-    let interval = copy(alloc, interval)?;
-    Ok((Logic::Measured(measure, interval, absent), rest))
-}
-
-/// What is made of no expressions: a sum only.
-fn gathered_none(
-    alloc: Global,
-    gather: Gather,
-    place: Place<'_>,
-) -> Result<(Logic, Place<'_>), Fault>
-    ensures { GivesOne result (gathered_none gather (ahead place.entry)) }
-{
-    match gather {
-        Gather::Sum => {
-            let rest = sign(b")", place)?;
-            Ok((Logic::Gathered(Gather::Sum, List::new(alloc)), rest))
-        }
-        Gather::Max | Gather::Min => Err(Fault::Outside),
-    }
-}
 
 #[cycle(levels)]
 #[tactic(auto, unfolding(crate::specs::Levels::gathered_at))]

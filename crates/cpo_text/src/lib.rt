@@ -2,6 +2,7 @@
 //! told as its words alone tell it; what its names mean is settled above.
 #![tactic(auto)]
 
+mod atoms;
 mod built;
 mod call_words;
 mod calls;

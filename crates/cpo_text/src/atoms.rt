@@ -1,0 +1,43 @@
+//! Atoms that have no expression in them.
+ghost use Rattle.cpo_text.specs.Levels.{measured_at, gathered_none};
+ghost use Rattle.cpo_text.specs.Gives.{ahead, GivesOne};
+
+use crate::expression::{Gather, Logic, Measure};
+use crate::fault::Fault;
+use crate::parts::{copy, int_behind, name, sign};
+use crate::place::Place;
+use sched_base::List;
+use std::alloc::Global;
+
+/// A start, an end, a size or a length, behind its word.
+#[tactic(auto, unfolding(crate::specs::Levels::measured_at))]
+pub fn measured(
+    alloc: Global,
+    measure: Measure,
+    place: Place<'_>,
+) -> Result<(Logic, Place<'_>), Fault>
+    ensures { GivesOne result (measured_at measure (ahead place.entry)) }
+{
+    let (interval, rest) = name(sign(b"(", place)?)?;
+    let (absent, rest) = int_behind(b",", rest)?;
+    let rest = sign(b")", rest)?;
+    let interval = copy(alloc, interval)?;
+    Ok((Logic::Measured(measure, interval, absent), rest))
+}
+
+/// What is made of no expressions: a sum only.
+pub fn gathered_none(
+    alloc: Global,
+    gather: Gather,
+    place: Place<'_>,
+) -> Result<(Logic, Place<'_>), Fault>
+    ensures { GivesOne result (gathered_none gather (ahead place.entry)) }
+{
+    match gather {
+        Gather::Sum => {
+            let rest = sign(b")", place)?;
+            Ok((Logic::Gathered(Gather::Sum, List::new(alloc)), rest))
+        }
+        Gather::Max | Gather::Min => Err(Fault::Outside),
+    }
+}
