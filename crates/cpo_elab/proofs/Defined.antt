@@ -7,7 +7,7 @@ use Rattle.sched_model.specs.declared.types.SequenceDef.{SequenceDef}
 use Rattle.sched_model.specs.declared.types.CumulDef.{CumulDef}
 use Rattle.sched_model.specs.Data.{Data, with_interval, with_matrix, with_sequence, with_cumul, with_state}
 use Rattle.sched_model.specs.Valid as valid
-use Rattle.sched_model.specs.Valid.{IsValid, is_within_limits, is_name, are_names, all_names, is_interval_def, is_matrix_def, is_sequence_def, is_cumul_def, is_state_def, is_amount, is_itv, is_mat, are_parts, are_distinct}
+use Rattle.sched_model.specs.Valid.{IsValid, is_within_limits, is_name, are_names, all_names, is_interval_def, is_matrix_def, is_sequence_def, is_cumul_def, is_state_def, is_amount, is_itv, are_parts, are_distinct}
 use Rattle.cpo_text.specs.declared.tree.Int.{Int}
 use Rattle.cpo_text.specs.declared.tree.Ivarg.{Ivarg}
 use Rattle.cpo_text.specs.declared.cumul.Cumul.{Cumul}

@@ -1,15 +1,15 @@
 -- A draft with a thing more, of whatever sort.
-use Rattle.std.proofs.Common.{◌≡◌, ℕ, ◌+◌, ◌-◌, ◌≤◌, List, [], ◌∷◌, ◌++◌, length, Option, Some, None, refl, sym, ap, subst, ◌∙◌, arith}
+use Rattle.std.proofs.Common.{◌≡◌, ℕ, ◌+◌, ◌-◌, ◌≤◌, List, [], ◌∷◌, ◌++◌, length, Option, Some, None, refl, sym, ap, subst, arith}
 use Rattle.std.specs.Str.{bytes_eq}
 use Rattle.std.specs.Map.{lookup}
 use Rattle.sched_model.specs.Data.{Data}
-use Rattle.sched_model.specs.Valid.{IsValid, cell_count, node_total}
+use Rattle.sched_model.specs.Valid.{IsValid, node_total}
 use Rattle.cpo_elab.specs.declared.item.Item.{Item}
 use Rattle.cpo_elab.specs.declared.item.Item.TheVariants.{Interval, Matrix, Sequence, Cumulated, State}
 use Rattle.cpo_elab.specs.Drafts.{IsDraft}
 use Rattle.cpo_elab.specs.Items.{with_item, item_name, item_sort, next_id, item_members, item_cells, item_nodes, with_any, IsUnnamed, any_members, any_cells, any_nodes}
 use Rattle.cpo_elab.proofs.Entries.{Table}
-use Rattle.cpo_elab.proofs.Grown.{grown_interval, grown_matrix, grown_state, grown_sequence, grown_cumul, grown_listed, grown_unnamed, grown_constraint, room_for_parts, room_for_constraint, few_members}
+use Rattle.cpo_elab.proofs.Grown.{grown_interval, grown_matrix, grown_state, grown_sequence, grown_cumul, grown_listed, grown_unnamed, room_for_parts, few_members}
 
 abbrev inside : List ℕ → Option (List ℕ) → List ℕ
 inside k None = k

@@ -1,5 +1,5 @@
 -- What a call gives is what the text deserves.
-use Rattle.std.proofs.Common.{◌≡◌, ℕ, List, Result, Ok, Err, refl, sym}
+use Rattle.std.proofs.Common.{ℕ, List, Result, Ok, Err, refl, sym}
 use Rattle.sched_model.specs.Data.{Data, empty_model}
 use Rattle.cpo_text.specs.Reads.{IsRead, Reads}
 use Rattle.cpo_text.specs.declared.text.ReadFault.{ReadFault}

@@ -17,7 +17,6 @@ use Rattle.sched_model.specs.declared.types.Constraint.{Constraint}
 use Rattle.sched_model.specs.declared.types.Objective.{Objective}
 use Rattle.sched_model.specs.Data.{Data, with_interval, with_matrix, with_sequence, with_cumul, with_state, with_constraint, with_objective}
 use Rattle.sched_model.specs.Valid.{IsValid, is_sequence_def, are_parts, pair_count, nodes_of, node_count, node_total}
-use Rattle.cpo_elab.specs.declared.names.Meaning.{Meaning}
 use Rattle.cpo_elab.specs.declared.names.Sort.TheVariants.{Interval, Matrix, Sequence, Cumulated, State}
 use Rattle.cpo_elab.specs.Named.{number_of, is_defined}
 use Rattle.cpo_elab.specs.Drafts.{IsDraft, capped}

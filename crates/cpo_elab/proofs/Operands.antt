@@ -1,6 +1,5 @@
 -- Where the grammar gives an expression a level, each of its nodes has the operands that it wants.
-use Rattle.std.proofs.Common.{◌≡◌, ℕ, suc, Bool, true, false, not, ◌&&◌, List, [], ◌∷◌, map, length, Option, Some, None, is_some, nat_le, refl, subst, ◌∙◌}
-use Rattle.std.specs.List.{list_all}
+use Rattle.std.proofs.Common.{◌≡◌, ℕ, suc, Bool, true, false, not, List, [], ◌∷◌, map, length, Option, Some, None, is_some, nat_le, refl, subst}
 use Rattle.sched_model.specs.Words.{is_empty}
 use Rattle.cpo_text.specs.Expressions.{at_least, all_at_least, if_so, are_many, gathers, link_level, level_step, level}
 use Rattle.cpo_text.specs.declared.expression.Gather.{Gather}

@@ -1,8 +1,6 @@
 -- Which limits one more thing passes.
-use Rattle.std.proofs.Common.{◌≡◌, ℕ, ◌+◌, ◌*◌, ◌^◌, ◌<◌, ◌≤◌, min, Bool, true, false, ◌&&◌, List, [], ◌∷◌, ◌++◌, length, nat_le, nat_lt, Option, Some, None, option_map, refl, sym, ap, subst, ◌∙◌, arith}
-use Rattle.std.specs.List.{sum_by}
-use Rattle.std.specs.Option.{option_to_list}
-use Rattle.std.proofs.lemmas.List.{length-append, length-map}
+use Rattle.std.proofs.Common.{◌≡◌, ℕ, ◌+◌, ◌<◌, ◌≤◌, Bool, true, false, ◌&&◌, List, [], ◌∷◌, length, nat_le, nat_lt, Option, Some, None, option_map, refl, sym, ap, ◌∙◌, arith}
+use Rattle.std.proofs.lemmas.List.{length-append}
 use Rattle.std.proofs.lemmas.List.Sums.{sum_by_push}
 use Rattle.std.proofs.lemmas.Bool.Decides.{nat_tests}
 use Rattle.sched_model.specs.declared.types.IntervalDef.{IntervalDef}
@@ -29,7 +27,7 @@ use Rattle.cpo_elab.specs.Held.{logic_held, members_written}
 use Rattle.cpo_elab.specs.Elaborated.{expr_of, constraint_of, named_itself, with_unnamed, with_written, after}
 use Rattle.cpo_elab.specs.Drafts.{capped}
 use Rattle.cpo_elab.proofs.Truth.{both, joined}
-use Rattle.cpo_elab.proofs.Within.{Limits, limits_of, within, same_bool, at_most, is_at_most}
+use Rattle.cpo_elab.proofs.Within.{limits_of, within, same_bool, at_most, is_at_most}
 
 below : (n k : ℕ) → nat_lt n k ≡ true → n < k
 below n k h = grind (arith, nat_tests)

@@ -1,5 +1,5 @@
 -- The trees of a text are as the grammar has them: names are names of the language, and nodes have their operands.
-use Rattle.std.proofs.Common.{◌≡◌, ℕ, zero, suc, ◌+◌, Bool, true, false, ◌&&◌, if◌then◌else◌, List, [], ◌∷◌, ◌++◌, take, drop, Option, Some, None, refl, sym, ap, subst, ◌∙◌}
+use Rattle.std.proofs.Common.{◌≡◌, ℕ, zero, suc, ◌+◌, Bool, true, false, if◌then◌else◌, List, [], ◌∷◌, take, drop, Option, Some, None, refl, sym, subst}
 use Rattle.std.specs.List.{list_all}
 use Rattle.cpo_text.specs.Words.{Word, size_word}
 use Rattle.cpo_text.specs.Words.Word.{name, number, large, sign, quoted}
@@ -9,7 +9,6 @@ use Rattle.cpo_text.specs.Spelling.{spelling, IsStatement}
 use Rattle.cpo_text.specs.Reads.{HasForm, AreReadings, told_limit, told}
 use Rattle.cpo_text.specs.declared.piece.Piece.{Piece}
 use Rattle.cpo_text.specs.declared.piece.Piece.TheVariants as piece
-use Rattle.cpo_text.specs.declared.tree.Constrained.{Constrained}
 use Rattle.cpo_text.specs.declared.tree.Constrained.TheVariants.{Between, Parts, NoOverlap, Extreme, Ordered, Bounded, AlwaysIn, AlwaysEqual, AlwaysNoState, Holds}
 use Rattle.cpo_text.specs.declared.tree.Statement.{Statement}
 use Rattle.cpo_text.specs.declared.tree.Statement.TheVariants.{Empty, Define, Constrain, Aim}

@@ -1,6 +1,5 @@
 -- One statement after another.
-use Rattle.std.proofs.Common.{◌≡◌, ℕ, ◌+◌, ◌<◌, ◌≤◌, Bool, true, false, not, ◌&&◌, ◌||◌, List, [], ◌∷◌, length, drop, get_or, Option, Some, None, is_some, nat_lt, refl, sym, ap, subst, ◌∙◌, arith}
-use Rattle.std.specs.List.{list_all}
+use Rattle.std.proofs.Common.{◌≡◌, ℕ, ◌+◌, ◌<◌, ◌≤◌, true, false, not, ◌&&◌, ◌||◌, List, length, drop, get_or, Option, Some, None, is_some, nat_lt, refl, sym, ap, subst, ◌∙◌, arith}
 use Rattle.std.proofs.lemmas.List.{at_drop_more}
 use Rattle.std.proofs.lemmas.Bool.Decides.{nat_tests}
 use Rattle.sched_model.specs.Data.{Data, with_constraint, with_objective}
@@ -18,7 +17,7 @@ use Rattle.cpo_elab.specs.Elaborated.{defined, constraint_of, with_written, obje
 use Rattle.cpo_elab.specs.Judged.{is_large, is_negative, is_wide, leaves_room, statement_limit, number_in}
 use Rattle.cpo_elab.specs.Shaped.{is_shaped, is_shaped_form, are_shaped}
 use Rattle.cpo_elab.proofs.Truth.{both, neither}
-use Rattle.cpo_elab.proofs.Clear.{Clear, clear}
+use Rattle.cpo_elab.proofs.Clear.{clear}
 use Rattle.cpo_elab.proofs.Facts.{Facts, facts}
 use Rattle.cpo_elab.proofs.Valid.{valid_after, valid_written}
 

@@ -1,5 +1,5 @@
 -- The expression of a statement.
-use Rattle.std.proofs.Common.{◌≡◌, Bool, Option, Some, None, option_map, is_none, refl, sym, ap, ◌∙◌}
+use Rattle.std.proofs.Common.{◌≡◌, Bool, Option, Some, None, option_map, is_none, refl, ap, ◌∙◌}
 use Rattle.sched_model.specs.Words.{passes}
 use Rattle.sched_model.specs.Data.{Data}
 use Rattle.sched_model.specs.Hull.{hull_of}

@@ -1,6 +1,6 @@
 -- Laws of what a text deserves.
 use Rattle.std.specs.Prelude.{◌≡◌, ℕ, ◌≤◌, Bool, List, length, take, IsTrue}
-use Rattle.sched_model.specs.Data.{Data, empty_model}
+use Rattle.sched_model.specs.Data.{empty_model}
 use Rattle.cpo_text.specs.Tokens.{Token, HasTokens}
 use Rattle.cpo_text.specs.Runs.{words_of}
 use Rattle.cpo_text.specs.Reads.{IsRead, text_limit, told_limit}

@@ -24,7 +24,7 @@ use Rattle.cpo_text.specs.declared.expression.Logic.TheFolds.{ind-Logic, map-Log
 use Rattle.cpo_text.proofs.Binds.{bound_parts, some_pair, sign_same, behind_again}
 use Rattle.cpo_text.proofs.Again.{int_behind_again}
 use Rattle.cpo_text.proofs.Nodes
-use Rattle.cpo_text.proofs.Nodes.{is_tight, all_tight, looser, so_high, is_so, not_higher, and_first, and_second, measured}
+use Rattle.cpo_text.proofs.Nodes.{is_tight, all_tight, so_high, is_so, not_higher, and_first, and_second, measured}
 use Rattle.cpo_text.proofs.Openings.{front_level, front_append, words_open, not_free, some_words}
 use Rattle.cpo_text.proofs.Takings.{behind_each, added, linked_words, total_words, measured_words, gathered_words}
 use Rattle.cpo_text.proofs.Ends.{signs, at, cost, cost_small, ends, first_ends, tighter_ends, no_plus, no_minus, conj_signs, unit_signs}

@@ -1,6 +1,6 @@
 -- What the open regions keep after a solution.
 use Rattle.std.proofs.Common.{◌≡◌, ℤ, true, false, ◌&&◌, List, [], ◌∷◌, length, Option, Some, None, inl, inr, refl, sym, ap, subst, ◌∙◌, arith, true≢false}
-use Rattle.std.specs.Prelude.{is_some, slice_index_or, option_map, if◌then◌else◌}
+use Rattle.std.specs.Prelude.{is_some, option_map, if◌then◌else◌}
 use Rattle.std.proofs.lemmas.Int.{ints}
 use Rattle.std.proofs.lemmas.List.Elements.{All-nil, All-head, All-tail}
 use Rattle.sched_model.specs.declared.types.Assignment.{Assignment}

@@ -25,7 +25,7 @@ use Rattle.cpo_text.specs.declared.expression.Logic.TheOpen.Logic-F.{Lit, Group,
 use Rattle.cpo_text.specs.declared.expression.Logic.TheFolds.{fold-roll-Logic, map-Logic}
 use Rattle.cpo_text.specs.declared.expression.Logic.TheViews.{roll-Logic}
 use Rattle.cpo_elab.specs.Elaborated as meant
-use Rattle.cpo_elab.specs.Elaborated.{measure_of, gather_of, link_of, compare_of, expr_of}
+use Rattle.cpo_elab.specs.Elaborated.{measure_of, link_of, compare_of, expr_of}
 use Rattle.sched_text.specs.Pieces.{interval_name}
 use Rattle.read_back.specs.Trees.{int_tree, Told, composed, wholes, operands, summed, comparison_tree, measured, told_step, told}
 use Rattle.read_back.specs.Written.{written_step, is_written_expr}

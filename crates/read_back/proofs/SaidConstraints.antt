@@ -30,7 +30,7 @@ use Rattle.sched_model.specs.Domain.{is_row}
 use Rattle.sched_model.specs.Words.{passes_if_any}
 use Rattle.sched_model.specs.Valid.{is_small, is_amount, is_itv, is_mat, is_seq, is_member, are_parts, are_distinct, fits_types, is_window, is_expr, is_constraint}
 use Rattle.sched_text.specs.Pieces as piece
-use Rattle.sched_text.specs.Pieces.{interval_name, matrix_name, state_name, interval_names}
+use Rattle.sched_text.specs.Pieces.{interval_name, matrix_name, interval_names}
 use Rattle.sched_text.specs.Canonical.{list_text, function_text, flag, temporal_word, over_text, distance_text, least_level, within_text, constraint_text, sense_word, objective_text, statement}
 use Rattle.read_back.specs.Trees.{int_tree, function_tree, temporal_tree, over_tree, spaced_tree, within_tree, constraint_tree, sense_tree, objective_tree}
 use Rattle.read_back.specs.Written.{is_written, is_written_expr}

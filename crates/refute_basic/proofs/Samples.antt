@@ -1,6 +1,5 @@
 -- The models of the tests are valid.
-use Rattle.std.proofs.Common.{◌≡◌, ℕ, ◌+◌, Bool, true, false, ◌&&◌, List, [], ◌∷◌, Option, Some, None, is_some, length, sum, sum_by, nat_le, pos, refl, sym, subst, ap, ◌∙◌}
-use Rattle.sched_model.specs.declared.types.IntervalDef.{IntervalDef}
+use Rattle.std.proofs.Common.{◌≡◌, ℕ, ◌+◌, Bool, true, false, ◌&&◌, [], ◌∷◌, Option, is_some, sum, nat_le, pos, refl, sym, subst, ap, ◌∙◌}
 use Rattle.sched_model.specs.declared.types.Sense.{Sense}
 use Rattle.sched_model.specs.declared.types.Expr.{Expr}
 use Rattle.sched_model.specs.declared.types.Expr.TheVariants as whole
@@ -8,7 +7,6 @@ use Rattle.sched_model.specs.declared.types.Expr.TheVariants.{rolls-EndOf, rolls
 use Rattle.sched_model.specs.declared.types.Expr.TheOpen.{Expr-F}
 use Rattle.sched_model.specs.declared.types.Expr.TheOpen.Expr-F.{EndOf, PresenceOf, Not}
 use Rattle.sched_model.specs.declared.types.Expr.TheFolds.{fold-Expr, fold-roll-Expr}
-use Rattle.sched_model.specs.declared.types.Constraint.{Constraint}
 use Rattle.sched_model.specs.declared.types.Constraint.TheVariants.{Logic}
 use Rattle.sched_model.specs.Ranges.{Ends}
 use Rattle.sched_model.specs.Hull.{hull_step, limited}

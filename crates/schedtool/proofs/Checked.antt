@@ -4,7 +4,7 @@ use Rattle.sched_base.specs.declared.desk.Port.TheVariants.{Out}
 use Rattle.schedtool.specs.declared.ended.Ended.TheVariants as end
 use Rattle.schedtool.specs.declared.stop.Stop.TheVariants as stop
 use Rattle.schedtool.specs.CheckText.{check_text}
-use Rattle.std.proofs.Common.{◌≡◌, ◌≤◌, ◌+◌, ℕ, true, List, Option, Some, None, Ok, Err, length, take, refl, sym, ap, subst, ◌∙◌, inl, inr, arith}
+use Rattle.std.proofs.Common.{◌≡◌, ◌≤◌, ℕ, List, Option, Some, None, Ok, Err, length, take, refl, sym, ap, subst, ◌∙◌, inr, arith}
 use Rattle.std.specs.Prelude.{IfSome, option_and_then}
 use Rattle.sched_base.specs.declared.desk.File.{File}
 use Rattle.sched_base.specs.declared.desk.Inlet.TheVariants.{Log}
@@ -16,9 +16,8 @@ use Rattle.kernel.specs.Promises.{Means}
 use Rattle.checker.specs.declared.judging.Checked.{Checked}
 use Rattle.checker.specs.declared.judging.CheckFault.{CheckFault}
 use Rattle.checker.specs.declared.judging.CheckFault.TheVariants as fault
-use Rattle.checker.specs.Judgement.{IsRefused, IsTooLong}
 use Rattle.checker.specs.Checking.{Checks, Judges, log_bytes}
-use Rattle.schedtool.specs.Runs.{IfFile, HasFile, FileServes, AcceptsLog}
+use Rattle.schedtool.specs.Runs.{IfFile, FileServes, AcceptsLog}
 use Rattle.schedtool.specs.Stops.{stop_of_check}
 use Rattle.schedtool.specs.Tries.{OnlyReads, OnlyJudges, JudgesFile, TriesCheck}
 

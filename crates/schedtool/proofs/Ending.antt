@@ -1,5 +1,5 @@
 -- The promise of a command, by how it ended.
-use Rattle.std.proofs.Common.{◌≡◌, ◌≤◌, ◌+◌, ℕ, Bool, true, false, Option, Some, None, Ok, Err, refl, sym, ap, subst, ◌∙◌, inl, inr, arith}
+use Rattle.std.proofs.Common.{◌≡◌, ◌≤◌, ℕ, true, false, Option, Some, None, Ok, Err, refl, sym, ap, subst, ◌∙◌, inl, inr, arith}
 use Rattle.sched_base.specs.State.{State}
 use Rattle.sched_base.specs.Calls.{Rose, appended}
 use Rattle.sched_model.specs.declared.types.Answer.{Answer}
@@ -17,7 +17,7 @@ use Rattle.sched_text.specs.Canonical.{canonical_text}
 use Rattle.schedtool.specs.CheckText.{check_text}
 use Rattle.schedtool.specs.Ended.{is_success}
 use Rattle.schedtool.specs.Told.{Tells, Reports, usage_line, fault_line, memory_line, refusal_line, log_line, too_long_line}
-use Rattle.schedtool.specs.Runs.{RunPromise, EveryRun, CommandPromise, HasFiles, FileRefuses, RefusesBy, FileDeserves, ShowsPart, ShowPromise, LogPromise, HoldsBegunLog, CutShort, AnswerPromise, AcceptsPart, ending_of, SolveEnds, SolvePromise, CheckEnds, CheckPromise}
+use Rattle.schedtool.specs.Runs.{RunPromise, EveryRun, CommandPromise, HasFiles, FileRefuses, RefusesBy, FileDeserves, ShowsPart, LogPromise, HoldsBegunLog, CutShort, AnswerPromise, AcceptsPart, ending_of, SolveEnds}
 use Rattle.schedtool.specs.Runs.CutShort.{before_log, in_log, in_answer}
 use Rattle.cpo_elab.specs.Answers.Answer.{Refused}
 use Rattle.schedtool.specs.Runs.RefusesLog.{at_line, too_long}

@@ -1,5 +1,5 @@
 -- Reading a model that is served, from its text.
-use Rattle.std.proofs.Common.{◌≡◌, true, false, Option, Some, None, Result, Ok, Err, refl, sym, ap, subst, ◌∙◌}
+use Rattle.std.proofs.Common.{Option, Some, None, Result, Ok, Err, refl, sym, ap, subst}
 use Rattle.std.specs.Prelude.{if◌then◌else◌}
 use Rattle.sched_base.specs.State.{State}
 use Rattle.sched_model.specs.Data.{Data}

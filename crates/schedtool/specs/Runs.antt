@@ -1,5 +1,5 @@
 -- What a run promises: which ending it has, and what it has done to the desk by then.
-use Rattle.std.specs.Prelude.{◌≡◌, ◌↔◌, ◌⊎◌, ℕ, ◌≤◌, Bool, true, false, IsTrue, List, [], ◌∷◌, take, Option, Some, None, option_map, IfSome, IsSome, ⊤, if◌then◌else◌}
+use Rattle.std.specs.Prelude.{◌≡◌, ◌↔◌, ◌⊎◌, ℕ, ◌≤◌, true, false, IsTrue, List, [], take, Option, Some, None, option_map, IfSome, IsSome, ⊤, if◌then◌else◌}
 use Rattle.sched_base.specs.declared.desk.File.{File}
 use Rattle.sched_base.specs.State.{State, bytes_of}
 use Rattle.sched_base.specs.Calls.{Rose, appended}

@@ -1,5 +1,5 @@
 -- What each step of a command does to the desk on the way.
-use Rattle.std.specs.Prelude.{◌≡◌, ◌⊎◌, ℕ, ◌≤◌, true, false, IsTrue, List, Result, Ok, Err, Option, IfSome, ⊤}
+use Rattle.std.specs.Prelude.{◌≡◌, ◌⊎◌, ℕ, ◌≤◌, true, false, IsTrue, List, Result, Ok, Err, ⊤}
 use Rattle.sched_base.specs.State.{State, with_faults}
 use Rattle.sched_base.specs.Calls.{Rose}
 use Rattle.sched_model.specs.declared.types.Solved.{Solved}
@@ -18,7 +18,7 @@ use Rattle.schedtool.specs.declared.stop.Stop.{Stop}
 use Rattle.schedtool.specs.declared.stop.Stop.TheVariants as stop
 use Rattle.schedtool.specs.Ended.{is_success}
 use Rattle.schedtool.specs.Told.{Reports, fault_line, memory_line, refusal_line, log_line, too_long_line}
-use Rattle.schedtool.specs.Runs.{IfFile, FileDeserves, FileServes, FileRefuses, not_served, HasFile, LogPromise, HoldsBegunLog, AnswerPromise, CutShort, AcceptsLog, AcceptsPart, AcceptPromise, ShowsModel, ShowsPart, model_bytes}
+use Rattle.schedtool.specs.Runs.{IfFile, FileDeserves, FileServes, FileRefuses, not_served, HasFile, LogPromise, HoldsBegunLog, AnswerPromise, CutShort, AcceptsPart, AcceptPromise, ShowsModel, ShowsPart, model_bytes}
 
 -- Reading the model.
 

@@ -1,5 +1,5 @@
 -- The models of the tests are valid.
-use Rattle.std.proofs.Common.{◌≡◌, ℕ, ◌+◌, Bool, true, false, ◌&&◌, List, [], ◌∷◌, Option, Some, None, is_some, sum, nat_le, pos, refl, sym, subst, ap, ◌∙◌}
+use Rattle.std.proofs.Common.{◌≡◌, ℕ, ◌+◌, Bool, false, ◌&&◌, [], ◌∷◌, Option, is_some, sum, nat_le, pos, refl, sym, subst, ap, ◌∙◌}
 use Rattle.sched_model.specs.declared.types.Sense.{Sense}
 use Rattle.sched_model.specs.declared.types.Expr.{Expr}
 use Rattle.sched_model.specs.declared.types.Expr.TheVariants as whole

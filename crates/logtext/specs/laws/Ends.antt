@@ -1,5 +1,5 @@
 -- A spelling ends at its only line feed.
-use Rattle.std.specs.Prelude.{◌≡◌, ℕ, ◌==◌, Bool, true, not, ℤ, List, [], ◌∷◌, ◌++◌}
+use Rattle.std.specs.Prelude.{◌≡◌, ◌==◌, Bool, true, not, ℤ, List, [], ◌∷◌, ◌++◌}
 use Rattle.std.proofs.Common.{sym, ap, refl, subst, ◌∙◌, append_assoc}
 use Rattle.std.proofs.lemmas.List.Folds.{list_all-append}
 use Rattle.std.specs.List.{list_all}

@@ -1,4 +1,4 @@
-use Rattle.std.proofs.Common.{◌≡◌, ◌+◌, ap, sym, ◌∙◌, refl, arith}
+use Rattle.std.proofs.Common.{◌+◌, ap, ◌∙◌, refl, arith}
 use Rattle.sched_model.specs.Valid.{node_count}
 use Rattle.cpo_elab.specs.Drafts.{capped}
 use Rattle.cpo_elab.proofs.Capped.{one_capped, plus_more, compare_nodes, implies_nodes, sum_turn, sum_end}

@@ -1,4 +1,4 @@
-use Rattle.std.proofs.Common.{◌≡◌, ◌+◌, ap, sym, ◌∙◌, refl, length, flat_map, arith}
+use Rattle.std.proofs.Common.{◌+◌, ap, sym, ◌∙◌, refl, length, flat_map, arith}
 use Rattle.std.proofs.lemmas.List.{at_drop_all}
 use Rattle.cpo_elab.specs.Elaborated.{plain_parts, parts_signed}
 use Rattle.cpo_elab.specs.Drafts.{capped}

@@ -1,4 +1,4 @@
-use Rattle.std.proofs.Common.{◌∙◌, ◌&&◌, ap, sym, length}
+use Rattle.std.proofs.Common.{◌∙◌, ◌&&◌, length}
 use Rattle.cpo_elab.proofs.Rooms.{room_cumul}
 use Rattle.cpo_elab.proofs.limits.cumul_fits.Goals as goal
 

@@ -1,4 +1,4 @@
-use Rattle.std.proofs.Common.{◌∙◌, ap, sym, nat_le}
+use Rattle.std.proofs.Common.{◌∙◌}
 use Rattle.sched_model.specs.Valid.{node_total}
 use Rattle.cpo_elab.proofs.Rooms.{node_rooms}
 use Rattle.cpo_elab.proofs.limits.nodes_fit.Goals as goal

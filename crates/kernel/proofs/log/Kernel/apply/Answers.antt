@@ -1,8 +1,7 @@
-use Rattle.std.proofs.Common.{rules, sym, ap, ◌∙◌}
-use Rattle.std.specs.Prelude.{Some}
+use Rattle.std.proofs.Common.{rules}
 use Rattle.kernel.specs.Refuting.{refutes_with}
 use Rattle.kernel.specs.Agenda.{first_in}
-use Rattle.kernel.proofs.Stepped.{gives_fault, gives_ok, gives_no_memory, fault_is_known, known_fault}
+use Rattle.kernel.proofs.Stepped.{gives_fault, gives_ok, gives_no_memory, known_fault}
 use Rattle.kernel.proofs.log.Kernel.apply.Goals as goal
 
 pub returns-in-Some-clause-step : goal.returns-in-Some-clause-step
