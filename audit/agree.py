@@ -1,0 +1,280 @@
+#!/usr/bin/env python3
+"""Compares the program with a second reading of docs/LANGUAGE.md, written here.
+
+usage: agree.py [COUNT [SEED]]
+
+It makes COUNT (300) random small models of the part of the language that is solved, tries every way to place their
+intervals, and compares: the verdict and the value; that the schedule is one of those ways, with that value; that
+`check` accepts the log with that verdict; that the canonical text is solved alike. Then it changes each log at random,
+and where `check` accepts one, what its verdict says has to be so. It stops at the first model on which the two differ.
+It wants a built program: (cd crates/schedtool && rt run -- solve ../../examples/two_in_a_row.cpo two_in_a_row.log)
+"""
+
+import itertools
+import operator
+import os
+import random
+import subprocess
+import sys
+import tempfile
+from collections import Counter, namedtuple
+
+TOOL = os.path.join(os.path.dirname(os.path.abspath(__file__)), "../crates/schedtool/out/schedtool")
+FREE = (0, 1_000_000_000)
+
+# An expression: its text, how tightly it holds together, and its value where each interval is None or (start, end).
+Expr = namedtuple("Expr", "text level value")
+IMPLIES, OR, AND, NOT, COMPARE, SUM, PRODUCT, ATOM = range(8)
+
+MEASURES = {
+    "startOf": lambda s, e: s,
+    "endOf": lambda s, e: e,
+    "sizeOf": lambda s, e: e - s,
+    "lengthOf": lambda s, e: e - s,
+}
+COMPARISONS = {
+    "==": operator.eq,
+    "!=": operator.ne,
+    "<=": operator.le,
+    ">=": operator.ge,
+    "<": operator.lt,
+    ">": operator.gt,
+}
+# The end point of the first interval, that of the second, and whether the distance is exact.
+PRECEDENCES = {
+    f"{a}{word}{b}": (i, j, word == "At")
+    for i, a in enumerate(("start", "end"))
+    for word in ("Before", "At")
+    for j, b in enumerate(("Start", "End"))
+}
+
+
+class Models:
+    def __init__(self, seed):
+        self.draw = random.Random(seed)
+
+    def operand(self, expr, level):
+        return expr.text if expr.level >= level else f"({expr.text})"
+
+    def atom(self, names):
+        if not names or self.draw.random() < 0.3:
+            n = self.draw.choice((0, 1, 2, 3, 5))
+            return Expr(str(n), ATOM, lambda a: n)
+        x = self.draw.choice(names)
+        if self.draw.random() < 0.15:
+            return Expr(f"presenceOf({x})", ATOM, lambda a: int(a[x] is not None))
+        word = self.draw.choice(list(MEASURES))
+        absent = self.draw.choice((None, None, -2, 0, 4))
+        more = "" if absent is None else f", {absent}"
+        value = lambda a: (absent or 0) if a[x] is None else MEASURES[word](*a[x])
+        return Expr(f"{word}({x}{more})", ATOM, value)
+
+    def expr(self, names, depth):
+        if depth == 0 or self.draw.random() < 0.15:
+            return self.atom(names)
+        forms = (self.implied, self.linked, self.negated, self.compared, self.summed, self.multiplied, self.gathered)
+        return self.draw.choice(forms)(names, depth - 1)
+
+    def several(self, names, depth, least):
+        return [self.expr(names, depth) for _ in range(self.draw.randint(least, 3))]
+
+    def implied(self, names, depth):
+        x, y = self.expr(names, depth), self.expr(names, depth)
+        text = f"{self.operand(x, OR)} => {self.operand(y, IMPLIES)}"
+        return Expr(text, IMPLIES, lambda a: int(x.value(a) == 0 or y.value(a) != 0))
+
+    def linked(self, names, depth):
+        sign, level, test = self.draw.choice((("||", OR, any), ("&&", AND, all)))
+        xs = self.several(names, depth, 2)
+        text = f" {sign} ".join(self.operand(x, level + 1) for x in xs)
+        return Expr(text, level, lambda a: int(test(x.value(a) != 0 for x in xs)))
+
+    def negated(self, names, depth):
+        x = self.expr(names, depth)
+        return Expr(f"!{self.operand(x, NOT)}", NOT, lambda a: int(x.value(a) == 0))
+
+    def compared(self, names, depth):
+        sign = self.draw.choice(list(COMPARISONS))
+        x, y = self.expr(names, depth), self.expr(names, depth)
+        text = f"{self.operand(x, SUM)} {sign} {self.operand(y, SUM)}"
+        return Expr(text, COMPARE, lambda a: int(COMPARISONS[sign](x.value(a), y.value(a))))
+
+    def summed(self, names, depth):
+        xs = self.several(names, depth, 1)
+        signs = [self.draw.choice((1, -1)) for _ in xs]
+        if len(xs) == 1:
+            signs = [-1]
+        text = "-" * (signs[0] < 0) + self.operand(xs[0], PRODUCT)
+        for sign, x in zip(signs[1:], xs[1:]):
+            text += f" {'+' if sign > 0 else '-'} {self.operand(x, PRODUCT)}"
+        return Expr(text, SUM, lambda a: sum(sign * x.value(a) for sign, x in zip(signs, xs)))
+
+    def multiplied(self, names, depth):
+        # At most one factor may name an interval.
+        xs = [self.expr(names, depth), *(self.expr([], depth) for _ in range(self.draw.randint(1, 2)))]
+        self.draw.shuffle(xs)
+        text = "*".join(self.operand(x, ATOM) for x in xs)
+
+        def value(a):
+            product = 1
+            for x in xs:
+                product *= x.value(a)
+            return product
+
+        return Expr(text, PRODUCT, value)
+
+    def gathered(self, names, depth):
+        word, gather = self.draw.choice((("max", max), ("min", min), ("sum", sum)))
+        xs = self.several(names, depth, 0 if word == "sum" else 1)
+        text = f"{word}([{', '.join(x.text for x in xs)}])"
+        return Expr(text, ATOM, lambda a: gather(x.value(a) for x in xs))
+
+    def range_of(self, low, high):
+        a = self.draw.randint(low, high)
+        return a, self.draw.randint(a, high)
+
+    def interval(self, name):
+        """The statement, and where the interval can stand."""
+        start, end = self.range_of(-2, 3), self.range_of(-2, 4)
+        size = self.range_of(0, 4) if self.draw.random() < 0.7 else FREE
+        is_optional = self.draw.random() < 0.5
+        words = ["optional"] * is_optional
+        for word, (low, high) in (("start", start), ("end", end), ("size", size)):
+            if (low, high) == FREE:
+                continue
+            is_short = low == high and self.draw.random() < 0.5
+            words.append(f"{word}={low}" if is_short else f"{word}={low}..{high}")
+        self.draw.shuffle(words)
+        places = [
+            (s, e)
+            for s in range(start[0], start[1] + 1)
+            for e in range(end[0], end[1] + 1)
+            if size[0] <= e - s <= size[1]
+        ]
+        return f"{name} = intervalVar({', '.join(words)});", [None] * is_optional + places
+
+    def precedence(self, names):
+        word = self.draw.choice(list(PRECEDENCES))
+        x, y = self.draw.choice(names), self.draw.choice(names)
+        distance = self.draw.choice((None, 0, 1, -1, 2))
+        more = "" if distance is None else f", {distance}"
+        i, j, is_exact = PRECEDENCES[word]
+
+        def holds(a):
+            if a[x] is None or a[y] is None:
+                return True
+            from_, to = a[x][i] + (distance or 0), a[y][j]
+            return from_ == to if is_exact else from_ <= to
+
+        return f"{word}({x}, {y}{more});", holds
+
+    def model(self):
+        """The text, the places of each interval, the constraints, and the objective or None."""
+        names = [f"x{i}" for i in range(self.draw.randint(1, 3))]
+        lines, places, constraints, objective = [], {}, [], None
+        for name in names:
+            line, places[name] = self.interval(name)
+            lines.append(line)
+        for _ in range(self.draw.randint(0, 3)):
+            if self.draw.random() < 0.5:
+                line, holds = self.precedence(names)
+            else:
+                x = self.expr(names, 3)
+                line, holds = f"{x.text};", lambda a, x=x: x.value(a) != 0
+            lines.append(line)
+            constraints.append(holds)
+        if self.draw.random() < 0.7:
+            objective = self.draw.choice((("minimize", min), ("maximize", max))), self.expr(names, 3)
+            lines.insert(self.draw.randint(len(names), len(lines)), f"{objective[0][0]}({objective[1].text});")
+        return "\n".join(lines) + "\n", places, constraints, objective
+
+    def changed(self, log):
+        """The lines of a log with one change."""
+        lines = list(log)
+        k = self.draw.randrange(len(lines))
+        how = self.draw.randrange(5)
+        if how == 0:
+            del lines[k]
+        elif how == 1:
+            lines.insert(k, self.draw.choice(lines))
+        elif how == 2:
+            lines[k:] = ["end"]
+        else:
+            words = lines[k].split(" ")
+            at = self.draw.randrange(len(words))
+            if how == 3 or not words[at].lstrip("-").isdigit():
+                words[at] = self.draw.choice(self.draw.choice(lines).split(" "))
+            else:
+                words[at] = str(int(words[at]) + self.draw.choice((-1, 1)))
+            lines[k] = " ".join(words)
+        return lines
+
+
+def said(folder, command, *files):
+    words = [TOOL, command, *(f"{folder}/{file}" for file in files)]
+    ran = subprocess.run(words, stdout=subprocess.PIPE, stderr=subprocess.PIPE, encoding="utf-8")
+    return ran.stdout.split("\n"), ran.stderr.strip()
+
+
+def wanted(solutions, objective):
+    """The verdict, and the best value if there is one."""
+    if not solutions:
+        return "infeasible", None
+    if objective is None:
+        return "feasible", None
+    best = objective[0][1](objective[1].value(a) for a in solutions)
+    return f"optimal {best}", best
+
+
+def schedule(lines, names):
+    rows = [line.split(" ") for line in lines]
+    return {row[0]: None if row[1] == "absent" else (int(row[1]), int(row[2])) for row in rows if row[0] in names}
+
+
+def write(folder, file, text):
+    with open(f"{folder}/{file}", "w", encoding="utf-8") as to:
+        to.write(text)
+
+
+def compare(models, folder, counts):
+    text, places, constraints, objective = models.model()
+    write(folder, "model", text)
+    ways = (dict(zip(places, way)) for way in itertools.product(*places.values()))
+    solutions = [a for a in ways if all(holds(a) for holds in constraints)]
+    verdict, best = wanted(solutions, objective)
+    answer, error = said(folder, "solve", "model", "log")
+    assert answer[0] == verdict, f"{text}wanted {verdict}, but solve said {answer[0]}{error}"
+    if solutions:
+        found = schedule(answer, places)
+        assert found in solutions, f"{text}no solution: {answer}"
+        assert best is None or objective[1].value(found) == best, f"{text}another value: {answer}"
+    judged, error = said(folder, "check", "model", "log")
+    assert judged[0] == f"accepted {verdict}", f"{text}check said {judged[0]}{error}"
+    shown, _ = said(folder, "show", "model")
+    write(folder, "canonical", "\n".join(shown))
+    assert said(folder, "show", "canonical")[0] == shown, f"{text}its canonical text is shown as another"
+    assert said(folder, "solve", "canonical", "log_of_canonical")[0] == answer, f"{text}its canonical text differs"
+    counts[verdict.split(" ")[0]] += 1
+    with open(f"{folder}/log", encoding="utf-8") as log:
+        lines = log.read().split("\n")[:-1]
+    values = {str(objective[1].value(a)) for a in solutions} if objective else set()
+    true = {f"accepted {it}" for it in (verdict, "unfinished none", *(f"unfinished {v}" for v in values))}
+    for _ in range(5):
+        log = "\n".join(models.changed(lines)) + "\n"
+        write(folder, "changed", log)
+        judged, _ = said(folder, "check", "model", "changed")
+        assert judged[0] in true or judged[0] == "", f"{text}{log}check said {judged[0]}"
+        counts["changed log accepted" if judged[0] else "changed log refused"] += 1
+
+
+def main(count=300, seed=1):
+    models, counts = Models(int(seed)), Counter()
+    with tempfile.TemporaryDirectory() as folder:
+        for _ in range(int(count)):
+            compare(models, folder, counts)
+    for what, n in sorted(counts.items()):
+        print(f"{what:24} {n:>8}")
+
+
+if __name__ == "__main__":
+    main(*sys.argv[1:])
