@@ -3,7 +3,7 @@ use Rattle.std.specs.Prelude.{◌≡◌, ℕ, ◌+◌, ◌-◌, ◌^◌, ◌≤�
 use Rattle.sched_base.specs.declared.desk.Inlet.{Inlet}
 use Rattle.sched_base.specs.declared.desk.Port.{Port}
 use Rattle.sched_base.specs.declared.desk.Failed.{Failed}
-use Rattle.sched_base.specs.State.{Bytes, State, bytes_of, with_place, held_on, with_held, with_faults, left_in, place_of, is_opened}
+use Rattle.sched_base.specs.State.{Bytes, State, bytes_of, with_place, held_on, with_held, with_log, with_faults, left_in, place_of, is_opened}
 
 -- the count rose; one that stands at its end counts as one that rose
 abbrev pub Rose : ℕ → ℕ → Type 0
@@ -40,8 +40,12 @@ pub record Reads (slot : Inlet) (before after : Bytes) (result : Result ℕ Fail
   pub count : Counted result old.faults new.faults
   pub calm : old.calm ≡ true → IsOk result
 
-pub record Creates (result : Result (Unit {0}) Failed) (old new : State) : Type 0 where
-  pub created : OnOk result (new ≡ record old { created = true; logged = option_map (λ bs. []) old.logged })
+-- a log was created under this name, and is empty
+abbrev pub created : Bytes → State → State
+created name s = record s { created = true; logged = option_map (λ bs. []) s.logged; logs = with_log name s.logs }
+
+pub record Creates (name : Bytes) (result : Result (Unit {0}) Failed) (old new : State) : Type 0 where
+  pub created : OnOk result (new ≡ created name old)
   pub failed : OnErr result (new ≡ with_faults new.faults old)
   pub count : Counted result old.faults new.faults
   pub calm : old.calm ≡ true → IsOk result

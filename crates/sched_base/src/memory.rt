@@ -1,4 +1,4 @@
-ghost use Rattle.std.specs.Prelude.{◌≡◌, ◌<◌, ◌≤◌, length, MatchOption, None, Some, drop, take, slice_get, option_map, ◌+◌, ◌^◌};
+ghost use Rattle.std.specs.Prelude.{◌≡◌, ◌<◌, ◌≤◌, length, MatchOption, IfOk, None, Some, drop, take, slice_get, option_map, ◌+◌, ◌^◌};
 ghost use Rattle.std.specs.Option.{option_copied};
 ghost use Rattle.sched_base.specs.State.{bytes_of};
 
@@ -15,9 +15,11 @@ pub struct Opened {
 }
 
 /// A desk in memory, which tells everything. It counts its calls from 0, and fails those whose
-/// numbers were listed, an `open_in` of a name that no file has, and a write that finds no memory.
+/// numbers were listed, an `open_in` of a name that no file has, and a `create_log` or a write that
+/// finds no memory.
 #[derive(Drop)]
 pub struct MemDesk {
+    alloc: Global,
     files: List<File>,
     failing: List<u32>,
     calls: u64,
@@ -29,6 +31,7 @@ pub struct MemDesk {
     err: Vec<u8>,
     logged: Vec<u8>,
     created: bool,
+    logs: List<List<u8>>,
 }
 
 impl Model for MemDesk {
@@ -48,6 +51,7 @@ impl Model for MemDesk {
       err = d.err.items;
       logged = d.logged.items;
       created = d.created;
+      logs = d.logs;
     } };
 
     ghost invariant = { λ d. IsThere d.files d.model × IsThere d.files d.log × IsThere d.files d.schedule };
@@ -85,9 +89,18 @@ fn copy_next(bytes: &[u8], at: usize, into: &mut [u8]) -> usize
     n
 }
 
+/// The bytes, copied.
+fn copied(alloc: Global, bytes: &[u8]) -> Result<List<u8>, NoMemory>
+    ensures { IfOk result (λ list. list ≡ bytes.now) }
+{
+    let mut copy = Vec::new(alloc);
+    copy.extend_from_slice(bytes)?;
+    Ok(List::from_vec(copy))
+}
+
 impl MemDesk {
-    ghost use Rattle.std.specs.Prelude.{true, IfOk, OnOk, OnErr};
-    ghost use Rattle.sched_base.specs.Calls.{appended};
+    ghost use Rattle.std.specs.Prelude.{true, OnOk, OnErr};
+    ghost use Rattle.sched_base.specs.Calls.{appended, created};
     ghost use Rattle.sched_base.specs.State.{with_place, with_held, held_on};
     ghost use Rattle.sched_base.specs.Memory.{CountsCall, FaultsOnly, IsThere, fails_next, memory_state, new_memory, opened_in, shown};
 
@@ -96,6 +109,7 @@ impl MemDesk {
         ensures { IfOk result (λ d. d ≡ new_memory files failing) }
     {
         Ok(MemDesk {
+            alloc,
             files,
             failing,
             calls: 0,
@@ -107,6 +121,7 @@ impl MemDesk {
             err: Vec::new(alloc),
             logged: Vec::new(alloc),
             created: false,
+            logs: List::new(alloc),
         })
     }
 
@@ -129,6 +144,13 @@ impl MemDesk {
         ensures { result.now ≡ self.now.logged }
     {
         self.logged.as_slice()
+    }
+
+    /// The names under which logs were created, in their order.
+    pub fn logs(&self) -> &[List<u8>]
+        ensures { result.now ≡ self.now.logs }
+    {
+        self.logs.as_slice()
     }
 
     /// Counts a call. Where it is one of those that fail, it counts a fault and answers yes.
@@ -179,6 +201,19 @@ impl MemDesk {
             Port::Err => self.err.extend_from_slice(bytes),
             Port::Log => self.logged.extend_from_slice(bytes),
         }
+    }
+
+    /// Creates an empty log under this name.
+    fn begin(&mut self, name: &[u8]) -> Result<(), NoMemory>
+        ensures ok { OnOk result (memory_state self.new ≡ created name.now (memory_state self.old)) }
+        ensures err { OnErr result (memory_state self.new ≡ memory_state self.old) }
+        ensures same { (self.new.files ≡ self.old.files) × (self.new.failing ≡ self.old.failing) × (self.new.calls ≡ self.old.calls) }
+    {
+        let name = copied(self.alloc, name)?;
+        self.logs.push(name)?;
+        self.logged.clear();
+        self.created = true;
+        Ok(())
     }
 
     /// Counts a fault.
@@ -233,17 +268,18 @@ impl Desk for MemDesk {
         Ok(n)
     }
 
-    fn create_log(&mut self, _name: &str) -> Result<(), Failed>
-        ensures desk { Creates result (memory_state self.old) (memory_state self.new) }
+    fn create_log(&mut self, name: &str) -> Result<(), Failed>
+        ensures desk { Creates name.now result (memory_state self.old) (memory_state self.new) }
         ensures call { CountsCall self.old self.new }
-        ensures exact { is_err result ≡ fails_next self.old }
+        ensures exact { OnOk result (fails_next self.old ≡ false) }
     {
         if self.fails() {
             return Err(Failed);
         }
-        self.logged.clear();
-        self.created = true;
-        Ok(())
+        match self.begin(name.as_bytes()) {
+            Ok(()) => Ok(()),
+            Err(_) => Err(self.fault()),
+        }
     }
 
     fn write(&mut self, to: Port, bytes: &[u8]) -> Result<(), Failed>

@@ -44,6 +44,8 @@ fn reads_and_writes(rt: HostRuntime) -> Result<(), Fail> {
     assert_eq!(rt; d.out(), b"abcd".as_slice());
     assert_eq!(rt; d.err(), b"gh".as_slice());
     assert_eq!(rt; d.log_bytes(), b"ij".as_slice());
+    assert_eq!(rt; d.logs().len(), 1);
+    assert_eq!(rt; d.logs()[0].as_slice(), b"l".as_slice());
     Ok(())
 }
 

@@ -107,7 +107,7 @@ log_refused k text old s new out later reports = record {
 -- What only some of a desk has changed, after the line too.
 
 abbrev pub OnlySolves : State → State → Type 0
-OnlySolves old new = new ≡ record old { model = new.model; out = new.out; err = new.err; logged = new.logged; created = new.created; faults = new.faults }
+OnlySolves old new = new ≡ record old { model = new.model; out = new.out; err = new.err; logged = new.logged; created = new.created; logs = new.logs; faults = new.faults }
 
 abbrev pub OnlyChecks : State → State → Type 0
 OnlyChecks old new = new ≡ record old { model = new.model; log = new.log; out = new.out; err = new.err; faults = new.faults }
@@ -115,7 +115,7 @@ OnlyChecks old new = new ≡ record old { model = new.model; log = new.log; out 
 abbrev pub OnlyRefuses : State → State → Type 0
 OnlyRefuses old new = new ≡ record old { model = new.model; err = new.err; faults = new.faults }
 
-solve_only : (text : Bytes) (old s new : State) → s ≡ record old { model = s.model; out = s.out; logged = s.logged; created = s.created; faults = s.faults } → Reports text s new → OnlySolves old new
+solve_only : (text : Bytes) (old s new : State) → s ≡ record old { model = s.model; out = s.out; logged = s.logged; created = s.created; logs = s.logs; faults = s.faults } → Reports text s new → OnlySolves old new
 solve_only text old s new only reports =
     subst (OnlySolves old) (sym (reports.only ∙ ap (λ (x : State). record x { err = new.err; faults = new.faults }) only)) refl
 
@@ -127,14 +127,14 @@ refused_only : (text : Bytes) (old s new : State) → OnlyReads old s → Report
 refused_only text old s new reads reports =
     subst (OnlyRefuses old) (sym (reports.only ∙ ap (λ (x : State). record x { err = new.err; faults = new.faults }) reads.only)) refl
 
-cut_told : (name : Bytes) (limit : ℕ) (text : Bytes) (old s new : State) → CutShort name limit old s → Reports text s new → CutShort name limit old new
-cut_told name limit text old s new (before_log only) reports =
+cut_told : (name log : Bytes) (limit : ℕ) (text : Bytes) (old s new : State) → CutShort name log limit old s → Reports text s new → CutShort name log limit old new
+cut_told name log limit text old s new (before_log only) reports =
     before_log (subst (OnlyRefuses old) (sym (reports.only ∙ ap (λ (x : State). record x { err = new.err; faults = new.faults }) only)) refl)
-cut_told name limit text old s new (in_log m deserved created holds out) reports =
-    in_log m deserved (ap (λ (x : State). x.created) reports.only ∙ created) (subst (λ b. HoldsBegunLog m old.logged b) (sym (ap (λ (x : State). x.logged) reports.only)) holds)
+cut_told name log limit text old s new (in_log m deserved created holds out) reports =
+    in_log m deserved (ap (λ (x : State). x.created) reports.only ∙ created.0, ap (λ (x : State). x.logs) reports.only ∙ created.1) (subst (λ b. HoldsBegunLog m old.logged b) (sym (ap (λ (x : State). x.logged) reports.only)) holds)
     (ap (λ (x : State). x.out) reports.only ∙ out)
-cut_told name limit text old s new (in_answer m solved deserved answer created log part) reports =
-    in_answer m solved deserved answer (ap (λ (x : State). x.created) reports.only ∙ created) (subst (λ b. LogPromise m limit solved old.logged b) (sym (ap (λ (x : State). x.logged) reports.only)) log)
+cut_told name log limit text old s new (in_answer m solved deserved answer created written part) reports =
+    in_answer m solved deserved answer (ap (λ (x : State). x.created) reports.only ∙ created.0, ap (λ (x : State). x.logs) reports.only ∙ created.1) (subst (λ b. LogPromise m limit solved old.logged b) (sym (ap (λ (x : State). x.logged) reports.only)) written)
     (subst (λ b. AppendedFrom (answer_text m solved) old.out b) (sym (ap (λ (x : State). x.out) reports.only)) part)
 
 part_told : (model log text : Bytes) (old s new : State) → AcceptsPart model log old s → Reports text s new → AcceptsPart model log old new
@@ -157,37 +157,37 @@ never_accepted (answer.Feasible a) is = cc
 never_accepted answer.Infeasible is = cc
 never_accepted (answer.Unfinished found) is = cc
 
-solve_ends : (model : Bytes) (limit : ℕ) (e : Ended) (old new : State) → is_success e ≡ true → AnswerPromise model limit e old new → SolveEnds model limit e old new
-solve_ends model limit end.Done old new won promise = promise
-solve_ends model limit end.Infeasible old new won promise = promise
-solve_ends model limit end.Unfinished old new won promise = promise
-solve_ends model limit end.Accepted old new won promise = never_accepted promise.solved.answer promise.ending
-solve_ends model limit end.Usage old new won promise = cc
-solve_ends model limit end.ModelRefused old new won promise = absurd cc
-solve_ends model limit end.Fault old new won promise = absurd cc
-solve_ends model limit end.LogRefused old new won promise = cc
-solve_ends model limit end.NoMemory old new won promise = absurd cc
+solve_ends : (model log : Bytes) (limit : ℕ) (e : Ended) (old new : State) → is_success e ≡ true → AnswerPromise model log limit e old new → SolveEnds model log limit e old new
+solve_ends model log limit end.Done old new won promise = promise
+solve_ends model log limit end.Infeasible old new won promise = promise
+solve_ends model log limit end.Unfinished old new won promise = promise
+solve_ends model log limit end.Accepted old new won promise = never_accepted promise.solved.answer promise.ending
+solve_ends model log limit end.Usage old new won promise = cc
+solve_ends model log limit end.ModelRefused old new won promise = absurd cc
+solve_ends model log limit end.Fault old new won promise = absurd cc
+solve_ends model log limit end.LogRefused old new won promise = cc
+solve_ends model log limit end.NoMemory old new won promise = absurd cc
 
-pub solved : (model log : Bytes) (limit : ℕ) (e : Ended) (old new : State) → TriesSolve model limit (Ok e) old new → RunPromise (Some (Solve model log limit)) e old new
+pub solved : (model log : Bytes) (limit : ℕ) (e : Ended) (old new : State) → TriesSolve model log limit (Ok e) old new → RunPromise (Some (Solve model log limit)) e old new
 solved model log limit e old new tries = record {
   every = succeeded (Solve model log limit) e old new tries.tried.1 tries.tried.0 (ap (λ (x : State). x.err) tries.only);
   its_own = record {
     only = subst (OnlySolves old) (sym tries.only) refl;
-    ends = solve_ends model limit e old new tries.tried.1 tries.tried.2;
+    ends = solve_ends model log limit e old new tries.tried.1 tries.tried.2;
   };
 }
 
-solve_no_memory : (model log : Bytes) (limit : ℕ) (old s new : State) → s ≡ record old { model = s.model; out = s.out; logged = s.logged; created = s.created; faults = s.faults } → old.faults ≤ s.faults → s.out ≡ old.out → CutShort model limit old s
+solve_no_memory : (model log : Bytes) (limit : ℕ) (old s new : State) → s ≡ record old { model = s.model; out = s.out; logged = s.logged; created = s.created; logs = s.logs; faults = s.faults } → old.faults ≤ s.faults → s.out ≡ old.out → CutShort model log limit old s
     → Reports memory_line s new → RunPromise (Some (Solve model log limit)) end.NoMemory old new
 solve_no_memory model log limit old s new only later out cut reports = record {
   every = no_memory (Solve model log limit) old s new (ap (λ (x : State). x.err) only) out later reports;
-  its_own = record { only = solve_only memory_line old s new only reports; ends = cut_told model limit memory_line old s new cut reports };
+  its_own = record { only = solve_only memory_line old s new only reports; ends = cut_told model log limit memory_line old s new cut reports };
 }
 
-pub solve_stopped : (model log : Bytes) (limit : ℕ) (e : Stop) (ended : Ended) (old s new : State) → TriesSolve model limit (Err e) old s → EndsStopped e ended s new → RunPromise (Some (Solve model log limit)) ended old new
+pub solve_stopped : (model log : Bytes) (limit : ℕ) (e : Stop) (ended : Ended) (old s new : State) → TriesSolve model log limit (Err e) old s → EndsStopped e ended s new → RunPromise (Some (Solve model log limit)) ended old new
 solve_stopped model log limit stop.Fault ended old s new tries ends = subst (λ x. RunPromise (Some (Solve model log limit)) x old new) (sym ends.0) (record {
   every = faulted (Solve model log limit) old s new (ap (λ (x : State). x.err) tries.only) tries.later tries.tried.0.rose tries.tried.0.calm ends.1;
-  its_own = record { only = solve_only fault_line old s new tries.only ends.1; ends = cut_told model limit fault_line old s new tries.tried.1 ends.1 };
+  its_own = record { only = solve_only fault_line old s new tries.only ends.1; ends = cut_told model log limit fault_line old s new tries.tried.1 ends.1 };
 })
 solve_stopped model log limit stop.NoMemory ended old s new tries ends = subst (λ x. RunPromise (Some (Solve model log limit)) x old new) (sym ends.0)
     (solve_no_memory model log limit old s new tries.only tries.later tries.tried.0 tries.tried.1 ends.1)

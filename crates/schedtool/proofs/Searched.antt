@@ -1,7 +1,7 @@
 -- What a search with a log has done, from what its steps did.
 use Rattle.std.proofs.Common.{◌≡◌, ◌≤◌, ℕ, true, List, [], Option, Some, None, Ok, refl, sym, ap, subst, ◌∙◌}
 use Rattle.std.specs.Prelude.{option_map}
-use Rattle.sched_base.specs.State.{State}
+use Rattle.sched_base.specs.State.{State, with_log}
 use Rattle.sched_base.specs.Calls.{Creates, appended}
 use Rattle.sched_model.specs.declared.types.Solved.{Solved}
 use Rattle.sched_model.specs.Data.{Data}
@@ -35,11 +35,11 @@ log_promise m limit solved lines state before is = record {
   );
 }
 
-pub searched : (m : Data) (limit : ℕ) (solved : Solved) (s c t : State) (u : Unit {0}) → Creates (Ok u) s c → Solves m limit solved c t → Searches m limit (Ok solved) s t
-searched m limit solved s c t u creates solves =
+pub searched : (m : Data) (log : Bytes) (limit : ℕ) (solved : Solved) (s c t : State) (u : Unit {0}) → Creates log (Ok u) s c → Solves m limit solved c t → Searches m log limit (Ok solved) s t
+searched m log limit solved s c t u creates solves =
     let text : Bytes = plain_log solves.lines in
-    let is : t ≡ record s { logged = option_map (λ bs. text) s.logged; created = true } =
+    let is : t ≡ record s { logged = option_map (λ bs. text) s.logged; created = true; logs = with_log log s.logs } =
     solves.logged
     ∙ ap (λ (x : State). record x { logged = appended text x.logged }) creates.created
-    ∙ ap (λ l. record s { logged = l; created = true }) (created_empty text s.logged) in
-    subst (Searches m limit (Ok solved) s) (sym is) (log_promise m limit solved solves.lines solves.state s.logged solves.is, solves.is.answer, refl)
+    ∙ ap (λ l. record s { logged = l; created = true; logs = with_log log s.logs }) (created_empty text s.logged) in
+    subst (Searches m log limit (Ok solved) s) (sym is) (log_promise m limit solved solves.lines solves.state s.logged solves.is, solves.is.answer, refl)

@@ -5,7 +5,7 @@ use Rattle.sched_base.specs.State.{State, Place}
 abbrev pub untold : Bool → Place
 untold opened = record { opened = opened; left = None }
 
--- which slots are opened, whether a log was created, and the count of faults
+-- which slots are opened, whether a log was created, and the count of faults; nothing is told of its name
 abbrev pub real_state : Bool → Bool → Bool → Bool → ℕ → State
 real_state model log schedule created faults = record {
   files = None;
@@ -16,6 +16,7 @@ real_state model log schedule created faults = record {
   err = None;
   logged = None;
   created = created;
+  logs = None;
   calm = false;
   faults = faults;
 }

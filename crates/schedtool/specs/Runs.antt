@@ -1,7 +1,7 @@
 -- What a run promises: which ending it has, and what it has done to the desk by then.
 use Rattle.std.specs.Prelude.{◌≡◌, ◌↔◌, ◌⊎◌, ℕ, ◌≤◌, true, false, IsTrue, List, [], take, Option, Some, None, option_map, IfSome, IsSome, ⊤, if◌then◌else◌}
 use Rattle.sched_base.specs.declared.desk.File.{File}
-use Rattle.sched_base.specs.State.{State, bytes_of}
+use Rattle.sched_base.specs.State.{State, bytes_of, with_log}
 use Rattle.sched_base.specs.Calls.{Rose, appended}
 use Rattle.sched_model.specs.declared.types.Answer.{Answer as Printed}
 use Rattle.sched_model.specs.declared.types.Answer.TheVariants as answer
@@ -110,6 +110,10 @@ RefusesModel model old new = RefusesBy (FileRefuses old model) old new
 
 -- What `solve` promises.
 
+-- one log was created, and it has this name
+abbrev pub CreatesLog : Bytes → State → State → Type 0
+CreatesLog log old new = (new.created ≡ true) × (new.logs ≡ with_log log old.logs)
+
 -- The log behind an answer, by the command's limit on nodes, from what stood on the port of the log before to what stands
 -- there after.
 pub record LogPromise (m : Data) (limit : ℕ) (solved : Solved) (before after : Option Bytes) : Type 0 where
@@ -135,7 +139,7 @@ ending_of answer.Infeasible = end.Infeasible
 ending_of (answer.Unfinished found) = end.Unfinished
 
 -- The main promise.
-pub record AnswerPromise (model : Bytes) (limit : ℕ) (result : Ended) (old new : State) : Type 0 where
+pub record AnswerPromise (model log : Bytes) (limit : ℕ) (result : Ended) (old new : State) : Type 0 where
   pub m : Data
   pub solved : Solved
   -- the text of the model's file deserves this model, which is one that the search serves
@@ -146,9 +150,9 @@ pub record AnswerPromise (model : Bytes) (limit : ℕ) (result : Ended) (old new
   -- the ending is that of the answer, whose whole text was printed
   pub ending : result ≡ ending_of solved.answer
   pub printed : new.out ≡ appended (answer_text m solved) old.out
-  -- the whole log was written, and it is accepted
-  pub created : new.created ≡ true
-  pub log : LogPromise m limit solved old.logged new.logged
+  -- the whole log was written under the name that the words give, and it is accepted
+  pub created : CreatesLog log old new
+  pub written : LogPromise m limit solved old.logged new.logged
 
 -- The log holds a front part of the text of a log of the model, whose lines all step.
 pub record HoldsBegunLog (m : Data) (before after : Option Bytes) : Type 0 where
@@ -158,29 +162,29 @@ pub record HoldsBegunLog (m : Data) (before after : Option Bytes) : Type 0 where
   pub part : AppendedFrom (plain_log lines) (option_map (λ bytes. []) before) after
 
 -- How far `solve` came where it was cut short by a fault or for want of memory.
-pub data CutShort (model : Bytes) (limit : ℕ) (old new : State) : Type 0 where
+pub data CutShort (model log : Bytes) (limit : ℕ) (old new : State) : Type 0 where
   -- no log was created, and nothing was printed
-  before_log : new ≡ record old { model = new.model; err = new.err; faults = new.faults } → CutShort model limit old new
+  before_log : new ≡ record old { model = new.model; err = new.err; faults = new.faults } → CutShort model log limit old new
   -- the log of the model that the text deserves was begun, and nothing was printed
-  in_log : (m : Data) → FileServes old model m → new.created ≡ true → HoldsBegunLog m old.logged new.logged → new.out ≡ old.out → CutShort model limit old new
+  in_log : (m : Data) → FileServes old model m → CreatesLog log old new → HoldsBegunLog m old.logged new.logged → new.out ≡ old.out → CutShort model log limit old new
   -- the log is whole, and a front part of the answer's text was printed
-  in_answer : (m : Data) (solved : Solved) → FileServes old model m → IsAnswer m solved.answer → new.created ≡ true → LogPromise m limit solved old.logged new.logged
-      → AppendedFrom (answer_text m solved) old.out new.out → CutShort model limit old new
+  in_answer : (m : Data) (solved : Solved) → FileServes old model m → IsAnswer m solved.answer → CreatesLog log old new → LogPromise m limit solved old.logged new.logged
+      → AppendedFrom (answer_text m solved) old.out new.out → CutShort model log limit old new
 
 -- by its ending; no other comes
-abbrev pub SolveEnds : Bytes → ℕ → Ended → State → State → Type 0
-SolveEnds model limit end.Done old new = AnswerPromise model limit end.Done old new
-SolveEnds model limit end.Infeasible old new = AnswerPromise model limit end.Infeasible old new
-SolveEnds model limit end.Unfinished old new = AnswerPromise model limit end.Unfinished old new
-SolveEnds model limit end.ModelRefused old new = RefusesModel model old new
-SolveEnds model limit end.Fault old new = CutShort model limit old new
-SolveEnds model limit end.NoMemory old new = CutShort model limit old new
-SolveEnds model limit _ old new = ⊥
+abbrev pub SolveEnds : Bytes → Bytes → ℕ → Ended → State → State → Type 0
+SolveEnds model log limit end.Done old new = AnswerPromise model log limit end.Done old new
+SolveEnds model log limit end.Infeasible old new = AnswerPromise model log limit end.Infeasible old new
+SolveEnds model log limit end.Unfinished old new = AnswerPromise model log limit end.Unfinished old new
+SolveEnds model log limit end.ModelRefused old new = RefusesModel model old new
+SolveEnds model log limit end.Fault old new = CutShort model log limit old new
+SolveEnds model log limit end.NoMemory old new = CutShort model log limit old new
+SolveEnds model log limit _ old new = ⊥
 
-pub record SolvePromise (model : Bytes) (limit : ℕ) (result : Ended) (old new : State) : Type 0 where
+pub record SolvePromise (model log : Bytes) (limit : ℕ) (result : Ended) (old new : State) : Type 0 where
   -- nothing but these has changed
-  pub only : new ≡ record old { model = new.model; out = new.out; err = new.err; logged = new.logged; created = new.created; faults = new.faults }
-  pub ends : SolveEnds model limit result old new
+  pub only : new ≡ record old { model = new.model; out = new.out; err = new.err; logged = new.logged; created = new.created; logs = new.logs; faults = new.faults }
+  pub ends : SolveEnds model log limit result old new
 
 -- What `check` promises.
 
@@ -257,7 +261,7 @@ NoCommandEnds _ old new = ⊥
 
 abbrev pub CommandPromise : Option Command → Ended → State → State → Type 0
 CommandPromise None result old new = NoCommandEnds result old new
-CommandPromise (Some (Solve model log limit)) result old new = SolvePromise model limit result old new
+CommandPromise (Some (Solve model log limit)) result old new = SolvePromise model log limit result old new
 CommandPromise (Some (Check model log)) result old new = CheckPromise model log result old new
 CommandPromise (Some (Show model)) result old new = ShowPromise model result old new
 

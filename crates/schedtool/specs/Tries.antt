@@ -1,6 +1,6 @@
 -- What each step of a command does to the desk on the way.
 use Rattle.std.specs.Prelude.{◌≡◌, ◌⊎◌, ℕ, ◌≤◌, true, false, IsTrue, List, Result, Ok, Err, ⊤}
-use Rattle.sched_base.specs.State.{State, with_faults}
+use Rattle.sched_base.specs.State.{State, with_log, with_faults}
 use Rattle.sched_base.specs.Calls.{Rose}
 use Rattle.sched_model.specs.declared.types.Solved.{Solved}
 use Rattle.sched_model.specs.Data.{Data}
@@ -66,26 +66,26 @@ Loads name (Err s) old new = StopsReading name old new s
 -- Searching with a log.
 
 -- no log was created, or one was begun
-abbrev pub BeginsSearch : Data → State → State → Type 0
-BeginsSearch m old new = (new ≡ with_faults new.faults old) ⊎ (HoldsBegunLog m old.logged new.logged × (new ≡ record old { logged = new.logged; created = true; faults = new.faults }))
+abbrev pub BeginsSearch : Data → Bytes → State → State → Type 0
+BeginsSearch m log old new = (new ≡ with_faults new.faults old) ⊎ (HoldsBegunLog m old.logged new.logged × (new ≡ record old { logged = new.logged; created = true; logs = with_log log old.logs; faults = new.faults }))
 
-abbrev pub Searches : Data → ℕ → Result Solved Stop → State → State → Type 0
-Searches m limit (Ok solved) old new = LogPromise m limit solved old.logged new.logged × IsAnswer m solved.answer × (new ≡ record old { logged = new.logged; created = true })
-Searches m limit (Err stop.Fault) old new = Rose old.faults new.faults × (old.calm ≡ true → ⊥) × (old.faults ≤ new.faults) × BeginsSearch m old new
-Searches m limit (Err stop.NoMemory) old new = (old.faults ≤ new.faults) × BeginsSearch m old new
-Searches m limit (Err _) old new = ⊥
+abbrev pub Searches : Data → Bytes → ℕ → Result Solved Stop → State → State → Type 0
+Searches m log limit (Ok solved) old new = LogPromise m limit solved old.logged new.logged × IsAnswer m solved.answer × (new ≡ record old { logged = new.logged; created = true; logs = with_log log old.logs })
+Searches m log limit (Err stop.Fault) old new = Rose old.faults new.faults × (old.calm ≡ true → ⊥) × (old.faults ≤ new.faults) × BeginsSearch m log old new
+Searches m log limit (Err stop.NoMemory) old new = (old.faults ≤ new.faults) × BeginsSearch m log old new
+Searches m log limit (Err _) old new = ⊥
 
-abbrev pub SolveTried : Bytes → ℕ → Result Ended Stop → State → State → Type 0
-SolveTried model limit (Ok ended) old new = (new.faults ≡ old.faults) × (is_success ended ≡ true) × AnswerPromise model limit ended old new
-SolveTried model limit (Err stop.Fault) old new = IsFault model old new × CutShort model limit old new
-SolveTried model limit (Err stop.NoMemory) old new = (new.out ≡ old.out) × CutShort model limit old new
-SolveTried model limit (Err (stop.ModelRefused r)) old new = OnlyReads old new × (new.faults ≡ old.faults) × FileRefuses old model r
-SolveTried model limit (Err _) old new = ⊥
+abbrev pub SolveTried : Bytes → Bytes → ℕ → Result Ended Stop → State → State → Type 0
+SolveTried model log limit (Ok ended) old new = (new.faults ≡ old.faults) × (is_success ended ≡ true) × AnswerPromise model log limit ended old new
+SolveTried model log limit (Err stop.Fault) old new = IsFault model old new × CutShort model log limit old new
+SolveTried model log limit (Err stop.NoMemory) old new = (new.out ≡ old.out) × CutShort model log limit old new
+SolveTried model log limit (Err (stop.ModelRefused r)) old new = OnlyReads old new × (new.faults ≡ old.faults) × FileRefuses old model r
+SolveTried model log limit (Err _) old new = ⊥
 
-pub record TriesSolve (model : Bytes) (limit : ℕ) (result : Result Ended Stop) (old new : State) : Type 0 where
-  pub only : new ≡ record old { model = new.model; out = new.out; logged = new.logged; created = new.created; faults = new.faults }
+pub record TriesSolve (model log : Bytes) (limit : ℕ) (result : Result Ended Stop) (old new : State) : Type 0 where
+  pub only : new ≡ record old { model = new.model; out = new.out; logged = new.logged; created = new.created; logs = new.logs; faults = new.faults }
   pub later : old.faults ≤ new.faults
-  pub tried : SolveTried model limit result old new
+  pub tried : SolveTried model log limit result old new
 
 -- Checking a log.
 

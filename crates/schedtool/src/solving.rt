@@ -38,7 +38,7 @@ fn search_logged<D: Desk>(
 ) -> Result<Solved, Stop>
     requires limit { IsLimit nodes }
     requires served { IsTrue (is_served model.now) }
-    ensures { Searches model.now nodes result (D.state desk.old) (D.state desk.new) }
+    ensures { Searches model.now log.now nodes result (D.state desk.old) (D.state desk.new) }
 {
     desk.create_log(log)?;
     let solved = solve(alloc, model, u64::from(nodes), desk)?;
@@ -54,7 +54,7 @@ fn solve_file<D: Desk>(
     nodes: u32,
 ) -> Result<Ended, Stop>
     requires { IsLimit nodes }
-    ensures { TriesSolve name.now nodes result (D.state desk.old) (D.state desk.new) }
+    ensures { TriesSolve name.now log.now nodes result (D.state desk.old) (D.state desk.new) }
 {
     let model = load(alloc, desk, name)?;
     let solved = search_logged(alloc, desk, &model, log, nodes)?;

@@ -71,13 +71,15 @@ fn run_words(alloc: Global, words: &[&str], desk: &mut MemDesk) -> Result<Ended,
     Ok(run(alloc, list.as_slice(), desk))
 }
 
-/// What a run leaves behind: its status, what it wrote to the two streams, and its log.
+/// What a run leaves behind: its status, what it wrote to the two streams, its log, and the names of
+/// the logs that it created, each with a line feed.
 #[derive(Drop)]
 pub struct Told {
     pub status: u8,
     pub out: Vec<u8>,
     err: Vec<u8>,
     log: Vec<u8>,
+    logs: Vec<u8>,
 }
 
 impl Told {
@@ -99,7 +101,7 @@ impl Told {
 
     /// Whether the run ends so, with this on standard error and nothing else done.
     pub fn only_tells(&self, status: u8, err: &[u8]) -> bool {
-        self.prints(status, b"", err) && self.log.is_empty()
+        self.prints(status, b"", err) && self.log.is_empty() && self.logs.is_empty()
     }
 
     /// Whether the model is refused so, and nothing else done.
@@ -114,16 +116,27 @@ impl Told {
     }
 }
 
+fn lines_of(alloc: Global, names: &[List<u8>]) -> Result<Vec<u8>, NoMemory> {
+    let mut lines = Vec::new(alloc);
+    for name in names {
+        lines.extend_from_slice(name.as_slice())?;
+        lines.push(b'\n')?;
+    }
+    Ok(lines)
+}
+
 fn tell_on(alloc: Global, words: &[&str], desk: &mut MemDesk) -> Result<Told, NoMemory> {
     let ended = run_words(alloc, words, desk)?;
     let out = Vec::from_slice(alloc, desk.out())?;
     let err = Vec::from_slice(alloc, desk.err())?;
     let log = Vec::from_slice(alloc, desk.log_bytes())?;
+    let logs = lines_of(alloc, desk.logs())?;
     Ok(Told {
         status: ended.status(),
         out,
         err,
         log,
+        logs,
     })
 }
 
@@ -161,7 +174,7 @@ fn is_checked(alloc: Global, text: &str, solved: &Told) -> Result<bool, NoMemory
     Ok(told.status == 0 && agrees(solved.out.as_slice(), told.out.as_slice()))
 }
 
-/// Whether the answer of `solve` is so, and its log is accepted.
+/// Whether the answer of `solve` is so, and the one log that it created has its name and is accepted.
 fn is_solved(
     alloc: Global,
     text: &str,
@@ -170,7 +183,7 @@ fn is_solved(
     begin: &[u8],
     end: &[u8],
 ) -> Result<bool, NoMemory> {
-    if !solved.answers(status, begin, end) {
+    if !solved.answers(status, begin, end) || solved.logs.as_slice() != b"l\n".as_slice() {
         return Ok(false);
     }
     is_checked(alloc, text, solved)
