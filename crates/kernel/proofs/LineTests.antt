@@ -10,7 +10,7 @@ use Rattle.sched_model.specs.Valid.{IsValid}
 use Rattle.sched_model.specs.Value.{value_of}
 use Rattle.sched_model.specs.Domain.{fits_def}
 use Rattle.sched_model.specs.Solution.{is_solution, is_better, beats, objective_of}
-use Rattle.sched_model.proofs.Tested.{solution_from_test}
+use Rattle.sched_model.specs.laws.Tested.{solution_from_test}
 use Rattle.region.specs.laws.Lists.{placewise-length}
 use Rattle.region.specs.declared.types.Guess.{Guess}
 use Rattle.region.specs.Cells.{Region}

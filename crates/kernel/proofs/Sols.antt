@@ -17,7 +17,7 @@ use Rattle.region.specs.Looks.{IsRegionOf, is_narrowed}
 use Rattle.region.specs.Narrows.{HasPoint}
 use Rattle.region.specs.laws.Lists.{both_true, placewise-length}
 use Rattle.region.specs.laws.Settling.{test_from_allowed, same_choice}
-use Rattle.sched_model.proofs.Tested.{solution_from_test}
+use Rattle.sched_model.specs.laws.Tested.{solution_from_test}
 use Rattle.refute_basic.specs.laws.SameSlots.{value_same}
 use Rattle.refute_basic.specs.laws.Settled.{slots_fit}
 use Rattle.kernel.specs.declared.types.Found.{Found}

@@ -7,8 +7,6 @@ pub mod Present
 pub mod Levels
 pub mod Orders
 pub mod Cells
-pub mod Tested
 pub mod Segments
 pub mod Elements
-pub mod Corners
 pub mod Moments

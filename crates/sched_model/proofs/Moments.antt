@@ -21,7 +21,7 @@ use Rattle.sched_model.specs.Data.{Data, parts_of}
 use Rattle.sched_model.specs.Value.{is_present, start_of, end_of}
 use Rattle.sched_model.specs.Cumulative.{begin_of, between, corners, from_on, is_in_window, is_level_at, level_at, shape_at, signed}
 use Rattle.sched_model.specs.Changes.{IsInOrder, change, changes_in, keeps, keeps_at, pulse_changes, rise, shape_changes, sum_until}
-use Rattle.sched_model.proofs.Corners.{at_corners, every_moment, every_moment_of}
+use Rattle.sched_model.specs.laws.Corners.{at_corners, every_moment, every_moment_of}
 
 -- what a shape adds until a moment
 up_down : (minus : Bool) (u v h t : ℤ) → int_lt u v ≡ true

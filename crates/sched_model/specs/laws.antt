@@ -1,3 +1,5 @@
 pub mod Within
 pub mod Products
 pub mod Held
+pub mod Corners
+pub mod Tested

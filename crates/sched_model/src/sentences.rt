@@ -1,10 +1,11 @@
-ghost use Rattle.std.specs.Prelude.{◌≡◌, ◌<◌, ◌&&◌, length, true, is_some, IsTrue, ◌↔◌};
+ghost use Rattle.std.specs.Prelude.{◌≡◌, ◌<◌, ◌&&◌, Some, length, true, is_some, slice_get, IsTrue, ◌↔◌};
 ghost use Rattle.sched_model.specs.Hull.{hull_of};
 ghost use Rattle.std.specs.List.{list_all};
 ghost use Rattle.sched_model.specs.Words.{placewise};
 ghost use Rattle.sched_model.specs.Domain.{fits_def, is_in_domain};
 ghost use Rattle.sched_model.specs.Valid.{is_constraint};
-ghost use Rattle.sched_model.specs.Sentences.{holds, holds_at};
+ghost use Rattle.sched_model.specs.Sentences.{Holds, holds, holds_at};
+ghost use Rattle.sched_model.specs.declared.types.Constraint.{Constraint};
 ghost use Rattle.sched_model.specs.Solution.{IsSolution, is_solution, objective_of};
 ghost use Rattle.sched_model.specs.Value.{is_present, is_true, value_of};
 
@@ -83,17 +84,26 @@ fn holds_in(model: &Model, c: &Constraint, a: &Assignment) -> bool
     }
 }
 
-/// Whether the sentence of a constraint of the model holds.
 #[tactic(auto, using(crate::proofs::Elements::valid_there, crate::proofs::Elements::fits_from_domain))]
-pub fn holds(model: &Model, c: Con, a: &Assignment) -> bool
-    requires there { c.0 < length model.now.constraints }
-    requires domain { is_in_domain model.now a.now ≡ true }
+fn holds_there(model: &Model, c: Con, a: &Assignment) -> bool
+    requires { is_in_domain model.now a.now ≡ true }
     ensures { result ≡ holds_at model.now c a.now }
 {
     match at(model.constraints(), c.0 as usize) {
         None => false,
         Some(c) => holds_in(model, c, a),
     }
+}
+
+/// Whether the sentence of a constraint of the model holds, that of a cumulative function at each
+/// moment.
+pub fn holds(model: &Model, c: Con, a: &Assignment) -> bool
+    requires there { c.0 < length model.now.constraints }
+    requires domain { is_in_domain model.now a.now ≡ true }
+    ensures test { result ≡ holds_at model.now c a.now }
+    ensures sentence { (k : Constraint) → slice_get model.now.constraints c.0 ≡ Some k → IsTrue result ↔ Holds model.now a.now k }
+{
+    holds_there(model, c, a)
 }
 
 /// The value of the objective; none exactly where the model has no objective.
@@ -127,7 +137,7 @@ fn all_hold(model: &Model, a: &Assignment) -> bool
 }
 
 /// Whether the assignment is a solution: in the domain, and every constraint holds.
-#[tactic(auto, using(crate::proofs::Tested::solution_from_test, crate::proofs::Tested::test_from_solution, crate::proofs::Elements::fits_from_domain))]
+#[tactic(auto, using(crate::specs::laws::Tested::solution_from_test, crate::specs::laws::Tested::test_from_solution, crate::proofs::Elements::fits_from_domain))]
 pub fn is_solution(model: &Model, a: &Assignment) -> bool
     ensures test { result ≡ is_solution model.now a.now }
     ensures fact { IsTrue result ↔ IsSolution model.now a.now }
