@@ -10,3 +10,4 @@ pub mod Cells
 pub mod Segments
 pub mod Elements
 pub mod Moments
+pub mod Longer
