@@ -11,3 +11,4 @@ pub mod Segments
 pub mod Elements
 pub mod Moments
 pub mod Longer
+pub mod Neighbours

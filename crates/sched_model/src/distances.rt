@@ -1,7 +1,7 @@
 ghost use Rattle.std.specs.Prelude.{◌≡◌, ◌+ℤ◌, int_le, ◌+◌, ◌-◌, ◌*◌, ◌^◌, min, pos, slice_index_or};
 ghost use Rattle.std.specs.List.{position_or_len};
 ghost use Rattle.std.specs.Option.{option_copied};
-ghost use Rattle.sched_model.specs.Data.{distance, gap, matrix_of, members_of, same, type_of, types_of};
+ghost use Rattle.sched_model.specs.Data.{distance, matrix_of, members_of, same, type_of, types_of};
 
 use crate::slots::same;
 use crate::types::MatrixDef;
@@ -90,13 +90,4 @@ pub fn type_of(model: &Model, p: Seq, x: Itv) -> u32
 {
     let place = place_of(members_of(model, p), x);
     types_of(model, p).get(place).copied().unwrap_or(0)
-}
-
-/// The distance that a sequence keeps from one member to another.
-pub fn gap(model: &Model, p: Seq, matrix: Option<Mat>, x: Itv, y: Itv) -> i64
-    ensures { result ≡ gap model.now p matrix x y }
-{
-    let from = u64::from(type_of(model, p, x));
-    let to = u64::from(type_of(model, p, y));
-    distance(model, matrix, from, to)
 }

@@ -3,7 +3,7 @@ ghost use Rattle.sched_model.specs.Hull.{hull_of};
 ghost use Rattle.std.specs.List.{list_all};
 ghost use Rattle.sched_model.specs.Words.{placewise};
 ghost use Rattle.sched_model.specs.Domain.{fits_def, is_in_domain};
-ghost use Rattle.sched_model.specs.Valid.{is_constraint};
+ghost use Rattle.sched_model.specs.Valid.{IsValid, is_constraint};
 ghost use Rattle.sched_model.specs.Sentences.{Holds, holds, holds_at};
 ghost use Rattle.sched_model.specs.declared.types.Constraint.{Constraint};
 ghost use Rattle.sched_model.specs.Solution.{IsSolution, is_solution, objective_of};
@@ -35,9 +35,11 @@ fn are_both_present(a: &Assignment, x: Itv, y: Itv) -> bool
     is_present(a, x) && is_present(a, y)
 }
 
+#[tactic(auto, using(crate::proofs::Elements::fits_from_domain))]
 fn holds_in(model: &Model, c: &Constraint, a: &Assignment) -> bool
+    requires model { IsValid model.now }
     requires valid { is_constraint model.now c.now ≡ true }
-    requires fits { placewise fits_def model.now.intervals a.now.slots ≡ true }
+    requires domain { is_in_domain model.now a.now ≡ true }
     ensures { result ≡ holds model.now a.now c.now }
 {
     match c {
@@ -117,8 +119,9 @@ pub fn value(model: &Model, a: &Assignment) -> Option<i64>
 }
 
 fn all_hold_in(model: &Model, a: &Assignment, cs: &[Constraint]) -> bool
+    requires model { IsValid model.now }
     requires valid { list_all (is_constraint model.now) cs.now ≡ true }
-    requires fits { placewise fits_def model.now.intervals a.now.slots ≡ true }
+    requires domain { is_in_domain model.now a.now ≡ true }
     ensures { result ≡ list_all (holds model.now a.now) cs.now }
 {
     for c in cs {
@@ -130,7 +133,7 @@ fn all_hold_in(model: &Model, a: &Assignment, cs: &[Constraint]) -> bool
 }
 
 fn all_hold(model: &Model, a: &Assignment) -> bool
-    requires { placewise fits_def model.now.intervals a.now.slots ≡ true }
+    requires { is_in_domain model.now a.now ≡ true }
     ensures { result ≡ list_all (holds model.now a.now) model.now.constraints }
 {
     all_hold_in(model, a, model.constraints())

@@ -1,10 +1,10 @@
-ghost use Rattle.std.specs.Prelude.{◌≡◌, ◌<◌, ◌+◌, ◌+ℤ◌, drop, int_le, length, not, pos, slice_index, slice_index_or};
+ghost use Rattle.std.specs.Prelude.{◌≡◌, ◌<◌, ◌∷◌, ◌+◌, ◌+ℤ◌, drop, int_le, length, not, pos, slice_index, slice_index_or};
 ghost use Rattle.std.specs.List.{list_all};
 ghost use Rattle.sched_model.specs.Words.{adjacent, pairwise};
-ghost use Rattle.sched_model.specs.Data.{gap, has, same, type_of};
-ghost use Rattle.sched_model.specs.Sequence.{AreTypes, has_no_overlap, is_apart, is_first, is_last, stands_before, stands_next};
+ghost use Rattle.sched_model.specs.Data.{distance, gap, has, same, type_of};
+ghost use Rattle.sched_model.specs.Sequence.{AreTypes, RunsForward, has_no_overlap, is_apart, is_first, is_last, stands_before, stands_next};
 
-use crate::distances::{distance, fits_between, gap, type_of};
+use crate::distances::{distance, fits_between, matrix_of, type_of};
 use crate::slots::{end_of, is_present, same, start_of};
 use crate::types::Assignment;
 use crate::whole::Model;
@@ -72,12 +72,6 @@ fn is_apart_from_later(
     true
 }
 
-fn ends_before_each(a: &Assignment, x: Itv, ys: &[Itv]) -> bool
-    ensures { result ≡ list_all (is_apart a.now (pos 0) x) ys.now }
-{
-    ys.iter().all(|y| is_apart(a, 0, x, *y))
-}
-
 fn are_apart(model: &Model, a: &Assignment, p: Seq, matrix: Option<Mat>, xs: &[Itv]) -> bool
     ensures { result ≡ pairwise (λ x y. is_apart a.now (gap model.now p matrix x y) x y) xs.now }
 {
@@ -90,13 +84,70 @@ fn are_apart(model: &Model, a: &Assignment, p: Seq, matrix: Option<Mat>, xs: &[I
     true
 }
 
-fn are_disjoint(a: &Assignment, xs: &[Itv]) -> bool
-    ensures { result ≡ pairwise (is_apart a.now (pos 0)) xs.now }
+fn are_in_line(a: &Assignment, xs: &[Itv]) -> bool
+    ensures { result ≡ adjacent (is_apart a.now (pos 0)) xs.now }
 {
-    for i in 0..xs.len() {
-        if !ends_before_each(a, xs[i], &xs[i + 1..]) {
+    if xs.is_empty() {
+        return true;
+    }
+    for i in 0..xs.len() - 1 {
+        if !is_apart(a, 0, xs[i], xs[i + 1]) {
             return false;
         }
+    }
+    true
+}
+
+/// Whether each member of an order ends before each later one starts. Since none ends before it starts
+/// itself, it is enough to look at neighbours.
+fn are_disjoint(a: &Assignment, xs: &[Itv]) -> bool
+    requires { RunsForward a.now }
+    ensures { result ≡ pairwise (is_apart a.now (pos 0)) xs.now }
+{
+    are_in_line(a, xs)
+}
+
+/// Whether `y` keeps its distance from `x` before it, where they are of these types.
+fn keeps_gap(
+    model: &Model,
+    a: &Assignment,
+    matrix: Option<Mat>,
+    from: u32,
+    to: u32,
+    x: Itv,
+    y: Itv,
+) -> bool
+    ensures { result ≡ is_apart a.now (distance model.now matrix from to) x y }
+{
+    is_apart(
+        a,
+        distance(model, matrix, u64::from(from), u64::from(to)),
+        x,
+        y,
+    )
+}
+
+/// Whether some members, and `x` before them, keep their distances from one to the next. Each type is
+/// looked up once.
+fn follow_apart(
+    model: &Model,
+    a: &Assignment,
+    p: Seq,
+    matrix: Option<Mat>,
+    x: Itv,
+    ys: &[Itv],
+) -> bool
+    ensures { result ≡ adjacent (λ x y. is_apart a.now (gap model.now p matrix x y) x y) (x ∷ ys.now) }
+{
+    let mut before = x;
+    let mut from = type_of(model, p, x);
+    for y in ys {
+        let to = type_of(model, p, *y);
+        if !keeps_gap(model, a, matrix, from, to, before, *y) {
+            return false;
+        }
+        before = *y;
+        from = to;
     }
     true
 }
@@ -104,19 +155,13 @@ fn are_disjoint(a: &Assignment, xs: &[Itv]) -> bool
 fn are_next_apart(model: &Model, a: &Assignment, p: Seq, matrix: Option<Mat>, xs: &[Itv]) -> bool
     ensures { result ≡ adjacent (λ x y. is_apart a.now (gap model.now p matrix x y) x y) xs.now }
 {
-    if xs.is_empty() {
-        return true;
+    match xs.split_first() {
+        None => true,
+        Some((x, rest)) => follow_apart(model, a, p, matrix, *x, rest),
     }
-    for i in 0..xs.len() - 1 {
-        if !is_apart(a, gap(model, p, matrix, xs[i], xs[i + 1]), xs[i], xs[i + 1]) {
-            return false;
-        }
-    }
-    true
 }
 
-/// Whether the members of an order keep their distances.
-pub fn has_no_overlap(
+fn keep_distances(
     model: &Model,
     a: &Assignment,
     p: Seq,
@@ -124,6 +169,7 @@ pub fn has_no_overlap(
     direct: bool,
     xs: &[Itv],
 ) -> bool
+    requires { RunsForward a.now }
     ensures { result ≡ has_no_overlap model.now a.now p matrix direct xs.now }
 {
     if !direct {
@@ -133,6 +179,25 @@ pub fn has_no_overlap(
         return false;
     }
     are_next_apart(model, a, p, matrix, xs)
+}
+
+/// Whether the members of an order keep their distances. Without a matrix all distances are 0, and no
+/// types are looked up.
+pub fn has_no_overlap(
+    model: &Model,
+    a: &Assignment,
+    p: Seq,
+    matrix: Option<Mat>,
+    direct: bool,
+    xs: &[Itv],
+) -> bool
+    requires { RunsForward a.now }
+    ensures { result ≡ has_no_overlap model.now a.now p matrix direct xs.now }
+{
+    match matrix_of(model, matrix) {
+        None => are_disjoint(a, xs),
+        Some(_) => keep_distances(model, a, p, matrix, direct, xs),
+    }
 }
 
 /// Whether `x` stands before `y` in an order.
