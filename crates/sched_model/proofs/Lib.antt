@@ -12,3 +12,4 @@ pub mod Elements
 pub mod Moments
 pub mod Longer
 pub mod Neighbours
+pub mod Behind

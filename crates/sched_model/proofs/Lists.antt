@@ -13,7 +13,7 @@ adjacent_end r (x ∷ y ∷ zs) zero past = absurd (omega (arith, past))
 adjacent_end r (x ∷ xs) (suc i) past = adjacent_end r xs i (omega (arith, past))
 
 -- pairs that don't pass a test: the next element against those behind it
-any_not : {X : Type 0} (p : X → Bool) (xs : List X) → list_all (λ x. not (p x)) xs ≡ not (list_any p xs)
+pub any_not : {X : Type 0} (p : X → Bool) (xs : List X) → list_all (λ x. not (p x)) xs ≡ not (list_any p xs)
 any_not p [] = refl
 any_not p (x ∷ xs) = ap (λ b. not (p x) && b) (any_not p xs) ∙ not_or (p x) (list_any p xs)
   where

@@ -90,7 +90,7 @@ rest_none m g every v is = ap (λ b. b && pairwise (keeps_from m g every v) is) 
     each (j ∷ js) = each js
 
 -- from pairs of some states to all
-all_implied : {X : Type 0} (p q : X → Bool) → ((x : X) → p x ≡ true → q x ≡ true) → (xs : List X) → list_all p xs ≡ true → list_all q xs ≡ true
+pub all_implied : {X : Type 0} (p q : X → Bool) → ((x : X) → p x ≡ true → q x ≡ true) → (xs : List X) → list_all p xs ≡ true → list_all q xs ≡ true
 all_implied p q each [] h = refl
 all_implied p q each (x ∷ xs) h = let parts = and_parts (p x) (list_all p xs) h in and_from (q x) (list_all q xs) (each x parts.0) (all_implied p q each xs parts.1)
 
@@ -134,7 +134,7 @@ below_more_state m g is v w h same from = let i : pairwise (keeps_from m g false
         smaller : (n v : ℕ) → nat_lt n (v + 1) ≡ true → nat_eq n v ≡ false → nat_lt n v ≡ true
         smaller n v h e = grind (arith, nat_tests)
 
-pairs_kept : {X : Type 0} (p q : X → X → Bool) → ((x y : X) → p x y ≡ true → q x y ≡ true) → (xs : List X) → pairwise p xs ≡ true → pairwise q xs ≡ true
+pub pairs_kept : {X : Type 0} (p q : X → X → Bool) → ((x y : X) → p x y ≡ true → q x y ≡ true) → (xs : List X) → pairwise p xs ≡ true → pairwise q xs ≡ true
 pairs_kept p q each xs h = pairs_implied p p q (λ x y a b. each x y a) xs h h
 
 weaker : (every : Bool) (b : Bool) → b ≡ true → (every implies b) ≡ true

@@ -1,13 +1,14 @@
-ghost use Rattle.std.specs.Prelude.{◌≡◌, ◌&&◌, int_le, not};
+ghost use Rattle.std.specs.Prelude.{◌≡◌, ◌&&◌, int_le, false, not, true};
+ghost use Rattle.std.specs.List.Sorted.{IsPartitionPoint};
 ghost use Rattle.std.specs.Ordering.{int_eq};
 ghost use Rattle.std.specs.List.{list_all, list_any};
 ghost use Rattle.sched_model.specs.Words.{◌implies◌};
-ghost use Rattle.sched_model.specs.Value.{segments_of};
-ghost use Rattle.sched_model.specs.States.{demands, lies_in, shares_moment};
+ghost use Rattle.sched_model.specs.Value.{segments_of, start_of};
+ghost use Rattle.sched_model.specs.States.{are_apart, demands, first_behind, lies_in, shares_moment};
 
 use crate::slots::{end_of, is_present, segments_of, start_of};
 use crate::types::{Assignment, Segment};
-use sched_base::{Itv, Stf};
+use sched_base::{Itv, Stf, at};
 
 fn demands(a: &Assignment, x: Itv) -> bool
     ensures { result ≡ demands a.now x }
@@ -55,6 +56,30 @@ fn shares_moment(a: &Assignment, x: Itv, g: Segment) -> bool
     g.p.max(start_of(a, x)) < g.q.min(end_of(a, x))
 }
 
+fn ends_by(g: Segment, t: i64) -> bool
+    ensures { result ≡ int_le g.q t }
+{
+    g.q <= t
+}
+
+/// How many segments end by a moment. They come first, and are counted by halving.
+fn count_ended(is: &[Segment], t: i64) -> usize
+    requires { are_apart is.now ≡ true }
+    ensures { IsPartitionPoint (λ i. int_le i.q t ≡ true) (λ i. int_le i.q t ≡ false) is.now result }
+{
+    is.partition_point(|i| ends_by(*i, t))
+}
+
+/// The first segment that ends after the start of an interval.
+fn first_behind(a: &Assignment, x: Itv, is: &[Segment]) -> Option<Segment>
+    requires { are_apart is.now ≡ true }
+    ensures { result ≡ first_behind (start_of a.now x) is.now }
+{
+    at(is, count_ended(is, start_of(a, x))).copied()
+}
+
+/// Whether an interval that demands something lies in a segment of the state: earlier segments than
+/// the one that is tried end by its start, and later ones begin after it.
 fn lies_in_some(
     a: &Assignment,
     x: Itv,
@@ -63,10 +88,14 @@ fn lies_in_some(
     end_aligned: bool,
     is: &[Segment],
 ) -> bool
+    requires apart { are_apart is.now ≡ true }
+    requires demanded { demands a.now x ≡ true }
     ensures { result ≡ list_any (lies_in a.now x v start_aligned end_aligned) is.now }
 {
-    is.iter()
-        .any(|i| lies_in(a, x, v, start_aligned, end_aligned, *i))
+    match first_behind(a, x, is) {
+        None => false,
+        Some(i) => lies_in(a, x, v, start_aligned, end_aligned, i),
+    }
 }
 
 /// Whether the interval lies in a segment of the state, where it demands one.
@@ -78,6 +107,7 @@ pub fn has_state(
     start_aligned: bool,
     end_aligned: bool,
 ) -> bool
+    requires { are_apart (segments_of a.now g) ≡ true }
     ensures { result ≡ demands a.now x implies list_any (lies_in a.now x v start_aligned end_aligned) (segments_of a.now g) }
 {
     if !demands(a, x) {
@@ -86,24 +116,26 @@ pub fn has_state(
     lies_in_some(a, x, v, start_aligned, end_aligned, segments_of(a, g))
 }
 
-fn is_free_of(a: &Assignment, x: Itv, g: Segment) -> bool
-    ensures { result ≡ not (shares_moment a.now x g) }
-{
-    !shares_moment(a, x, g)
-}
-
-fn are_free_of(a: &Assignment, x: Itv, is: &[Segment]) -> bool
+/// Whether an interval that demands something shares no moment with a segment: where the first that
+/// ends after its start begins behind it, so do all later ones.
+fn is_free_of(a: &Assignment, x: Itv, is: &[Segment]) -> bool
+    requires apart { are_apart is.now ≡ true }
+    requires demanded { demands a.now x ≡ true }
     ensures { result ≡ list_all (λ i. not (shares_moment a.now x i)) is.now }
 {
-    is.iter().all(|i| is_free_of(a, x, *i))
+    match first_behind(a, x, is) {
+        None => true,
+        Some(i) => !shares_moment(a, x, i),
+    }
 }
 
 /// Whether the interval shares no moment with a segment, where it demands this.
 pub fn has_no_state(a: &Assignment, g: Stf, x: Itv) -> bool
+    requires { are_apart (segments_of a.now g) ≡ true }
     ensures { result ≡ demands a.now x implies list_all (λ i. not (shares_moment a.now x i)) (segments_of a.now g) }
 {
     if !demands(a, x) {
         return true;
     }
-    are_free_of(a, x, segments_of(a, g))
+    is_free_of(a, x, segments_of(a, g))
 }
