@@ -1,9 +1,8 @@
--- A test at all moments at which the level of a cumulative function can change, part after part.
-use Rattle.std.proofs.Common.{◌≡◌, ℕ, ◌+◌, ◌<◌, ◌≤◌, ℤ, pos, ◌+ℤ◌, Bool, true, false, ◌&&◌, List, [], ◌∷◌, length, map, drop, get_or, refl, sym, ap, ◌∙◌, arith}
+-- The test of a level at a moment, and the sum over the parts.
+use Rattle.std.proofs.Common.{◌≡◌, ℕ, ◌+◌, ◌<◌, ◌≤◌, ℤ, pos, ◌+ℤ◌, Bool, true, false, ◌&&◌, List, length, map, drop, get_or, sym, ap, ◌∙◌, arith}
 use Rattle.std.proofs.lemmas.Int.{ints}
 use Rattle.std.proofs.lemmas.List.{at_drop_more, at_drop_all}
 use Rattle.std.specs.List.{list_all, flat_map}
-use Rattle.std.proofs.lemmas.List.Folds.{list_all-append}
 use Rattle.sched_base.specs.declared.ids.Cum.{Cum}
 use Rattle.sched_model.specs.declared.types.Part.{Part}
 use Rattle.sched_model.specs.declared.types.Assignment.{Assignment}
@@ -11,10 +10,6 @@ use Rattle.sched_model.specs.declared.types.Window.{Window}
 use Rattle.sched_model.specs.Data.{Data, parts_of}
 use Rattle.sched_model.specs.Words.{◌implies◌, is_between, total}
 use Rattle.sched_model.specs.Cumulative.{begin_of, changes_of, corners, is_in_window, is_level_at, level_at, shape_at, signed}
-
-all_flat : {X Y : Type 0} (p : Y → Bool) (f : X → List Y) (xs : List X) → list_all p (flat_map f xs) ≡ list_all (λ x. list_all p (f x)) xs
-all_flat p f [] = refl
-all_flat p f (x ∷ xs) = list_all-append p (f x) (flat_map f xs) ∙ ap (λ b. list_all p (f x) && b) (all_flat p f xs)
 
 pub level_by : (m : Data) (a : Assignment) (f : Cum) (w : Window) (lo hi t lo' hi' t' z z' : ℤ) (is : List Part) (b : Bool) → true ≡ is_in_window a w t' → is ≡ parts_of m f
     → z ≡ total (map (λ i. signed i.minus (shape_at a i.shape t')) is) → b ≡ is_between lo' hi' z' → t' ≡ t → lo' ≡ lo → hi' ≡ hi → z' ≡ z → b ≡ is_level_at m a f w lo hi t
@@ -26,13 +21,6 @@ level_by m a f w lo hi t lo' hi' t' z z' is b inside parts sum within same_t sam
 
 pub level_fails : (m : Data) (a : Assignment) (f : Cum) (w : Window) (lo hi t : ℤ) → t ≡ begin_of a w → false ≡ is_level_at m a f w lo hi t → false ≡ list_all (is_level_at m a f w lo hi) (corners m a f w)
 level_fails m a f w lo hi t begin h = ap (λ b. b && list_all (is_level_at m a f w lo hi) (flat_map (λ i. changes_of a i.shape) (parts_of m f))) (h ∙ ap (is_level_at m a f w lo hi) begin)
-
-pub levels_by : (m : Data) (a : Assignment) (f : Cum) (w : Window) (lo hi t : ℤ) (is : List Part) (s : Bool) → t ≡ begin_of a w → true ≡ is_level_at m a f w lo hi t → is ≡ parts_of m f
-    → s ≡ list_all (λ i. list_all (is_level_at m a f w lo hi) (changes_of a i.shape)) is → s ≡ list_all (is_level_at m a f w lo hi) (corners m a f w)
-levels_by m a f w lo hi t is s begin h parts each =
-    each ∙ ap (list_all (λ i. list_all (is_level_at m a f w lo hi) (changes_of a i.shape))) parts
-    ∙ sym (all_flat (is_level_at m a f w lo hi) (λ j. changes_of a j.shape) (parts_of m f))
-    ∙ ap (λ b. b && list_all (is_level_at m a f w lo hi) (flat_map (λ j. changes_of a j.shape) (parts_of m f))) (h ∙ ap (is_level_at m a f w lo hi) begin)
 
 regroup : (x y z w : ℤ) → w ≡ x +ℤ y → x +ℤ (y +ℤ z) ≡ w +ℤ z
 regroup x y z w h = omega (arith, ints, h)

@@ -13,3 +13,4 @@ pub mod Moments
 pub mod Longer
 pub mod Neighbours
 pub mod Behind
+pub mod Blocks

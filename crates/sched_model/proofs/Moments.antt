@@ -5,23 +5,19 @@ use Rattle.std.specs.Ordering.{int_eq, int_cmp, is_lt}
 use Rattle.std.specs.List.{list_all, list_any, swap}
 use Rattle.std.specs.List.Sorted.{IsPermutation}
 use Rattle.std.proofs.lemmas.Int.{ints}
-use Rattle.std.proofs.lemmas.Bool.{and_from, cases_eq, or_parts}
+use Rattle.std.proofs.lemmas.Bool.{cases_eq, or_parts}
 use Rattle.std.proofs.lemmas.List.{at_drop_more, take_more, get_or-set_same, get_or-set_other, length-set}
-use Rattle.std.proofs.lemmas.List.Folds.{list_all-map}
 use Rattle.std.proofs.lemmas.List.Sorted.{IsPermutation-keeps}
-use Rattle.sched_base.specs.declared.ids.Cum.{Cum}
 use Rattle.sched_model.specs.declared.types.Shape.{Shape}
 use Rattle.sched_model.specs.declared.types.Shape.TheVariants.{Pulse, Step, PulseOf, StepAtStart, StepAtEnd}
 use Rattle.sched_model.specs.declared.types.Part.{Part}
 use Rattle.sched_model.specs.declared.types.Assignment.{Assignment}
 use Rattle.sched_model.specs.declared.types.Window.{Window}
 use Rattle.sched_model.specs.declared.changes.Change.{Change}
-use Rattle.sched_model.specs.Words.{◌implies◌, is_between, passes, total}
-use Rattle.sched_model.specs.Data.{Data, parts_of}
+use Rattle.sched_model.specs.Words.{passes, total}
 use Rattle.sched_model.specs.Value.{is_present, start_of, end_of}
-use Rattle.sched_model.specs.Cumulative.{begin_of, between, corners, from_on, is_in_window, is_level_at, level_at, shape_at, signed}
+use Rattle.sched_model.specs.Cumulative.{between, from_on, shape_at, signed}
 use Rattle.sched_model.specs.Changes.{IsInOrder, change, changes_in, keeps, keeps_at, pulse_changes, rise, shape_changes, sum_until}
-use Rattle.sched_model.specs.laws.Corners.{at_corners, every_moment, every_moment_of}
 
 -- what a shape adds until a moment
 up_down : (minus : Bool) (u v h t : ℤ) → int_lt u v ≡ true
@@ -67,7 +63,7 @@ until_append t (x ∷ xs) ys = regroup (cond (int_le x.t t) (rise x) (pos 0)) (s
     regroup : (p q r s : ℤ) → q ≡ r +ℤ s → p +ℤ q ≡ (p +ℤ r) +ℤ s
     regroup p q r s h = omega (arith, ints, h)
 
-parts_until : (a : Assignment) (is : List Part) (t : ℤ) → sum_until t (changes_in a is) ≡ total (map (λ i. signed i.minus (shape_at a i.shape t)) is)
+pub parts_until : (a : Assignment) (is : List Part) (t : ℤ) → sum_until t (changes_in a is) ≡ total (map (λ i. signed i.minus (shape_at a i.shape t)) is)
 parts_until a [] t = refl
 parts_until a (i ∷ is) t = until_append t (shape_changes a i.minus i.shape) (changes_in a is)
     ∙ ap (λ z. z +ℤ sum_until t (changes_in a is)) (shape_until a i.minus i.shape t)
@@ -106,7 +102,7 @@ pub until_permuted : (t : ℤ) (xs ys : List Change) → IsPermutation xs ys →
 until_permuted t xs ys moved = IsPermutation-keeps xs (λ zs. sum_until t zs ≡ sum_until t xs) refl (λ l i j in_i in_j e. total_swap (λ c. cond (int_le c.t t) (rise c) (pos 0)) l i j in_i in_j ∙ e) ys moved
 
 -- a sum of changes stays where none is
-until_same : (cs : List Change) (t : ℤ) → list_any (int_eq t) (map (λ c. c.t) cs) ≡ false → sum_until t cs ≡ sum_until (t -ℤ pos 1) cs
+pub until_same : (cs : List Change) (t : ℤ) → list_any (int_eq t) (map (λ c. c.t) cs) ≡ false → sum_until t cs ≡ sum_until (t -ℤ pos 1) cs
 until_same [] t h = refl
 until_same (c ∷ cs) t h =
     let parts = or_parts (int_eq t c.t) (list_any (int_eq t) (map (λ c. c.t) cs)) h in
@@ -117,34 +113,6 @@ until_same (c ∷ cs) t h =
 
     joined : (p q r s : ℤ) → p ≡ q → r ≡ s → p +ℤ r ≡ q +ℤ s
     joined p q r s e f = omega (arith, ints, e, f)
-
-all_of_each : (p : ℤ → Bool) (ts : List ℤ) → ((t : ℤ) → p t ≡ true) → list_all p ts ≡ true
-all_of_each p [] each = refl
-all_of_each p (t ∷ ts) each = and_from (p t) (list_all p ts) (each t) (all_of_each p ts each)
-
--- the test at each change decides as that at each corner
-pub changes_decide : (m : Data) (a : Assignment) (f : Cum) (w : Window) (lo hi u : ℤ) (is : List Part) (cs : List Change) (s : Bool) → u ≡ begin_of a w → true ≡ is_level_at m a f w lo hi u → is ≡ parts_of m f
-    → IsPermutation (changes_in a is) cs → s ≡ list_all (λ c. keeps_at a w lo hi cs c.t) cs → s ≡ list_all (is_level_at m a f w lo hi) (corners m a f w)
-changes_decide m a f w lo hi u is cs s begin first parts moved tested = decided s refl
-  where
-    level : (t : ℤ) → sum_until t cs ≡ level_at m a f t
-    level t = until_permuted t (changes_in a is) cs moved ∙ parts_until a is t ∙ ap (λ js. total (map (λ i. signed i.minus (shape_at a i.shape t)) js)) parts
-
-    same : (t : ℤ) → keeps_at a w lo hi cs t ≡ is_level_at m a f w lo hi t
-    same t = ap (λ z. is_in_window a w t implies is_between lo hi z) (level t)
-
-    at_changes : list_all (λ c. keeps_at a w lo hi cs c.t) cs ≡ list_all (keeps_at a w lo hi cs) (map (λ c. c.t) cs)
-    at_changes = sym (list_all-map (keeps_at a w lo hi cs) (λ c. c.t) cs)
-
-    decided : (b : Bool) → s ≡ b → s ≡ list_all (is_level_at m a f w lo hi) (corners m a f w)
-    decided true e = e ∙ sym (at_corners m a f w lo hi (corners m a f w) (λ t. sym (same t) ∙
-        every_moment_of a w lo hi (λ v. sum_until v cs) (map (λ c. c.t) cs) (until_same cs)
-        (and_from _ _ (same (begin_of a w) ∙ ap (is_level_at m a f w lo hi) (sym begin) ∙ sym first) (sym at_changes ∙ sym tested ∙ e)) t))
-    decided false e = other (list_all (is_level_at m a f w lo hi) (corners m a f w)) refl
-      where
-        other : (b : Bool) → list_all (is_level_at m a f w lo hi) (corners m a f w) ≡ b → s ≡ list_all (is_level_at m a f w lo hi) (corners m a f w)
-        other false k = e ∙ sym k
-        other true k = let all : list_all (λ c. keeps_at a w lo hi cs c.t) cs ≡ true = at_changes ∙ all_of_each (keeps_at a w lo hi cs) (map (λ c. c.t) cs) (λ t. same t ∙ every_moment m a f w lo hi k t) in cc
 
 -- the way through sorted changes
 pub in_order_from_sort : (cs : List Change) → ((k : ℕ) (d : Change) → 0 ≤ k → k + 1 < length cs → is_lt (int_cmp (get_or cs (k + 1) d).t (get_or cs k d).t) ≡ false) → IsInOrder cs
@@ -219,7 +187,7 @@ is_next (c ∷ cs) zero t d e = (omega arith, alike c.t t e)
     alike u t e = grind (arith, ints)
 is_next (c ∷ cs) (suc k) t d e = let rest = is_next cs k t d e in (let h : k < length cs = rest.0 in omega (arith, h), rest.1)
 
-pub sum_more : (cs : List Change) (i : ℕ) (d : Change) (level next : ℤ) → level ≡ total (map rise (take i cs)) → i < length cs → next ≡ level +ℤ rise (get_or cs i d) → next ≡ total (map rise (take (i + 1) cs))
+sum_more : (cs : List Change) (i : ℕ) (d : Change) (level next : ℤ) → level ≡ total (map rise (take i cs)) → i < length cs → next ≡ level +ℤ rise (get_or cs i d) → next ≡ total (map rise (take (i + 1) cs))
 sum_more cs i d level next before h is = is ∙ ap (λ z. z +ℤ rise (get_or cs i d)) before ∙ sym (ap (λ ys. total (map rise ys)) (take_more cs i d h) ∙ pushed (take i cs) (get_or cs i d))
   where
     pushed : (xs : List Change) (c : Change) → total (map rise (xs ++ c ∷ [])) ≡ total (map rise xs) +ℤ rise c
@@ -232,44 +200,53 @@ sum_more cs i d level next before h is = is ∙ ap (λ z. z +ℤ rise (get_or cs
         regroup : (p q r s : ℤ) → q ≡ r +ℤ s → p +ℤ q ≡ (p +ℤ r) +ℤ s
         regroup p q r s e = omega (arith, ints, e)
 
+-- the same on what was there before
+pub sum_on : (cs : List Change) (i : ℕ) (d : Change) (z level next : ℤ) → level ≡ z +ℤ total (map rise (take i cs)) → i < length cs → next ≡ level +ℤ rise (get_or cs i d) → next ≡ z +ℤ total (map rise (take (i + 1) cs))
+sum_on cs i d z level next before h is =
+    is ∙ ap (λ y. y +ℤ rise (get_or cs i d)) before ∙ regroup z (total (map rise (take i cs))) (rise (get_or cs i d))
+    ∙ ap (λ y. z +ℤ y) (sum_more cs i d (total (map rise (take i cs))) (total (map rise (take i cs)) +ℤ rise (get_or cs i d)) refl h refl)
+  where
+    regroup : (p q r : ℤ) → (p +ℤ q) +ℤ r ≡ p +ℤ (q +ℤ r)
+    regroup p q r = omega (arith, ints)
+
 -- another change of the moment follows: it is tried there
-pub skip_turn : (a : Assignment) (w : Window) (lo hi : ℤ) (cs : List Change) (i : ℕ) (d : Change) (whole : Bool) → list_all (λ c. keeps_at a w lo hi cs c.t) (drop i cs) ≡ whole → i < length cs
-    → true ≡ passes (λ c. int_eq c.t (get_or cs i d).t) (slice_get cs (i + 1)) → list_all (λ c. keeps_at a w lo hi cs c.t) (drop (i + 1) cs) ≡ whole
-skip_turn a w lo hi cs i d whole before h follows =
+pub skip_turn : (a : Assignment) (w : Window) (lo hi z : ℤ) (cs : List Change) (i : ℕ) (d : Change) (whole : Bool) → list_all (λ c. keeps_at a w lo hi z cs c.t) (drop i cs) ≡ whole → i < length cs
+    → true ≡ passes (λ c. int_eq c.t (get_or cs i d).t) (slice_get cs (i + 1)) → list_all (λ c. keeps_at a w lo hi z cs c.t) (drop (i + 1) cs) ≡ whole
+skip_turn a w lo hi z cs i d whole before h follows =
     let next = is_next cs (i + 1) (get_or cs i d).t d follows in
     at_drop_more (list_all p) cs (i + 1) d next.0
     ∙ doubled (p (get_or cs (i + 1) d)) (list_all p (drop (i + 1 + 1) cs))
-    ∙ ap (λ t. keeps_at a w lo hi cs t && (p (get_or cs (i + 1) d) && list_all p (drop (i + 1 + 1) cs))) next.1
+    ∙ ap (λ t. keeps_at a w lo hi z cs t && (p (get_or cs (i + 1) d) && list_all p (drop (i + 1 + 1) cs))) next.1
     ∙ ap (λ b. p (get_or cs i d) && b) (sym (at_drop_more (list_all p) cs (i + 1) d next.0))
     ∙ sym (at_drop_more (list_all p) cs i d h)
     ∙ before
   where
     p : Change → Bool
-    p c = keeps_at a w lo hi cs c.t
+    p c = keeps_at a w lo hi z cs c.t
 
     doubled : (b c : Bool) → (b && c) ≡ (b && (b && c))
     doubled true c = refl
     doubled false c = refl
 
-level_here : (a : Assignment) (w : Window) (lo hi : ℤ) (cs : List Change) (i : ℕ) (d : Change) (level : ℤ) (b : Bool) → IsInOrder cs → i < length cs
-    → false ≡ passes (λ c. int_eq c.t (get_or cs i d).t) (slice_get cs (i + 1)) → level ≡ total (map rise (take (i + 1) cs)) → b ≡ keeps a w lo hi (get_or cs i d).t level
-    → b ≡ keeps_at a w lo hi cs (get_or cs i d).t
-level_here a w lo hi cs i d level b order h last sum is =
-    is ∙ ap (keeps a w lo hi (get_or cs i d).t) (sum ∙ ap (λ n. total (map rise (take n cs))) (one i) ∙ summed cs i d order h (λ within. not_at cs (i + 1) (get_or cs i d).t d last within (order i d within)))
+level_here : (a : Assignment) (w : Window) (lo hi z : ℤ) (cs : List Change) (i : ℕ) (d : Change) (level : ℤ) (b : Bool) → IsInOrder cs → i < length cs
+    → false ≡ passes (λ c. int_eq c.t (get_or cs i d).t) (slice_get cs (i + 1)) → level ≡ z +ℤ total (map rise (take (i + 1) cs)) → b ≡ keeps a w lo hi (get_or cs i d).t level
+    → b ≡ keeps_at a w lo hi z cs (get_or cs i d).t
+level_here a w lo hi z cs i d level b order h last sum is =
+    is ∙ ap (keeps a w lo hi (get_or cs i d).t) (sum ∙ ap (λ y. z +ℤ y) (ap (λ n. total (map rise (take n cs))) (one i) ∙ summed cs i d order h (λ within. not_at cs (i + 1) (get_or cs i d).t d last within (order i d within))))
   where
     one : (i : ℕ) → i + 1 ≡ suc i
     one i = omega arith
 
-pub keep_turn : (a : Assignment) (w : Window) (lo hi : ℤ) (cs : List Change) (i : ℕ) (d : Change) (level : ℤ) (whole : Bool) → IsInOrder cs → list_all (λ c. keeps_at a w lo hi cs c.t) (drop i cs) ≡ whole → i < length cs
-    → false ≡ passes (λ c. int_eq c.t (get_or cs i d).t) (slice_get cs (i + 1)) → level ≡ total (map rise (take (i + 1) cs)) → true ≡ keeps a w lo hi (get_or cs i d).t level
-    → list_all (λ c. keeps_at a w lo hi cs c.t) (drop (i + 1) cs) ≡ whole
-keep_turn a w lo hi cs i d level whole order before h last sum is =
-    ap (λ b. b && list_all (λ c. keeps_at a w lo hi cs c.t) (drop (i + 1) cs)) (level_here a w lo hi cs i d level true order h last sum is)
-    ∙ sym (at_drop_more (list_all (λ c. keeps_at a w lo hi cs c.t)) cs i d h) ∙ before
+pub keep_turn : (a : Assignment) (w : Window) (lo hi z : ℤ) (cs : List Change) (i : ℕ) (d : Change) (level : ℤ) (whole : Bool) → IsInOrder cs → list_all (λ c. keeps_at a w lo hi z cs c.t) (drop i cs) ≡ whole → i < length cs
+    → false ≡ passes (λ c. int_eq c.t (get_or cs i d).t) (slice_get cs (i + 1)) → level ≡ z +ℤ total (map rise (take (i + 1) cs)) → true ≡ keeps a w lo hi (get_or cs i d).t level
+    → list_all (λ c. keeps_at a w lo hi z cs c.t) (drop (i + 1) cs) ≡ whole
+keep_turn a w lo hi z cs i d level whole order before h last sum is =
+    ap (λ b. b && list_all (λ c. keeps_at a w lo hi z cs c.t) (drop (i + 1) cs)) (level_here a w lo hi z cs i d level true order h last sum is)
+    ∙ sym (at_drop_more (list_all (λ c. keeps_at a w lo hi z cs c.t)) cs i d h) ∙ before
 
-pub keep_stop : (a : Assignment) (w : Window) (lo hi : ℤ) (cs : List Change) (i : ℕ) (d : Change) (level : ℤ) (whole : Bool) → IsInOrder cs → list_all (λ c. keeps_at a w lo hi cs c.t) (drop i cs) ≡ whole → i < length cs
-    → false ≡ passes (λ c. int_eq c.t (get_or cs i d).t) (slice_get cs (i + 1)) → level ≡ total (map rise (take (i + 1) cs)) → false ≡ keeps a w lo hi (get_or cs i d).t level
+pub keep_stop : (a : Assignment) (w : Window) (lo hi z : ℤ) (cs : List Change) (i : ℕ) (d : Change) (level : ℤ) (whole : Bool) → IsInOrder cs → list_all (λ c. keeps_at a w lo hi z cs c.t) (drop i cs) ≡ whole → i < length cs
+    → false ≡ passes (λ c. int_eq c.t (get_or cs i d).t) (slice_get cs (i + 1)) → level ≡ z +ℤ total (map rise (take (i + 1) cs)) → false ≡ keeps a w lo hi (get_or cs i d).t level
     → false ≡ whole
-keep_stop a w lo hi cs i d level whole order before h last sum is =
-    ap (λ b. b && list_all (λ c. keeps_at a w lo hi cs c.t) (drop (i + 1) cs)) (level_here a w lo hi cs i d level false order h last sum is)
-    ∙ sym (at_drop_more (list_all (λ c. keeps_at a w lo hi cs c.t)) cs i d h) ∙ before
+keep_stop a w lo hi z cs i d level whole order before h last sum is =
+    ap (λ b. b && list_all (λ c. keeps_at a w lo hi z cs c.t) (drop (i + 1) cs)) (level_here a w lo hi z cs i d level false order h last sum is)
+    ∙ sym (at_drop_more (list_all (λ c. keeps_at a w lo hi z cs c.t)) cs i d h) ∙ before

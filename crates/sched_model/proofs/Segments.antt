@@ -107,11 +107,11 @@ pairs_implied p q r each (x ∷ xs) h i =
 abbrev pub keeps_below : Data → StateDef → ℕ → Segment → Segment → Bool
 keeps_below m g v i j = nat_lt (nat_abs i.v) v implies keeps_distance m g i j
 
-implied_true : (p q : Bool) → (p ≡ true → q ≡ true) → (p implies q) ≡ true
+pub implied_true : (p q : Bool) → (p ≡ true → q ≡ true) → (p implies q) ≡ true
 implied_true true q h = h refl
 implied_true false q h = refl
 
-implied : (p q : Bool) → (p implies q) ≡ true → p ≡ true → q ≡ true
+pub implied : (p q : Bool) → (p implies q) ≡ true → p ≡ true → q ≡ true
 implied true q h is = h
 implied false q h is = cc
 

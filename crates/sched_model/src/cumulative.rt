@@ -1,10 +1,11 @@
-ghost use Rattle.std.specs.Prelude.{◌≡◌, ◌^◌, ◌≤ℤ◌, map, neg_ℤ, pos};
+ghost use Rattle.std.specs.Prelude.{◌≡◌, ◌^◌, ℤ, ◌+ℤ◌, ◌≤ℤ◌, ◌<ℤ◌, MatchOption, map, neg_ℤ, pos, true};
 ghost use Rattle.std.specs.List.{list_all};
 ghost use Rattle.sched_model.specs.Words.{is_between, total};
 ghost use Rattle.sched_model.specs.Data.{parts_of};
-ghost use Rattle.sched_model.specs.Cumulative.{begin_of, between, changes_of, corners, from_on, is_in_window, is_level_at, level_at, shape_at, signed};
+ghost use Rattle.sched_model.specs.Changes.{end_of_window, keep_inside, window_span};
+ghost use Rattle.sched_model.specs.Cumulative.{begin_of, between, corners, from_on, is_in_window, is_level_at, level_at, shape_at, signed};
 
-use crate::changes::{keep_each, sorted_changes};
+use crate::changes::{Changes, Span, fill_sorted, keep_each};
 use crate::slots::{end_of, is_present, start_of};
 use crate::types::{Assignment, Part, Shape, Window};
 use crate::whole::Model;
@@ -75,8 +76,10 @@ fn part_at(a: &Assignment, part: Part, t: i64) -> i128
 }
 
 /// The signed sum of some parts at a moment.
-pub fn sum_at(a: &Assignment, parts: &[Part], t: i64) -> i128
-    ensures { result ≡ total (map (λ i. signed i.minus (shape_at a.now i.shape t)) parts.now) }
+fn sum_at(a: &Assignment, parts: &[Part], t: i64) -> i128
+    ensures value { result ≡ total (map (λ i. signed i.minus (shape_at a.now i.shape t)) parts.now) }
+    ensures low { neg_ℤ (pos (2 ^ 126)) ≤ℤ result }
+    ensures high { result ≤ℤ pos (2 ^ 126) }
 {
     let mut sum: i128 = 0;
     for part in parts {
@@ -132,38 +135,74 @@ fn is_level_at(model: &Model, a: &Assignment, b: Bound, t: i64) -> bool
     is_within(b.lo, b.hi, sum_at(a, parts_of(model, b.f), t))
 }
 
-/// Whether the level is as wanted at each moment at which an elementary function changes.
-fn are_levels_at(model: &Model, a: &Assignment, b: Bound, shape: Shape) -> bool
-    ensures { result ≡ list_all (is_level_at model.now a.now b.f b.window b.lo b.hi) (changes_of a.now shape) }
+fn end_of_window(a: &Assignment, window: Window) -> i64
+    ensures { result ≡ end_of_window a.now window }
 {
-    match shape {
-        Shape::Pulse { u, v, h: _ } => is_level_at(model, a, b, u) && is_level_at(model, a, b, v),
-        Shape::Step { u, h: _ } => is_level_at(model, a, b, u),
-        Shape::PulseOf { a: x, h: _ } => is_level_at(model, a, b, start_of(a, x))
-            && is_level_at(model, a, b, end_of(a, x)),
-        Shape::StepAtStart { a: x, h: _ } => is_level_at(model, a, b, start_of(a, x)),
-        Shape::StepAtEnd { a: x, h: _ } => is_level_at(model, a, b, end_of(a, x)),
+    match window {
+        Window::Always => H,
+        Window::Moments { u: _, v } => v,
+        Window::During(x) => end_of(a, x),
     }
 }
 
-fn are_levels_of(model: &Model, a: &Assignment, b: Bound, parts: &[Part]) -> bool
-    ensures { result ≡ list_all (λ i. list_all (is_level_at model.now a.now b.f b.window b.lo b.hi) (changes_of a.now i.shape)) parts.now }
+/// A moment halfway between the ends of a span, if there is one.
+fn middle(span: Span) -> Option<i64>
+    ensures { MatchOption result (span.to ≤ℤ (span.from +ℤ pos 1)) (λ t. (span.from <ℤ t) × (t <ℤ span.to)) }
 {
-    parts.iter().all(|i| are_levels_at(model, a, b, i.shape))
+    let width = i128::from(span.to) - i128::from(span.from);
+    if width <= 1 {
+        return None;
+    }
+    let half = (width as u64) / 2;
+    Some((i128::from(span.from) + i128::from(half)) as i64)
+}
+
+/// Whether the level keeps its bounds at the changes inside a span, which are sorted in the place that
+/// is lent. Where they are too many for it, each half of the span is gone through by itself; a span of
+/// one moment has one level. The answer may only be no where the level leaves its bounds somewhere.
+fn keep_inside(model: &Model, a: &Assignment, b: Bound, changes: &mut Changes, span: Span) -> bool
+    ensures yes { result ≡ true → keep_inside model.now a.now b.f b.window b.lo b.hi span ≡ true }
+    ensures no { ((t : ℤ) → is_level_at model.now a.now b.f b.window b.lo b.hi t ≡ true) → result ≡ true }
+{
+    let parts = parts_of(model, b.f);
+    if fill_sorted(changes, a, parts, span).is_some() {
+        let before = sum_at(a, parts, span.from);
+        return keep_each(a, b, before, changes.as_slice());
+    }
+    match middle(span) {
+        None => is_level_at(model, a, b, span.to),
+        Some(t) => {
+            let Span { from, to } = span;
+            if !keep_inside(model, a, b, changes, Span { from, to: t }) {
+                return false;
+            }
+            keep_inside(model, a, b, changes, Span { from: t, to })
+        }
+    }
+}
+
+/// The same inside the window, with the one place that all spans are lent. It is kept out of the frames
+/// of callers.
+#[inline(never)]
+fn keep_in_window(model: &Model, a: &Assignment, b: Bound) -> bool
+    ensures yes { result ≡ true → keep_inside model.now a.now b.f b.window b.lo b.hi (window_span a.now b.window) ≡ true }
+    ensures no { ((t : ℤ) → is_level_at model.now a.now b.f b.window b.lo b.hi t ≡ true) → result ≡ true }
+{
+    let mut changes = Changes::new();
+    let span = Span {
+        from: begin_of(a, b.window),
+        to: end_of_window(a, b.window),
+    };
+    keep_inside(model, a, b, &mut changes, span)
 }
 
 /// Whether the level keeps its bounds at each moment of the window: it is tried where the window
-/// begins, and where a part changes. The changes are sorted; where there are too many for the place
-/// that this takes no memory for, each has a sum over the parts of its own.
+/// begins, and where a part changes inside it.
 pub fn is_bounded(model: &Model, a: &Assignment, b: Bound) -> bool
     ensures { result ≡ list_all (is_level_at model.now a.now b.f b.window b.lo b.hi) (corners model.now a.now b.f b.window) }
 {
     if !is_level_at(model, a, b, begin_of(a, b.window)) {
         return false;
     }
-    let parts = parts_of(model, b.f);
-    match sorted_changes(a, parts) {
-        None => are_levels_of(model, a, b, parts),
-        Some(changes) => keep_each(a, b, changes.as_slice()),
-    }
+    keep_in_window(model, a, b)
 }

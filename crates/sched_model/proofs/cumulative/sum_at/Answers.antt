@@ -12,7 +12,7 @@ loop-part-preserved c = record {
   to = omega (arith, ints);
 }
 
-pub returns : goal.returns
-returns c = let same : to_z w64 (of_z w64 c.args.t) ≡ c.args.t = search rules in
+pub returns-clause-value : goal.returns-clause-value
+returns-clause-value c = let same : to_z w64 (of_z w64 c.args.t) ≡ c.args.t = search rules in
     sum_end (λ i. signed i.minus (shape_at c.args.a.now i.shape (to_z w64 (of_z w64 c.args.t)))) c.args.parts.now c.loop-part.part-index _ _ c.loop-part.invariant.same c.loop-part-test.false
     ∙ ap (λ t. total (map (λ i. signed i.minus (shape_at c.args.a.now i.shape t)) c.args.parts.now)) same

@@ -1,6 +1,0 @@
-use Rattle.std.proofs.Common.{◌≡◌, ◌++◌, drop}
-use Rattle.sched_model.specs.Changes.{changes_in}
-use Rattle.sched_model.proofs.changes.changes_in.Given as goal
-
-abbrev pub invariant-loop-part : goal.invariant-loop-part
-invariant-loop-part l = l.changes.items ++ changes_in l.a (drop l.part-index l.parts) ≡ changes_in l.a l.parts
