@@ -76,7 +76,7 @@ fn part_at(a: &Assignment, part: Part, t: i64) -> i128
 }
 
 /// The signed sum of some parts at a moment.
-fn sum_at(a: &Assignment, parts: &[Part], t: i64) -> i128
+pub fn sum_at(a: &Assignment, parts: &[Part], t: i64) -> i128
     ensures value { result ≡ total (map (λ i. signed i.minus (shape_at a.now i.shape t)) parts.now) }
     ensures low { neg_ℤ (pos (2 ^ 126)) ≤ℤ result }
     ensures high { result ≤ℤ pos (2 ^ 126) }

@@ -2,7 +2,7 @@
 //! something moves by one moment.
 ghost use Rattle.std.specs.Prelude.{◌≡◌, IfOk};
 
-use crate::changes::{keep_each, sorted_changes};
+use crate::changes::{Changes, Span, fill_sorted, keep_each};
 use crate::cumulative::{Bound, sum_at};
 use crate::domain::{are_segments, fits_def, lists_present};
 use crate::hierarchy::{is_alternative, is_synchronized, spans};
@@ -141,14 +141,19 @@ fn separations(rt: HostRuntime) -> Result<(), Fail> {
 }
 
 fn keeps(a: &Assignment, parts: &[Part], window: Window, lo: i64, hi: i64) -> Option<bool> {
-    let changes = sorted_changes(a, parts)?;
+    let mut changes = Changes::new();
+    let whole = Span {
+        from: -100,
+        to: 100,
+    };
+    fill_sorted(&mut changes, a, parts, whole)?;
     let bound = Bound {
         f: Cum(0),
         window,
         lo,
         hi,
     };
-    Some(keep_each(a, bound, changes.as_slice()))
+    Some(keep_each(a, bound, 0, changes.as_slice()))
 }
 
 #[test]
