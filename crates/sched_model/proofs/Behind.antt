@@ -140,7 +140,7 @@ distance_positive m o i j valid = by (matrix_of m o) (λ d is. matrix_valid o d 
     by None each = omega (arith, ints)
     by (Some d) each = cell_positive d.cells _ (and_parts _ (list_all is_amount d.cells) (each d refl)).1
 
-segments_apart : (m : Data) (g : StateDef) (is : List Segment) → IsValid m → are_segments m g is ≡ true → are_apart is ≡ true
+pub segments_apart : (m : Data) (g : StateDef) (is : List Segment) → IsValid m → are_segments m g is ≡ true → are_apart is ≡ true
 segments_apart m g is valid h =
     let parts = and_parts (list_all (is_segment m g) is) (pairwise (keeps_distance m g) is) h in
     and_from _ _ (all_implied (is_segment m g) (λ i. int_lt i.p i.q) (λ i each. filled i each) is parts.0) (pairs_kept (keeps_distance m g) (λ i j. int_le i.q j.p) (λ i j kept. apart i.q (distance m g.matrix (nat_abs i.v) (nat_abs j.v)) j.p (distance_positive m g.matrix _ _ valid) kept) is parts.1)

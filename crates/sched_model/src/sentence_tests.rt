@@ -1,13 +1,17 @@
 //! Sentences about a few intervals, with the answers worked out by hand: each holds, and fails where
 //! something moves by one moment.
-ghost use Rattle.std.specs.Prelude.{◌≡◌, IfOk};
+ghost use Rattle.std.specs.Prelude.{◌≡◌, IfOk, int_le, pos, true};
+ghost use Rattle.std.specs.List.{list_all};
+ghost use Rattle.sched_model.specs.Sequence.{RunsForward};
+ghost use Rattle.sched_model.specs.States.{are_apart};
+ghost use Rattle.sched_model.specs.Value.{end_or, start_or};
 
 use crate::changes::{Changes, Span, fill_sorted, keep_each};
 use crate::cumulative::{Bound, sum_at};
 use crate::domain::{are_segments, fits_def, lists_present};
 use crate::hierarchy::{is_alternative, is_synchronized, spans};
 use crate::sequence::{has_no_overlap, is_first, is_last, stands_before, stands_next};
-use crate::slots::order_of;
+use crate::slots::{order_of, segments_of};
 use crate::states::{has_no_state, has_state};
 use crate::types::{
     Assignment, IntervalDef, Part, Segment, SequenceDef, Shape, Slot, StateDef, Window,
@@ -93,6 +97,39 @@ fn orders(rt: HostRuntime) -> Result<(), Fail> {
     Ok(())
 }
 
+/// Whether these are segments that a state function may have.
+fn stand_apart(model: &Model, g: &StateDef, is: &[Segment]) -> bool
+    ensures { result ≡ true → are_apart is.now ≡ true }
+{
+    // what is known of a model that is valid
+    let _ = model.states();
+    are_segments(model, g, is)
+}
+
+fn may_be_given(alloc: Global, is: &[Segment]) -> bool
+    ensures { result ≡ true → are_apart is.now ≡ true }
+{
+    let g = StateDef {
+        name: List::new(alloc),
+        matrix: None,
+    };
+    stand_apart(&Model::new(alloc), &g, is)
+}
+
+fn lies(alloc: Global, a: &Assignment, start_aligned: bool, end_aligned: bool) -> Option<bool> {
+    if !may_be_given(alloc, segments_of(a, Stf(0))) {
+        return None;
+    }
+    Some(has_state(a, Stf(0), A, 7, start_aligned, end_aligned))
+}
+
+fn is_free(alloc: Global, a: &Assignment) -> Option<bool> {
+    if !may_be_given(alloc, segments_of(a, Stf(0))) {
+        return None;
+    }
+    Some(has_no_state(a, Stf(0), A))
+}
+
 #[test]
 fn states(rt: HostRuntime) -> Result<(), Fail> {
     let segments = [Segment { p: 0, q: 4, v: 7 }, Segment { p: 4, q: 6, v: 8 }];
@@ -109,18 +146,44 @@ fn states(rt: HostRuntime) -> Result<(), Fail> {
         (5, 7, false, false, false, false),
         (-1, 0, false, false, false, true),
     ];
-    for (s, e, lies, starts, ends, free) in rows {
+    for (s, e, lies_in, starts, ends, free) in rows {
         let a = placed(rt.alloc(), [at(s, e), OUT, OUT], &[], &segments)?;
-        assert_eq!(rt; has_state(&a, Stf(0), A, 7, false, false), lies, "at {s}");
-        assert_eq!(rt; has_state(&a, Stf(0), A, 7, true, false), starts, "at {s}");
-        assert_eq!(rt; has_state(&a, Stf(0), A, 7, false, true), ends, "at {s}");
-        assert_eq!(rt; has_no_state(&a, Stf(0), A), free, "at {s}");
+        let alloc = rt.alloc();
+        assert!(rt; lies(alloc, &a, false, false) == Some(lies_in), "at {s}");
+        assert!(rt; lies(alloc, &a, true, false) == Some(starts), "at {s}");
+        assert!(rt; lies(alloc, &a, false, true) == Some(ends), "at {s}");
+        assert!(rt; is_free(alloc, &a) == Some(free), "at {s}");
     }
     Ok(())
 }
 
+fn lasts_forward(slot: Slot) -> bool
+    ensures { result ≡ int_le (start_or (pos 0) slot) (end_or (pos 0) slot) }
+{
+    match slot {
+        Slot::Absent => true,
+        Slot::Present { s, e } => s <= e,
+    }
+}
+
+/// Whether no interval ends before it starts.
+fn last_forward(slots: &[Slot]) -> bool
+    ensures { result ≡ list_all (λ s. int_le (start_or (pos 0) s) (end_or (pos 0) s)) slots.now }
+{
+    slots.iter().all(|s| lasts_forward(*s))
+}
+
+fn run_forward(a: &Assignment) -> bool
+    ensures { result ≡ true → RunsForward a.now }
+{
+    last_forward(a.slots.as_slice())
+}
+
 /// Whether an order keeps apart under a model without matrices.
 fn is_apart(model: &Model, all: &Assignment, direct: bool) -> bool {
+    if !run_forward(all) {
+        return false;
+    }
     has_no_overlap(model, all, Seq(0), None, direct, order_of(all, Seq(0)))
 }
 
