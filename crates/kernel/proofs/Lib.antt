@@ -1,4 +1,4 @@
-pub mod Pending
+pub mod Waiting
 pub mod LineTests
 pub mod Stepped
 pub mod Regions

@@ -19,7 +19,7 @@ use Rattle.region.specs.laws.Narrowing.{guess_allows, fact_allows, guess_stays, 
 use Rattle.region.specs.laws.Counts.{guess_points, fact_points, guess_splits, some_point}
 use Rattle.kernel.specs.declared.types.Found.{Found}
 use Rattle.kernel.specs.Steps.{is_wanted, best_of}
-use Rattle.kernel.specs.Faults.{seen_at}
+use Rattle.kernel.specs.Derives.{seen_at}
 use Rattle.kernel.specs.Promises.{LosesNothing, AreApart}
 
 -- some element of a list, and pairs of elements

@@ -15,7 +15,8 @@ use Rattle.kernel.specs.declared.types.StepFault.TheVariants.{NothingLeft, NotRe
 use Rattle.kernel.specs.Refuting.{Refuting}
 use Rattle.kernel.specs.Agenda.{first_in}
 use Rattle.kernel.specs.Steps.{LogState, Outcome, Gives, unless, step, is_wanted, best_of}
-use Rattle.kernel.specs.Faults.{fault_unless, fault_at, fault_in, after, outcome, seen_at}
+use Rattle.kernel.specs.Faults.{fault_unless, fault_at, fault_in, after, outcome}
+use Rattle.kernel.specs.Derives.{seen_at}
 
 one_test : (b : Bool) (f : StepFault) (s : LogState) → unless b f (Ok s) ≡ outcome (fault_unless b f None) s
 one_test true f s = refl

@@ -1,9 +1,8 @@
--- The open regions behind one region with saves, and for each save a guess.
-use Rattle.std.specs.Prelude.{◌<◌, IsTrue, List, [], ◌∷◌, ◌++◌, Option, Some, None, All}
+-- The open regions: the current one, and those that wait.
+use Rattle.std.specs.Prelude.{List, [], ◌∷◌, Option, Some, None}
 use Rattle.region.specs.declared.types.Guess.{Guess}
 use Rattle.region.specs.Cells.{Region}
-use Rattle.region.specs.Guesses.{with_guess, with_fact, admits}
-use Rattle.region.specs.Held.{Held}
+use Rattle.region.specs.Guesses.{with_guess, with_fact}
 use Rattle.kernel.specs.declared.agenda.Stage.{Stage}
 use Rattle.kernel.specs.declared.agenda.Stage.TheVariants.{Current, Waiting, Done}
 
@@ -11,11 +10,6 @@ use Rattle.kernel.specs.declared.agenda.Stage.TheVariants.{Current, Waiting, Don
 pub record Open : Type 0 where
   pub current : Option Region
   pub waiting : List Region
-
--- of each saved region the part with the fact of its guess, the newest first
-abbrev pub after_saved : List Region → List Guess → List Region
-after_saved (r ∷ rs) (g ∷ gs) = after_saved rs gs ++ with_fact g r ∷ []
-after_saved _ _ = []
 
 abbrev pub shown : Stage → Region → List Region → Open
 shown Current r rs = record { current = Some r; waiting = rs }
@@ -44,14 +38,3 @@ behind o = behind_in o.current o.waiting
 abbrev pub parts_of : Guess → Option Region → List Region
 parts_of g None = []
 parts_of g (Some r) = with_guess g r ∷ with_fact g r ∷ []
-
--- each saved region admits its guess
-abbrev pub AreOpen : List Region → List Guess → Type 0
-AreOpen [] [] = Unit {0}
-AreOpen (r ∷ rs) (g ∷ gs) = IsTrue (admits r g) × AreOpen rs gs
-AreOpen _ _ = ⊥
-
--- and after going back there is room for the fact
-pub record ArePending (h : Held) (gs : List Guess) : Type 0 where
-  pub guesses : AreOpen h.saved gs
-  pub room : All (λ k. 0 < k) h.promised

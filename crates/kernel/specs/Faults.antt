@@ -1,12 +1,12 @@
--- The tests of a line one after another, and the state after a line that passes them, by the first region.
+-- The order in which the code tests a line: the first test that fails is its fault, and a line that fails none changes the
+-- state so. What a line means is said by `step` of Steps.antt; proofs/Stepped.antt proves that this is the same, case by case.
 use Rattle.std.specs.Prelude.{◌&&◌, ℕ, ◌+◌, ◌++◌, is_some, option_map, ℤ, Bool, if◌then◌else◌, Option, Some, None, Ok, Err}
 use Rattle.sched_model.specs.declared.types.Assignment.{Assignment}
 use Rattle.sched_model.specs.Data.{Data}
 use Rattle.sched_model.specs.Solution.{is_solution}
 use Rattle.region.specs.declared.types.Guess.{Guess}
 use Rattle.region.specs.Cells.{Region, is_settled, allows}
-use Rattle.region.specs.Guesses.{with_fact, looked_at, admits, splits}
-use Rattle.region.specs.Looks.{Seen}
+use Rattle.region.specs.Guesses.{with_fact, admits, splits}
 use Rattle.region.specs.Tight.{is_tight}
 use Rattle.kernel.specs.declared.types.Witness.{Witness}
 use Rattle.kernel.specs.declared.types.Line.{Line}
@@ -15,11 +15,9 @@ use Rattle.kernel.specs.declared.types.Found.{Found}
 use Rattle.kernel.specs.declared.types.StepFault.{StepFault}
 use Rattle.kernel.specs.declared.types.StepFault.TheVariants.{NothingLeft, NotRefuted, NotTight, NotSplitting, NotSolution}
 use Rattle.kernel.specs.Refuting.{Refuting}
+use Rattle.kernel.specs.Derives.{seen_at}
 use Rattle.kernel.specs.Agenda.{first_in, behind_in, parts_of}
 use Rattle.kernel.specs.Steps.{LogState, Outcome, found_in, left_after, best_of, is_wanted}
-
-abbrev pub seen_at : Region → Option ℤ → Option Guess → Seen
-seen_at r best g = record { region = looked_at g r; best = best }
 
 abbrev pub fault_unless : Bool → StepFault → Option StepFault → Option StepFault
 fault_unless b fault rest = if b then rest else Some fault

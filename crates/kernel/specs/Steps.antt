@@ -6,7 +6,7 @@ use Rattle.sched_model.specs.Data.{Data}
 use Rattle.sched_model.specs.Solution.{is_solution, is_better, objective_of}
 use Rattle.region.specs.declared.types.Guess.{Guess}
 use Rattle.region.specs.Cells.{Region, root, is_settled, allows}
-use Rattle.region.specs.Guesses.{with_guess, with_fact, looked_at, admits, splits}
+use Rattle.region.specs.Guesses.{with_guess, with_fact, admits, splits}
 use Rattle.region.specs.Tight.{is_tight}
 use Rattle.kernel.specs.declared.types.Witness.{Witness}
 use Rattle.kernel.specs.declared.types.Line.{Line}
@@ -17,6 +17,7 @@ use Rattle.kernel.specs.declared.types.StepFault.TheVariants.{NothingLeft, NotRe
 use Rattle.kernel.specs.declared.types.Verdict.{Verdict}
 use Rattle.kernel.specs.declared.types.Verdict.TheVariants.{Optimal, Feasible, Infeasible, Unclosed}
 use Rattle.kernel.specs.Refuting.{Refuting}
+use Rattle.kernel.specs.Derives.{seen_at}
 
 -- the region that is current, those that wait, how many were current so far, and the solution found last
 pub record LogState : Type 0 where
@@ -75,7 +76,7 @@ unless b fault out = if b then out else Err fault
 
 -- the witness refutes the region under the guess
 abbrev pub refuted : {W : Type 0} → Refuting W → Data → Node → W → Option Guess → Bool
-refuted refutes m n w g = refutes m (record { region = looked_at g n.region; best = best_of n.found }) w
+refuted refutes m n w g = refutes m (seen_at n.region (best_of n.found) g) w
 
 abbrev pub step_at : {W : Type 0} → Refuting (Witness W) → Data → Node → Line W → Outcome
 step_at refutes m n (Derive g w) =

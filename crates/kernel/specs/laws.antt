@@ -1,1 +1,3 @@
 pub mod NoExtra
+pub mod Pending
+pub mod Derives

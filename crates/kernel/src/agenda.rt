@@ -1,10 +1,11 @@
-ghost use Rattle.std.specs.Prelude.{◌≡◌, ◌∷◌, [], None, Some, IsTrue, IfOk, OnOk, OnErr, IsSome, is_some, option_map, ◌++◌};
+ghost use Rattle.std.specs.Prelude.{◌≡◌, ◌∷◌, [], None, IsTrue, IfOk, OnOk, OnErr, IsSome, is_some, option_map, ◌++◌};
 ghost use Rattle.sched_model.specs.Valid.{IsValid};
 ghost use Rattle.sched_model.specs.Words.{passes};
 ghost use Rattle.region.specs.Cells.{root};
-ghost use Rattle.region.specs.Guesses.{admits, splits, with_guess, with_fact};
-ghost use Rattle.kernel.specs.Agenda.{ArePending, after_saved, shown, first_of, behind, parts_of};
+ghost use Rattle.region.specs.Guesses.{admits, splits, with_fact};
+ghost use Rattle.kernel.specs.Agenda.{first_of, behind, parts_of};
 
+use crate::pending::Pending;
 use region::{Fact, Guess, Region};
 use sched_base::NoMemory;
 use sched_model::Model;
@@ -21,60 +22,23 @@ pub enum Stage {
     Done,
 }
 
-/// The current region and those that wait: one region with saves, and for each save the guess whose
-/// fact the region that waits there is still to take.
+/// The current region and those that wait: one region with saves, and what waits behind it.
 #[derive(Drop)]
 pub struct Agenda {
     region: Region,
-    guesses: Vec<Guess>,
+    pending: Pending,
     stage: Stage,
 }
 
 impl std::marker::Model for Agenda {
-    ghost use Rattle.kernel.specs.Agenda.{Open, ArePending, after_saved, shown};
+    ghost use Rattle.kernel.specs.Agenda.{Open, shown};
+    ghost use Rattle.kernel.specs.Pending.{ArePending, after_saved};
 
     ghost Value = { Open };
 
-    ghost view = { λ a. shown a.stage a.region.region (after_saved a.region.saved a.guesses.items) };
+    ghost view = { λ a. shown a.stage a.region.region (after_saved a.region.saved a.pending) };
 
-    ghost invariant = { λ a. ArePending a.region a.guesses.items };
-}
-
-/// Puts the part with the guess into the cells. The part with its fact waits.
-fn put_open(region: &mut Region, guesses: &mut Vec<Guess>, g: Guess) -> Result<(), NoMemory>
-    requires pending { ArePending region.old guesses.old.items }
-    requires splits { IsTrue (splits region.old.region g) }
-    ensures pending { ArePending region.new guesses.new.items }
-    ensures cells { OnOk result (region.new.region ≡ with_guess g region.old.region) }
-    ensures next { OnOk result (after_saved region.new.saved guesses.new.items
-        ≡ with_fact g region.old.region ∷ after_saved region.old.saved guesses.old.items) }
-    ensures err { OnErr result (region.new.region ≡ region.old.region) }
-    ensures err_waiting { OnErr result (after_saved region.new.saved guesses.new.items
-        ≡ after_saved region.old.saved guesses.old.items) }
-{
-    guesses.reserve(1)?;
-    region.reserve(2)?;
-    region.save()?;
-    let _ = region.assume(g);
-    let _ = guesses.push(g);
-    Ok(())
-}
-
-/// Puts the newest region that waits into the cells, if there is one.
-fn next_open(region: &mut Region, guesses: &mut Vec<Guess>) -> Stage
-    requires { ArePending region.old guesses.old.items }
-    ensures pending { ArePending region.new guesses.new.items }
-    ensures next { shown result region.new.region (after_saved region.new.saved guesses.new.items)
-        ≡ record { current = None; waiting = after_saved region.old.saved guesses.old.items } }
-{
-    match guesses.pop() {
-        None => Stage::Done,
-        Some(g) => {
-            region.undo();
-            let _ = region.learn(Fact(g));
-            Stage::Waiting
-        }
-    }
+    ghost invariant = { λ a. ArePending a.region a.pending };
 }
 
 impl Agenda {
@@ -83,10 +47,11 @@ impl Agenda {
         ensures value { IfOk result (λ a. a ≡ record { current = None; waiting = root model.now ∷ [] }) }
         ensures valid { IsValid model.now }
     {
-        let depth = model.intervals().len();
+        // The model is valid by its type.
+        let _ = model.intervals();
         Ok(Agenda {
             region: Region::root(alloc, model)?,
-            guesses: Vec::with_capacity(alloc, depth)?,
+            pending: Pending::new(alloc),
             stage: Stage::Waiting,
         })
     }
@@ -125,7 +90,7 @@ impl Agenda {
         ensures ok { OnOk result (self.new ≡ record { current = None; waiting = parts_of g (first_of self.old) ++ behind self.old }) }
         ensures err { OnErr result (self.new ≡ self.old) }
     {
-        put_open(&mut self.region, &mut self.guesses, g)?;
+        let _ = self.pending.split(&mut self.region, g)?;
         self.stage = Stage::Waiting;
         Ok(())
     }
@@ -135,7 +100,11 @@ impl Agenda {
         requires { IsSome (first_of self.old) }
         ensures { self.new ≡ record { current = None; waiting = behind self.old } }
     {
-        self.stage = next_open(&mut self.region, &mut self.guesses);
+        if self.pending.next(&mut self.region).is_none() {
+            self.stage = Stage::Done;
+            return;
+        }
+        self.stage = Stage::Waiting;
     }
 
     /// All regions go.

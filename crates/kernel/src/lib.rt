@@ -6,6 +6,7 @@ mod agenda;
 mod laws;
 mod log;
 mod no_extra;
+mod pending;
 mod refuting;
 mod solution;
 mod types;
@@ -13,6 +14,7 @@ mod types;
 pub use laws::loses_nothing;
 pub use log::Kernel;
 pub use no_extra::{NoExtra, NoWitness};
+pub use pending::Pending;
 pub use types::{Found, Line, StepFault, Verdict, Witness};
 
 #[cfg(test)]

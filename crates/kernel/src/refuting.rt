@@ -4,7 +4,7 @@ ghost use Rattle.region.specs.Guesses.{admits};
 ghost use Rattle.region.specs.Looks.{IsRegionOf};
 ghost use Rattle.region.specs.Tight.{is_tight, weaker};
 ghost use Rattle.kernel.specs.Refuting.{refutes_with};
-ghost use Rattle.kernel.specs.Faults.{seen_at};
+ghost use Rattle.kernel.specs.Derives.{seen_at};
 
 use crate::types::Witness;
 use refute_basic::Basic;

@@ -1,6 +1,6 @@
 use Rattle.std.proofs.Common.{Some, rules}
 use Rattle.kernel.specs.Refuting.{refutes_with}
-use Rattle.kernel.specs.Faults.{seen_at}
+use Rattle.kernel.specs.Derives.{seen_at}
 use Rattle.kernel.proofs.LineTests.{tight_from}
 use Rattle.kernel.proofs.refuting.is_tight.Goals as goal
 

@@ -1,13 +1,13 @@
 -- The newest region that waits behind the saves.
-use Rattle.std.proofs.Common.{◌≡◌, ℕ, ◌<◌, List, [], ◌∷◌, ◌++◌, Result, Ok, Err, refl, sym, ap, subst, ◌∙◌, arith, true≢false}
-use Rattle.std.specs.Prelude.{IsTrue, All, IsOk, OnOk}
+use Rattle.std.proofs.Common.{◌≡◌, ℕ, ◌<◌, List, [], ◌∷◌, ◌++◌, Option, Some, None, Result, Ok, Err, refl, sym, ap, subst, ◌∙◌, arith, true≢false}
+use Rattle.std.specs.Prelude.{IsTrue, All, IsOk, OnOk, IfSome, IfNone}
 use Rattle.std.proofs.lemmas.List.Elements.{All-push, All-nil, All-cons, All-head, All-tail}
 use Rattle.region.specs.declared.types.Guess.{Guess}
 use Rattle.region.specs.Cells.{Region}
 use Rattle.region.specs.Guesses.{with_fact, admits, splits}
 use Rattle.region.specs.Held.{Held, Regains}
 use Rattle.region.specs.laws.Narrowing.{splitting}
-use Rattle.kernel.specs.Agenda.{ArePending, AreOpen, after_saved}
+use Rattle.kernel.specs.Pending.{ArePending, AreOpen, after_saved, Takes}
 
 all_front : {X : Type 0} (P : X → Type 0) (xs : List X) (y : X) → All P (xs ++ y ∷ []) → All P xs
 all_front P [] y h = All-nil P
@@ -88,11 +88,14 @@ pub with_room : {T E P : Type 0} (r : Result T E) (n : ℕ) → (0 < n → IsOk 
 with_room (Ok x) n given room is = is
 with_room (Err e) n given room is = absurd (true≢false (sym (given room)))
 
-pub same_pending : (old new : Held) (gs : List Guess) → new.saved ≡ old.saved → new.promised ≡ old.promised → ArePending old gs → ArePending new gs
-same_pending old new gs saved promised pending = record {
-  guesses = subst (λ xs. AreOpen xs gs) (sym saved) pending.guesses;
-  room = subst (All (λ n. 0 < n)) (sym promised) pending.room;
-}
+-- what holds in any case holds of an answer, and where there is none
+pub where_some : {A : Type 0} {X : Type 0} (o : Option A) → X → IfSome o (λ a. X)
+where_some None is = tt
+where_some (Some a) is = is
+
+pub where_none : {A : Type 0} {X : Type 0} (o : Option A) → X → IfNone o X
+where_none None is = is
+where_none (Some a) is = tt
 
 -- the newest region that waits takes the fact
 pub newest_next : (old new after : Held) (gs gs' : List Guess) (g : Guess) → Newest old new gs gs' g → after.region ≡ with_fact g new.region → after.saved ≡ new.saved
