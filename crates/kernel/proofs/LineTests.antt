@@ -16,7 +16,7 @@ use Rattle.region.specs.declared.types.Guess.{Guess}
 use Rattle.region.specs.Cells.{Region}
 use Rattle.region.specs.Tight.{is_tight, weaker}
 use Rattle.refute_basic.specs.laws.Settled.{slots_fit}
-use Rattle.refute_basic.specs.laws.NoLeaf.{few_of}
+use Rattle.refute_basic.specs.laws.Fits.{few_of}
 
 -- tight is what the next weaker guess tells
 pub tight_from : (f : Guess → Bool) (r : Region) (g h : Guess) (b : Bool) → weaker r g ≡ Some h → b ≡ f h → not b ≡ is_tight f r g

@@ -1,5 +1,5 @@
 -- The settled slots, one by one.
-use Rattle.std.specs.Prelude.{◌≡◌, ℕ, zero, suc, ◌+◌, ◌^◌, ◌<◌, ◌≤◌, ◌-ℤ◌, Bool, true, false, not, ◌&&◌, is_some, List, [], ◌∷◌, None, Some, map, length, slice_get, drop, replicate}
+use Rattle.std.specs.Prelude.{◌≡◌, ℕ, zero, suc, ◌+◌, ◌^◌, ◌<◌, ◌≤◌, ◌-ℤ◌, Bool, true, false, not, ◌&&◌, is_some, List, [], ◌∷◌, None, Some, map, length, slice_get, drop}
 use Rattle.std.specs.List.{list_all}
 use Rattle.std.proofs.Common.{refl, sym, ap, subst, ◌∙◌, arith, get_or, add-one}
 use Rattle.std.proofs.lemmas.Bool.{not-false}
@@ -17,25 +17,22 @@ use Rattle.region.specs.Looks.{IsRegionOf, is_narrowed}
 use Rattle.region.specs.laws.Lists.{both_true, placewise-length}
 use Rattle.sched_base.specs.declared.ids.Itv.{Itv}
 use Rattle.sched_model.specs.declared.types.Slot.{Slot}
-use Rattle.sched_model.specs.declared.types.Segment.{Segment}
-use Rattle.sched_model.specs.declared.types.Assignment.{Assignment}
 use Rattle.sched_model.specs.declared.types.Slot.TheVariants as slot
 use Rattle.sched_model.specs.Words.{◌implies◌, is_between, is_empty, passes, passes_if_any}
 use Rattle.sched_model.specs.Value.{slot_of}
 use Rattle.region.specs.declared.types.Bounds.{Bounds}
 use Rattle.region.specs.declared.types.Presence.TheVariants as presence
-use Rattle.region.specs.Cells.{Region, unknown, bounds_of, settled_slot, settled_slots}
-use Rattle.refute_basic.specs.Served.{is_of_slots}
-use Rattle.refute_basic.specs.Leaf.{empty_for_each, settled_assignment, is_unsized_at, fails_at, keeps, has_size}
-use Rattle.refute_basic.specs.laws.NoLeaf.{few_of}
+use Rattle.region.specs.Cells.{Region, unknown, bounds_of, settled_slot}
+use Rattle.refute_basic.specs.Leaf.{is_leaf_constraint, settled_alone, is_unsized_at, fails_at, keeps, has_size}
+use Rattle.refute_basic.specs.laws.Fits.{few_of}
 
 mapped : (bs : List Bounds) (n : ℕ) → settled_slot (get_or bs n unknown) ≡ get_or (map settled_slot bs) n slot.Absent
 mapped [] n = refl
 mapped (b ∷ bs) zero = refl
 mapped (b ∷ bs) (suc n) = mapped bs n
 
-pub settled_slot_of : (m : Data) (r : Region) (x : Itv) → settled_slot (bounds_of r x) ≡ slot_of (settled_assignment m r) x
-settled_slot_of m r x = mapped r.bounds x.0
+pub settled_slot_of : (r : Region) (x : Itv) → settled_slot (bounds_of r x) ≡ slot_of (settled_alone r) x
+settled_slot_of r x = mapped r.bounds x.0
 
 -- the size of a present interval
 pub present_size : (c : Bounds) (b : Bool) → c.presence ≡ presence.Present → b ≡ is_between c.pmin c.pmax (c.emin -ℤ c.smin) → b ≡ has_size c
@@ -53,8 +50,8 @@ as_many [] = refl
 as_many (b ∷ bs) = ap suc (as_many bs)
 
 -- nor a slot
-pub absent_past : (m : Data) (r : Region) (x : Itv) → length r.bounds ≤ x.0 → slot.Absent ≡ slot_of (settled_assignment m r) x
-absent_past m r x past = sym (get_or_past (map settled_slot r.bounds) x.0 slot.Absent (subst (λ n. n ≤ x.0) (sym (as_many r.bounds)) past))
+pub absent_past : (r : Region) (x : Itv) → length r.bounds ≤ x.0 → slot.Absent ≡ slot_of (settled_alone r) x
+absent_past r x past = sym (get_or_past (map settled_slot r.bounds) x.0 slot.Absent (subst (λ n. n ≤ x.0) (sym (as_many r.bounds)) past))
 
 -- what a valid model says of a constraint that is listed
 listed : {X : Type 0} → (p : X → Bool) (xs : List X) (i : ℕ) (x : X) → list_all p xs ≡ true → slice_get xs i ≡ Some x → p x ≡ true
@@ -82,7 +79,7 @@ pub has_hull : (m : Data) (e : Expr) → is_expr m e ≡ true → is_some (hull_
 has_hull m e h = (both_true (fold-Expr Bool (expr_step m) e) (is_some (hull_of m e)) h).1
 
 -- a constraint that is listed fails where it is found to
-pub failing_at : (m : Data) (r : Region) (cs : List Constraint) (u : ℕ) (c : Constraint) (b : Bool) → cs ≡ m.constraints → slice_get cs u ≡ Some c → b ≡ (is_of_slots c && not (holds m (settled_assignment m r) c)) → b ≡ fails_at m r u
+pub failing_at : (m : Data) (r : Region) (cs : List Constraint) (u : ℕ) (c : Constraint) (b : Bool) → cs ≡ m.constraints → slice_get cs u ≡ Some c → b ≡ (is_leaf_constraint c && not (holds m (settled_alone r) c)) → b ≡ fails_at m r u
 failing_at m r cs u c b same is fails = rw (← same, is) fails
 
 pub missing_at : (m : Data) (r : Region) (cs : List Constraint) (u : ℕ) → cs ≡ m.constraints → slice_get cs u ≡ None → false ≡ fails_at m r u
@@ -93,9 +90,9 @@ not_failing : (p q : Bool) → false ≡ (p && not q) → (p implies q) ≡ true
 not_failing true q h = not-false q (sym h)
 not_failing false q h = refl
 
-hold_next_at : (m : Data) (r : Region) (cs : List Constraint) (u : ℕ) → u < length cs → false ≡ passes (λ c. is_of_slots c && not (holds m (settled_assignment m r) c)) (slice_get cs u) → list_all (keeps m r) (drop (suc u) cs) ≡ list_all (keeps m r) (drop u cs)
+hold_next_at : (m : Data) (r : Region) (cs : List Constraint) (u : ℕ) → u < length cs → false ≡ passes (λ c. is_leaf_constraint c && not (holds m (settled_alone r) c)) (slice_get cs u) → list_all (keeps m r) (drop (suc u) cs) ≡ list_all (keeps m r) (drop u cs)
 hold_next_at m r [] u within h = absurd (omega (arith, within))
-hold_next_at m r (c ∷ cs) zero within h = rw (not_failing (is_of_slots c) (holds m (settled_assignment m r) c) h) refl
+hold_next_at m r (c ∷ cs) zero within h = rw (not_failing (is_leaf_constraint c) (holds m (settled_alone r) c) h) refl
 hold_next_at m r (c ∷ cs) (suc u) within h = hold_next_at m r cs u (omega (arith, within)) h
 
 pub hold_next : (m : Data) (r : Region) (u : ℕ) (b : Bool) → u < length m.constraints → false ≡ fails_at m r u → list_all (keeps m r) (drop u m.constraints) ≡ b → list_all (keeps m r) (drop (u + 1) m.constraints) ≡ b
@@ -110,11 +107,6 @@ sized_next_at (b ∷ bs) (suc u) within h = sized_next_at bs u (omega (arith, wi
 pub sized_next : (r : Region) (u : ℕ) (b : Bool) → u < length r.bounds → false ≡ is_unsized_at r u → list_all has_size (drop u r.bounds) ≡ b → list_all has_size (drop (u + 1) r.bounds) ≡ b
 sized_next r u b within h before = rw add-one (sized_next_at r.bounds u within h ∙ before)
 
--- as many empty lists as elements
-pub empties : {X Y : Type 0} (xs : List X) → replicate (length xs) (let none : List Y = [] in none) ≡ empty_for_each xs
-empties [] = refl
-empties (x ∷ xs) = ap (λ ls. [] ∷ ls) (empties xs)
-
 -- a model with a sequence isn't served
 pub some_is_not_empty : {X : Type 0} (xs : List X) (q : Bool) → 0 < length xs → false ≡ (is_empty xs && q)
 some_is_not_empty [] q h = absurd (omega (arith, h))
@@ -124,9 +116,5 @@ pub none_is_empty : {X : Type 0} (xs : List X) (q : Bool) → length xs ≤ 0 �
 none_is_empty [] q h = refl
 none_is_empty (x ∷ xs) q h = absurd (omega (arith, h))
 
-pub settled_slot_at : (m : Data) (r : Region) (x : Itv) (c : Bounds) (s : Slot) → c ≡ bounds_of r x → s ≡ settled_slot c → s ≡ slot_of (settled_assignment m r) x
-settled_slot_at m r x c s is slot = slot ∙ ap settled_slot is ∙ settled_slot_of m r x
-
-pub assigned : (m : Data) (r : Region) (ss : List Slot) (os : List (List Itv)) (gs : List (List Segment)) → ss ≡ settled_slots r → os ≡ replicate (length m.sequences) [] → gs ≡ replicate (length m.states) []
-    → (let a : Assignment = record { slots = ss; orders = os; segs = gs } in a) ≡ settled_assignment m r
-assigned m r ss os gs first second third = rw (first, second ∙ empties m.sequences, third ∙ empties m.states) refl
+pub settled_slot_at : (r : Region) (x : Itv) (c : Bounds) (s : Slot) → c ≡ bounds_of r x → s ≡ settled_slot c → s ≡ slot_of (settled_alone r) x
+settled_slot_at r x c s is slot = slot ∙ ap settled_slot is ∙ settled_slot_of r x

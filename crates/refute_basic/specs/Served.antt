@@ -6,12 +6,12 @@ use Rattle.sched_model.specs.declared.types.Constraint.TheVariants.{Temporal, Lo
 use Rattle.sched_model.specs.Words.{is_empty}
 use Rattle.sched_model.specs.Data.{Data}
 
--- a precedence or an expression: its sentence speaks of slots alone
-abbrev pub is_of_slots : Constraint → Bool
-is_of_slots (Temporal from to equal x y z) = true
-is_of_slots (Logic e) = true
-is_of_slots _ = false
+-- a constraint that the search takes: so far a precedence or an expression
+abbrev pub is_served_constraint : Constraint → Bool
+is_served_constraint (Temporal from to equal x y z) = true
+is_served_constraint (Logic e) = true
+is_served_constraint _ = false
 
--- the model has no sequence, and each constraint is a precedence or an expression
+-- the model has no sequence, and each constraint is one of these
 abbrev pub is_served : Data → Bool
-is_served m = is_empty m.sequences && list_all is_of_slots m.constraints
+is_served m = is_empty m.sequences && list_all is_served_constraint m.constraints

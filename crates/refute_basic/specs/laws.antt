@@ -1,4 +1,4 @@
 pub mod Spelling
 pub mod SameSlots
 pub mod Settled
-pub mod NoLeaf
+pub mod Fits

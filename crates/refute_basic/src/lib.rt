@@ -10,8 +10,9 @@ mod spelling;
 mod witness;
 
 pub use basic::Basic;
-pub use find::{find_leaf, settled_assignment};
+pub use find::find_leaf;
 pub use served::is_served;
+pub use settled::settled_slot;
 pub use witness::BasicWitness;
 
 #[cfg(test)]

@@ -1,12 +1,12 @@
 ghost use Rattle.std.specs.Prelude.{◌≡◌};
 ghost use Rattle.std.specs.List.{list_all};
-ghost use Rattle.refute_basic.specs.Served.{is_of_slots, is_served};
+ghost use Rattle.refute_basic.specs.Served.{is_served_constraint, is_served};
 
 use sched_model::{Constraint, Model};
 
-/// Whether the constraint is a precedence or an expression.
-fn is_of_slots(c: &Constraint) -> bool
-    ensures { result ≡ is_of_slots c.now }
+/// Whether the search takes the constraint: a precedence or an expression.
+fn is_served_constraint(c: &Constraint) -> bool
+    ensures { result ≡ is_served_constraint c.now }
 {
     match c {
         Constraint::Temporal { .. } => true,
@@ -15,10 +15,10 @@ fn is_of_slots(c: &Constraint) -> bool
     }
 }
 
-fn are_of_slots(constraints: &[Constraint]) -> bool
-    ensures { result ≡ list_all is_of_slots constraints.now }
+fn are_served(constraints: &[Constraint]) -> bool
+    ensures { result ≡ list_all is_served_constraint constraints.now }
 {
-    constraints.iter().all(|c| is_of_slots(c))
+    constraints.iter().all(|c| is_served_constraint(c))
 }
 
 /// Whether the search serves the model: it has no sequence, and each constraint is a precedence or
@@ -30,5 +30,5 @@ pub fn is_served(model: &Model) -> bool
     if model.sequences().len() > 0 {
         return false;
     }
-    are_of_slots(model.constraints())
+    are_served(model.constraints())
 }

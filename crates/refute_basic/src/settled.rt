@@ -5,8 +5,7 @@ ghost use Rattle.sched_model.specs.Valid.{is_constraint, is_expr};
 ghost use Rattle.sched_model.specs.Value.{value_of};
 ghost use Rattle.sched_model.specs.Words.{placewise};
 ghost use Rattle.region.specs.Cells.{settled_slot, settled_slots};
-ghost use Rattle.refute_basic.specs.Leaf.{settled_assignment};
-ghost use Rattle.refute_basic.specs.Served.{is_of_slots};
+ghost use Rattle.refute_basic.specs.Leaf.{is_leaf_constraint, settled_alone};
 
 use region::{Bounds, Look, Presence};
 use sched_base::Itv;
@@ -34,9 +33,9 @@ pub struct Settled<'a> {
 }
 
 impl<'a> Slots for Settled<'a> {
-    ghost use Rattle.refute_basic.specs.Leaf.{settled_assignment};
+    ghost use Rattle.refute_basic.specs.Leaf.{settled_alone};
 
-    ghost meaning = { λ s. settled_assignment s.model.now s.look.now.region };
+    ghost meaning = { λ s. settled_alone s.look.now.region };
 
     fn slot(&self, x: Itv) -> Slot {
         if x.0 as usize >= self.look.len() {
@@ -50,7 +49,7 @@ impl<'a> Slots for Settled<'a> {
 pub fn fails(settled: &Settled<'_>, c: &Constraint) -> bool
     requires valid { is_constraint settled.now.model.now c.now ≡ true }
     requires fit { placewise fits_def settled.now.model.now.intervals (settled_slots settled.now.look.now.region) ≡ true }
-    ensures { result ≡ (is_of_slots c.now && not (holds settled.now.model.now (settled_assignment settled.now.model.now settled.now.look.now.region) c.now)) }
+    ensures { result ≡ (is_leaf_constraint c.now && not (holds settled.now.model.now (settled_alone settled.now.look.now.region) c.now)) }
 {
     match c {
         Constraint::Temporal {
@@ -71,7 +70,7 @@ pub fn fails(settled: &Settled<'_>, c: &Constraint) -> bool
 pub fn value_settled(settled: &Settled<'_>, e: &Expr) -> i64
     requires valid { is_expr settled.now.model.now e.now ≡ true }
     requires fit { placewise fits_def settled.now.model.now.intervals (settled_slots settled.now.look.now.region) ≡ true }
-    ensures { result ≡ value_of (settled_assignment settled.now.model.now settled.now.look.now.region) e.now }
+    ensures { result ≡ value_of (settled_alone settled.now.look.now.region) e.now }
 {
     value_in(settled.model, settled, e)
 }

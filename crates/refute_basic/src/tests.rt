@@ -6,8 +6,9 @@ ghost use Rattle.sched_model.specs.declared.types.Expr.TheVariants.{Not, Presenc
 ghost use Rattle.region.specs.Looks.{IsRegionOf};
 
 use crate::basic::Basic;
-use crate::find::{find_leaf, settled_assignment};
+use crate::find::find_leaf;
 use crate::served::is_served;
+use crate::settled::settled_slot;
 use crate::witness::BasicWitness;
 use region::{Look, Refuter, Region};
 use sched_base::{Boxed, Itv, List, NoMemory};
@@ -97,20 +98,17 @@ fn found(
     Ok(found_at(model, &look))
 }
 
-fn slot_at(alloc: Global, model: &Model, look: &Look<'_>) -> Result<Option<Slot>, NoMemory>
-    requires { IsRegionOf model.now look.now.region }
-{
-    if !look.settled() {
-        return Ok(None);
+fn slot_at(look: &Look<'_>) -> Option<Slot> {
+    if !look.settled() || look.len() == 0 {
+        return None;
     }
-    let a = settled_assignment(alloc, model, look)?;
-    Ok(a.slots.as_slice().first().copied())
+    Some(settled_slot(look.bounds(A)))
 }
 
 fn first_slot(alloc: Global, model: &Model) -> Result<Option<Slot>, NoMemory> {
     let region = Region::root(alloc, model)?;
     let look = region.look(None, None);
-    slot_at(alloc, model, &look)
+    Ok(slot_at(&look))
 }
 
 /// Leaves, and whether each refutes where the size doesn't fit.

@@ -1,5 +1,5 @@
 -- A cut splits what is open of an interval.
-use Rattle.std.proofs.Common.{w64, SFits, to_z, of_z, ◌≡◌, ℕ, zero, suc, ◌<◌, ℤ, pos, negsuc, ◌+ℤ◌, true, ◌&&◌, List, [], ◌∷◌, length, refl, sym, ap, subst, ◌∙◌, arith, get_or}
+use Rattle.std.proofs.Common.{w64, SFits, to_z, of_z, ◌≡◌, ℕ, zero, suc, ◌<◌, ℤ, pos, negsuc, ◌+ℤ◌, true, ◌&&◌, List, [], ◌∷◌, length, refl, sym, ap, subst, arith, get_or}
 use Rattle.std.specs.Prelude.{int_le, int_lt, ◌≤ℤ◌, ◌<ℤ◌, nat_lt}
 use Rattle.std.specs.Int.{int_div_euclid}
 use Rattle.std.specs.Ordering.{int_eq}
@@ -55,14 +55,31 @@ end_opens x c t here less middle = rw here (in_between c.emin c.emax t less midd
     in_between : (lo hi t : ℤ) → lo <ℤ hi → (t +ℤ t) ≤ℤ (lo +ℤ hi) → (lo +ℤ hi) <ℤ (t +ℤ t +ℤ pos 2) → (int_le lo t && int_lt t hi) ≡ true
     in_between lo hi t less below above = grind (arith, ints)
 
+-- a guess that is open at the bounds of its interval, and ready there, splits the region
+below_test : (n k : ℕ) → n < k → nat_lt n k ≡ true
+below_test n k h = grind (arith, nat_tests)
+
+splits_at : (r : Region) (c : Bounds) (g : Guess) → (subject g).0 < length r.bounds → bounds_of r (subject g) ≡ c → is_open_at g c ≡ true → is_ready_at g c ≡ true → splits r g ≡ true
+splits_at r c g within same opens ready =
+    true_both _ _ (true_both _ _ (below_test (subject g).0 (length r.bounds) within) (subst (λ b. is_open_at g b ≡ true) (sym same) opens)) (subst (λ b. is_ready_at g b ≡ true) (sym same) ready)
+
 pub cuts_start : (x : Itv) (c : Bounds) (t : ℤ) → c.presence ≡ presence.Present → c.smin <ℤ c.smax → IsMiddle c.smin c.smax t → Cuts x c (StartLe x t)
-cuts_start x c t here less middle = record { of = refl; opens = start_opens x c t here less middle; ready = ap says_present here; cut = middle }
+cuts_start x c t here less middle = record {
+  splits_it = λ r within same. splits_at r c (StartLe x t) within same (start_opens x c t here less middle) (ap says_present here);
+  cuts_it = λ r same. subst (λ b. IsMiddle b.smin b.smax t) (sym same) middle;
+}
 
 pub cuts_end : (x : Itv) (c : Bounds) (t : ℤ) → c.presence ≡ presence.Present → c.emin <ℤ c.emax → IsMiddle c.emin c.emax t → Cuts x c (EndLe x t)
-cuts_end x c t here less middle = record { of = refl; opens = end_opens x c t here less middle; ready = ap says_present here; cut = middle }
+cuts_end x c t here less middle = record {
+  splits_it = λ r within same. splits_at r c (EndLe x t) within same (end_opens x c t here less middle) (ap says_present here);
+  cuts_it = λ r same. subst (λ b. IsMiddle b.emin b.emax t) (sym same) middle;
+}
 
 pub cuts_presence : (x : Itv) (c : Bounds) → c.presence ≡ presence.Maybe → Cuts x c (Present x)
-cuts_presence x c maybe = record { of = refl; opens = rw maybe refl; ready = refl; cut = tt }
+cuts_presence x c maybe = record {
+  splits_it = λ r within same. splits_at r c (Present x) within same (rw maybe refl) refl;
+  cuts_it = λ r same. tt;
+}
 
 pub fixed_absent : (c : Bounds) → c.presence ≡ presence.Absent → is_fixed c ≡ true
 fixed_absent c absent = rw absent refl
@@ -93,15 +110,9 @@ all_ordered (d ∷ ds) (b ∷ bs) (suc n) h within = all_ordered ds bs n (both_t
 pub ordered_at : (m : Data) (r : Region) (x : Itv) → IsRegionOf m r → x.0 < length r.bounds → is_ordered (bounds_of r x) ≡ true
 ordered_at m r x of within = all_ordered m.intervals r.bounds x.0 of.bounds within
 
--- a cut of an interval of the region splits it
+-- a cut of an interval of the region splits it, and cuts it so
 pub cut_splits : (r : Region) (x : Itv) (c : Bounds) (g : Guess) → x.0 < length r.bounds → c ≡ bounds_of r x → Cuts x c g → splits r g ≡ true
-cut_splits r x c g within same cuts =
-    let at : c ≡ bounds_of r (subject g) = same ∙ ap (bounds_of r) (sym cuts.of) in
-    true_both _ _ (true_both _ _ (subst (λ y. nat_lt y.0 (length r.bounds) ≡ true) (sym cuts.of) (below x.0 (length r.bounds) within)) (subst (λ b. is_open_at g b ≡ true) at cuts.opens))
-    (subst (λ b. is_ready_at g b ≡ true) at cuts.ready)
-  where
-    below : (n k : ℕ) → n < k → nat_lt n k ≡ true
-    below n k h = grind (arith, nat_tests)
+cut_splits r x c g within same cuts = cuts.splits_it r within (sym same)
 
-pub cut_at : (r : Region) (x : Itv) (c : Bounds) (g : Guess) → c ≡ bounds_of r x → Cuts x c g → IsCut (bounds_of r (subject g)) g
-cut_at r x c g same cuts = subst (λ b. IsCut b g) (same ∙ ap (bounds_of r) (sym cuts.of)) cuts.cut
+pub cut_at : (r : Region) (x : Itv) (c : Bounds) (g : Guess) → c ≡ bounds_of r x → Cuts x c g → IsCut r g
+cut_at r x c g same cuts = cuts.cuts_it r (sym same)

@@ -29,8 +29,8 @@ use Rattle.refute_basic.specs.declared.witness.BasicWitness.{BasicWitness}
 use Rattle.refute_basic.specs.declared.witness.BasicWitness.TheVariants.{Leaf}
 use Rattle.refute_basic.specs.Basic.{refutes, row_of}
 use Rattle.refute_basic.specs.Witness.{is_valid as is_valid_basic, is_number}
-use Rattle.refute_basic.specs.Leaf.{empty_for_each, settled_assignment}
-use Rattle.refute_basic.specs.laws.NoLeaf.{few_of}
+use Rattle.solver.specs.Leaves.{empty_for_each, settled_assignment}
+use Rattle.refute_basic.specs.laws.Fits.{few_of}
 use Rattle.kernel.specs.declared.types.Line.TheVariants.{Fail, Split, Sol}
 use Rattle.kernel.specs.declared.types.Witness.TheVariants.{Basic}
 use Rattle.kernel.specs.NoExtra.{numbers_of, is_valid}

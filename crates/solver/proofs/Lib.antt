@@ -4,3 +4,4 @@ pub mod Samples
 pub mod Stepping
 pub mod Writing
 pub mod Answering
+pub mod Assigned

@@ -9,8 +9,8 @@ use Rattle.sched_model.specs.Solution.{is_solution, is_better, objective_of}
 use Rattle.sched_model.specs.Valid.{IsValid}
 use Rattle.sched_model.specs.Value.{value_of}
 use Rattle.region.specs.declared.types.Guess.{Guess}
-use Rattle.region.specs.Cells.{Region, is_settled, allows, bounds_of}
-use Rattle.region.specs.Guesses.{splits, subject}
+use Rattle.region.specs.Cells.{Region, is_settled, allows}
+use Rattle.region.specs.Guesses.{splits}
 use Rattle.region.specs.Looks.{Seen, IsRegionOf}
 use Rattle.region.specs.laws.Lists.{true_both}
 use Rattle.refute_basic.specs.Basic.{refutes}
@@ -112,7 +112,7 @@ leaf_next m s l line between first best settled h =
       cuts = leaf_cuts m l line (first_in s.current s.waiting) h;
     }
 
-pub split_next : (m : Data) (s : LogState) (r : Region) (g : Guess) → IsBetween m s → first_in s.current s.waiting ≡ Some r → IsRegionOf m r → splits r g ≡ true → IsCut (bounds_of r (subject g)) g → IsNext m s (Split g)
+pub split_next : (m : Data) (s : LogState) (r : Region) (g : Guess) → IsBetween m s → first_in s.current s.waiting ≡ Some r → IsRegionOf m r → splits r g ≡ true → IsCut r g → IsNext m s (Split g)
 split_next m s r g between first of h cut =
     let rest = first_waits s.current s.waiting r between.closed first in
     record {

@@ -1,11 +1,9 @@
 -- Where the splits of a log cut.
-use Rattle.std.specs.Prelude.{◌≡◌, ℤ, ◌+ℤ◌, ◌≤ℤ◌, ◌<ℤ◌, pos, List, [], ◌∷◌, Option, Some, None, Ok}
+use Rattle.std.specs.Prelude.{◌≡◌, ℤ, ◌+ℤ◌, ◌-ℤ◌, ◌≤ℤ◌, ◌<ℤ◌, pos, List, [], ◌∷◌, Option, Some, None, Ok}
 use Rattle.sched_model.specs.Data.{Data}
-use Rattle.region.specs.declared.types.Bounds.{Bounds}
 use Rattle.region.specs.declared.types.Guess.{Guess}
 use Rattle.region.specs.declared.types.Guess.TheVariants as guess
 use Rattle.region.specs.Cells.{Region, bounds_of}
-use Rattle.region.specs.Guesses.{subject}
 use Rattle.kernel.specs.declared.types.Line.TheVariants.{Derive, Fail, Split, Sol}
 use Rattle.kernel.specs.NoExtra.{refutes_none}
 use Rattle.kernel.specs.Refuting.{refutes_with}
@@ -21,16 +19,18 @@ pub record IsMiddle (lo hi t : ℤ) : Type 0 where
   pub below : (t +ℤ t) ≤ℤ (lo +ℤ hi)
   pub above : (lo +ℤ hi) <ℤ (t +ℤ t +ℤ pos 2)
 
--- a presence, or a bound at the middle, the earlier half first
-abbrev pub IsCut : Bounds → Guess → Type 0
-IsCut c (guess.Present x) = Unit {0}
-IsCut c (guess.StartLe x t) = IsMiddle c.smin c.smax t
-IsCut c (guess.EndLe x t) = IsMiddle c.emin c.emax t
-IsCut c _ = ⊥
+-- A bound is cut at the middle t of what is open of it: one part has the moments up to t, the other those from t + 1 on,
+-- and either may be the guess. Of other guesses nothing is asked.
+abbrev pub IsCut : Region → Guess → Type 0
+IsCut r (guess.StartLe x t) = IsMiddle (bounds_of r x).smin (bounds_of r x).smax t
+IsCut r (guess.StartGe x t) = IsMiddle (bounds_of r x).smin (bounds_of r x).smax (t -ℤ pos 1)
+IsCut r (guess.EndLe x t) = IsMiddle (bounds_of r x).emin (bounds_of r x).emax t
+IsCut r (guess.EndGe x t) = IsMiddle (bounds_of r x).emin (bounds_of r x).emax (t -ℤ pos 1)
+IsCut r _ = Unit {0}
 
 -- a split cuts the region that it is about so
 abbrev pub IsWellCut : PlainLine → Option Region → Type 0
-IsWellCut (Split g) (Some r) = IsCut (bounds_of r (subject g)) g
+IsWellCut (Split g) (Some r) = IsCut r g
 IsWellCut (Split g) None = Unit {0}
 IsWellCut (Derive g w) o = Unit {0}
 IsWellCut (Fail w) o = Unit {0}

@@ -1,5 +1,5 @@
 -- The search under way: from node to node, each closed by one line, and what was written so far.
-use Rattle.std.specs.Prelude.{◌≡◌, ℕ, ◌+◌, ◌≤◌, ℤ, Bool, true, false, ◌&&◌, List, [], ◌++◌, length, take, drop, int_le, Option, Some, None, option_map, Result, Ok, Err, IsOk, IsTrue}
+use Rattle.std.specs.Prelude.{◌≡◌, ℕ, ◌+◌, ◌≤◌, ◌<◌, ℤ, Bool, true, false, ◌&&◌, List, [], ◌++◌, length, take, drop, int_le, Option, Some, None, option_map, Result, Ok, Err, IsOk, IsTrue}
 use Rattle.sched_base.specs.declared.ids.Itv.{Itv}
 use Rattle.sched_base.specs.State.{State}
 use Rattle.sched_base.specs.Calls.{appended}
@@ -9,10 +9,10 @@ use Rattle.sched_model.specs.declared.types.Answer.TheVariants.{Optimal, Feasibl
 use Rattle.sched_model.specs.Data.{Data}
 use Rattle.region.specs.declared.types.Bounds.{Bounds}
 use Rattle.region.specs.declared.types.Guess.{Guess}
-use Rattle.region.specs.Guesses.{subject, is_open_at, is_ready_at}
+use Rattle.region.specs.Cells.{Region, bounds_of}
+use Rattle.region.specs.Guesses.{splits}
 use Rattle.region.specs.Looks.{Seen}
 use Rattle.refute_basic.specs.Basic.{refutes}
-use Rattle.refute_basic.specs.Leaf.{settled_assignment, Solves}
 use Rattle.kernel.specs.declared.types.Found.{Found}
 use Rattle.kernel.specs.declared.types.Line.TheVariants.{Derive, Fail, Split, Sol}
 use Rattle.kernel.specs.declared.types.Verdict.{Verdict}
@@ -26,6 +26,7 @@ use Rattle.textline.specs.Lines.{Bytes}
 use Rattle.logtext.specs.Spelling.{head_text}
 use Rattle.logtext.specs.Logs.{PlainLine, IsLine, IsPlainLog, plain_lines}
 use Rattle.solver.specs.declared.search.SolveFault.{SolveFault}
+use Rattle.solver.specs.Leaves.{settled_assignment, Solves}
 use Rattle.solver.specs.Cuts.{IsCut, IsWellCut, CutFrom, plain_step}
 use Rattle.solver.specs.Solving.{BeginsLog, CausesStop}
 
@@ -35,12 +36,10 @@ use Rattle.solver.specs.Solving.{BeginsLog, CausesStop}
 abbrev pub is_ordered : Bounds → Bool
 is_ordered c = int_le c.smin c.smax && int_le c.emin c.emax
 
--- the guess is of this interval, splits these bounds of it, and cuts them so
+-- the guess splits each region in which this interval has these bounds, and cuts it so
 pub record Cuts (x : Itv) (c : Bounds) (g : Guess) : Type 0 where
-  pub of : subject g ≡ x
-  pub opens : is_open_at g c ≡ true
-  pub ready : is_ready_at g c ≡ true
-  pub cut : IsCut c g
+  pub splits_it : (r : Region) → x.0 < length r.bounds → bounds_of r x ≡ c → splits r g ≡ true
+  pub cuts_it : (r : Region) → bounds_of r x ≡ c → IsCut r g
 
 -- Lines.
 

@@ -1,9 +1,9 @@
 ghost use Rattle.std.specs.Prelude.{◌≡◌, ◌<◌, ◌^◌, ◌≤ℤ◌, true, length, IsTrue, IfSome, IfNone};
 ghost use Rattle.sched_model.specs.Valid.{is_moment};
 ghost use Rattle.region.specs.declared.types.Presence.TheVariants as presence;
-ghost use Rattle.region.specs.Cells.{is_fixed, is_settled, bounds_of};
+ghost use Rattle.region.specs.Cells.{is_fixed, is_settled};
 ghost use Rattle.region.specs.Flat.{HasMoments};
-ghost use Rattle.region.specs.Guesses.{splits, subject};
+ghost use Rattle.region.specs.Guesses.{splits};
 ghost use Rattle.region.specs.Looks.{IsRegionOf};
 ghost use Rattle.solver.specs.Cuts.{IsMiddle, IsCut};
 ghost use Rattle.solver.specs.Searching.{Cuts, is_ordered};
@@ -55,7 +55,7 @@ fn cut(x: Itv, c: Bounds) -> Option<Guess>
 pub fn first_cut(model: &Model, look: &Look<'_>) -> Option<Guess>
     requires { IsRegionOf model.now look.now.region }
     ensures some { IfSome result (λ g. IsTrue (splits look.now.region g)) }
-    ensures cut { IfSome result (λ g. IsCut (bounds_of look.now.region (subject g)) g) }
+    ensures cut { IfSome result (λ g. IsCut look.now.region g) }
     ensures none { IfNone result (IsTrue (is_settled look.now.region)) }
 {
     let _ = model.intervals();

@@ -3,6 +3,7 @@
 
 mod answer;
 mod branch;
+mod leaf;
 mod line;
 mod search;
 

@@ -5,8 +5,9 @@ ghost use Rattle.refute_basic.specs.Served.{is_served};
 ghost use Rattle.solver.specs.Searching.{IsBetween, IsNext, IsLeafLine};
 
 use crate::branch::first_cut;
+use crate::leaf::settled_assignment;
 use kernel::{Kernel, Line, NoExtra, NoWitness, Witness};
-use refute_basic::{find_leaf, settled_assignment};
+use refute_basic::find_leaf;
 use region::Look;
 use sched_base::NoMemory;
 use sched_model::Model;

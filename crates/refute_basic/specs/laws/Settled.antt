@@ -28,8 +28,7 @@ use Rattle.region.specs.laws.Settling.{settled_choice, test_from_allowed}
 use Rattle.refute_basic.specs.declared.witness.BasicWitness.{BasicWitness}
 use Rattle.refute_basic.specs.declared.witness.BasicWitness.TheVariants.{Leaf}
 use Rattle.refute_basic.specs.Witness.{is_valid}
-use Rattle.refute_basic.specs.Served.{is_of_slots}
-use Rattle.refute_basic.specs.Leaf.{settled_assignment, has_size, all_sized, fails_at, is_no_better, leaf_case, leaf_row}
+use Rattle.refute_basic.specs.Leaf.{is_leaf_constraint, settled_alone, has_size, all_sized, fails_at, is_no_better, leaf_case, leaf_row}
 use Rattle.refute_basic.specs.Basic.{refutes, row_of}
 use Rattle.refute_basic.specs.laws.SameSlots.{value_same, holds_same}
 
@@ -75,7 +74,7 @@ none_unsized (b ∷ bs) zero h k = both_ways (has_size b) (not-true (has_size b)
 none_unsized (b ∷ bs) (suc n) h k = none_unsized bs n (both_true (has_size b) (list_all has_size bs) h).1 k
 
 -- of slots alone a sentence is as it is computed
-held : (m : Data) (a : Assignment) (c : Constraint) → is_of_slots c ≡ true → Holds m a c → holds m a c ≡ true
+held : (m : Data) (a : Assignment) (c : Constraint) → is_leaf_constraint c ≡ true → Holds m a c → holds m a c ≡ true
 held m a (Temporal from to equal x y z) of h = h
 held m a (Logic e) of h = h
 held m a (Span x parts) of h = cc
@@ -91,13 +90,13 @@ held m a (AlwaysEqual g x v i j) of h = cc
 held m a (AlwaysNoState g x) of h = cc
 
 -- a constraint of slots alone that a solution keeps holds at the same slots
-none_fails : (m : Data) (a b : Assignment) (cs : List Constraint) (u : ℕ) → a.slots ≡ b.slots → All (Holds m a) cs → passes (λ c. is_of_slots c && not (holds m b c)) (slice_get cs u) ≡ true → ⊥
+none_fails : (m : Data) (a b : Assignment) (cs : List Constraint) (u : ℕ) → a.slots ≡ b.slots → All (Holds m a) cs → passes (λ c. is_leaf_constraint c && not (holds m b c)) (slice_get cs u) ≡ true → ⊥
 none_fails m a b cs u same hold fails = at (slice_get cs u) refl fails
   where
-    at : (o : Option Constraint) → slice_get cs u ≡ o → passes (λ c. is_of_slots c && not (holds m b c)) o ≡ true → ⊥
+    at : (o : Option Constraint) → slice_get cs u ≡ o → passes (λ c. is_leaf_constraint c && not (holds m b c)) o ≡ true → ⊥
     at None is h = true≢false (sym h)
     at (Some c) is h =
-        let two = both_true (is_of_slots c) (not (holds m b c)) h in
+        let two = both_true (is_leaf_constraint c) (not (holds m b c)) h in
         let here : Holds m a c = subst (Holds m a) (get_or_from_slice_get cs u c c is) (hold u c (slice_get_within cs u c is)) in
         both_ways (holds m b c) (not-true (holds m b c) two.1) (sym (holds_same m a b same c two.0) ∙ held m a c two.0 here)
 
@@ -110,12 +109,12 @@ none_beats m a b (Some o) best same h k = both_ways (beats o.sense (value_of b o
 refuted_case : (m : Data) (l : Seen) (a : Assignment) (k u : ℕ) → IsSolution m a → IsTrue (is_better m l.best a) → a.slots ≡ settled_slots l.region → all_sized l.region ≡ true → leaf_case m l k u ≡ true → ⊥
 refuted_case m l a zero u solution better same sized h = none_unsized l.region.bounds u sized h
 refuted_case m l a (suc zero) u solution better same sized h =
-    none_fails m a (settled_assignment m l.region) m.constraints u same solution.holds (both_true (all_sized l.region) (fails_at m l.region u) h).1
+    none_fails m a (settled_alone l.region) m.constraints u same solution.holds (both_true (all_sized l.region) (fails_at m l.region u) h).1
 refuted_case m l a (suc (suc zero)) zero solution better same sized h = beaten l.best better (both_true (all_sized l.region) (is_no_better m l) h).1
   where
-    beaten : (best : Option ℤ) → is_better m best a ≡ true → passes (λ best. passes (λ o. not (beats o.sense (value_of (settled_assignment m l.region) o.expr) best)) m.objective) best ≡ true → ⊥
+    beaten : (best : Option ℤ) → is_better m best a ≡ true → passes (λ best. passes (λ o. not (beats o.sense (value_of (settled_alone l.region) o.expr) best)) m.objective) best ≡ true → ⊥
     beaten None h k = true≢false (sym k)
-    beaten (Some best) h k = none_beats m a (settled_assignment m l.region) m.objective best same h k
+    beaten (Some best) h k = none_beats m a (settled_alone l.region) m.objective best same h k
 refuted_case m l a (suc (suc zero)) (suc u) solution better same sized h = true≢false (sym h)
 refuted_case m l a (suc (suc (suc k))) u solution better same sized h = true≢false (sym h)
 

@@ -1,5 +1,5 @@
 use Rattle.std.proofs.Common.{sym}
-use Rattle.refute_basic.specs.laws.NoLeaf.{settled_fits}
+use Rattle.refute_basic.specs.laws.Fits.{settled_fits}
 use Rattle.refute_basic.proofs.Slots.{valid_at, failing_at}
 use Rattle.refute_basic.proofs.leaf.fails_at.Goals as goal
 

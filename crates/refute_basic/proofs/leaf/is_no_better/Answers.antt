@@ -1,4 +1,4 @@
-use Rattle.refute_basic.specs.laws.NoLeaf.{settled_fits}
+use Rattle.refute_basic.specs.laws.Fits.{settled_fits}
 use Rattle.refute_basic.proofs.leaf.is_no_better.Goals as goal
 
 pub value_settled-requires-clause-fit : goal.value_settled-requires-clause-fit

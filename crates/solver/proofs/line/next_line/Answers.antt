@@ -1,6 +1,5 @@
 use Rattle.std.proofs.Common.{◌≡◌, true, Some, sym, ap, subst, ◌∙◌}
-use Rattle.region.specs.Cells.{bounds_of}
-use Rattle.region.specs.Guesses.{splits, subject}
+use Rattle.region.specs.Guesses.{splits}
 use Rattle.region.specs.Looks.{Seen}
 use Rattle.solver.specs.Cuts.{IsCut}
 use Rattle.solver.proofs.Stepping.{leaf_next, split_next}
@@ -10,7 +9,7 @@ pub returns-in-Some-first_cut-clause-some : goal.returns-in-Some-first_cut-claus
 returns-in-Some-first_cut-clause-some c =
     split_next c.args.model.now c.args.kernel.now c.in-Some.region.now.region c.in-Some-first_cut.g c.requires.between (sym c.in-Some.ensures.first) (c.in-Some.ensures.of c.args.model.now c.requires.between.ready)
     (subst (λ (l : Seen). splits l.region c.in-Some-first_cut.g ≡ true) c.look-look.ensures.value c.in-Some-first_cut.ensures.some)
-    (subst (λ (l : Seen). IsCut (bounds_of l.region (subject c.in-Some-first_cut.g)) c.in-Some-first_cut.g) c.look-look.ensures.value c.in-Some-first_cut.ensures.cut)
+    (subst (λ (l : Seen). IsCut l.region c.in-Some-first_cut.g) c.look-look.ensures.value c.in-Some-first_cut.ensures.cut)
 
 pub returns-clause-some : goal.returns-clause-some
 returns-clause-some c =

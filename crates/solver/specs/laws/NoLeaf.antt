@@ -1,16 +1,16 @@
 -- On a settled region of a model that is served, which no LEAF refutes, the one assignment is a solution, and better than
 -- the best value where there are an objective and a best value.
-use Rattle.std.specs.Prelude.{◌≡◌, ℕ, zero, suc, ◌<◌, ◌≤◌, ℤ, Bool, true, false, not, ◌&&◌, IsTrue, List, [], ◌∷◌, Option, Some, None, map, length, nat_le, slice_get}
+use Rattle.std.specs.Prelude.{◌≡◌, ℕ, zero, suc, ◌<◌, ◌≤◌, ℤ, Bool, true, false, not, ◌&&◌, IsTrue, List, [], ◌∷◌, Option, Some, None, map, length, slice_get}
 use Rattle.std.specs.List.{list_all}
 use Rattle.std.proofs.Common.{refl, sym, ap, ◌∙◌, arith}
 use Rattle.std.proofs.lemmas.Int.{ints}
-use Rattle.std.proofs.lemmas.Bool.{true≢false, leb-true, not-false}
+use Rattle.std.proofs.lemmas.Bool.{true≢false, not-false}
 use Rattle.std.proofs.lemmas.Bool.Decides.{nat_tests}
-use Rattle.sched_model.specs.declared.types.IntervalDef.{IntervalDef}
 use Rattle.sched_model.specs.declared.types.SequenceDef.{SequenceDef}
 use Rattle.sched_model.specs.declared.types.StateDef.{StateDef}
 use Rattle.sched_model.specs.declared.types.Assignment.{Assignment}
 use Rattle.sched_model.specs.declared.types.Constraint.{Constraint}
+use Rattle.sched_model.specs.declared.types.Constraint.TheVariants.{Temporal, Logic, Span, Alternative, Synchronize, NoOverlap, First, Last, Before, Prev, CumulIn, AlwaysEqual, AlwaysNoState}
 use Rattle.sched_model.specs.declared.types.Objective.{Objective}
 use Rattle.sched_model.specs.declared.types.Slot.{Slot}
 use Rattle.sched_model.specs.Words.{◌implies◌, passes, passes_if_any, is_empty, placewise}
@@ -28,9 +28,12 @@ use Rattle.region.specs.Looks.{Seen, IsRegionOf, is_narrowed}
 use Rattle.region.specs.laws.Lists.{both_true, true_both, placewise-length}
 use Rattle.refute_basic.specs.declared.witness.BasicWitness.TheVariants.{Leaf}
 use Rattle.refute_basic.specs.Witness.{is_number}
-use Rattle.refute_basic.specs.Served.{is_of_slots, is_served}
-use Rattle.refute_basic.specs.Leaf.{empty_for_each, settled_assignment, has_size, all_sized, fails_at, is_no_better, keeps, leaf_case, leaf_row, Solves}
+use Rattle.refute_basic.specs.Served.{is_served_constraint, is_served}
+use Rattle.refute_basic.specs.Leaf.{is_leaf_constraint, settled_alone, has_size, all_sized, fails_at, is_no_better, keeps, leaf_case, leaf_row, PassesLeaf}
 use Rattle.refute_basic.specs.Basic.{refutes}
+use Rattle.refute_basic.specs.laws.Fits.{settled_fits, few_of}
+use Rattle.refute_basic.specs.laws.SameSlots.{value_same, holds_same}
+use Rattle.solver.specs.Leaves.{empty_for_each, settled_assignment, Solves}
 
 -- a settled region allows the assignment at the settled values
 fits_itself : (p : Presence) (a b e f lo hi : ℤ)
@@ -53,26 +56,6 @@ slots_allowed r ss settled same = ap (placewise fits_bounds r.bounds) same ∙ e
 
 -- where the sizes are right, it is in the domain
 
-def_slot : (p : Presence) (d : IntervalDef) (a b e f lo hi : ℤ)
-    → let c : Bounds = record { presence = p; smin = a; smax = b; emin = e; emax = f; pmin = lo; pmax = hi } in is_narrowed d c ≡ true → is_fixed c ≡ true → has_size c ≡ true → fits_def d (settled_slot c) ≡ true
-def_slot presence.Absent d a b e f lo hi narrowed fixed sized = grind (arith, ints)
-def_slot presence.Maybe d a b e f lo hi narrowed fixed sized = cc
-def_slot presence.Present d a b e f lo hi narrowed fixed sized = grind (arith, ints)
-
-each_def : (ds : List IntervalDef) (bs : List Bounds) → placewise is_narrowed ds bs ≡ true → list_all is_fixed bs ≡ true → list_all has_size bs ≡ true → placewise fits_def ds (map settled_slot bs) ≡ true
-each_def [] [] narrowed fixed sized = refl
-each_def (d ∷ ds) [] narrowed fixed sized = cc
-each_def [] (b ∷ bs) narrowed fixed sized = cc
-each_def (d ∷ ds) (b ∷ bs) narrowed fixed sized =
-    let first = both_true (is_narrowed d b) (placewise is_narrowed ds bs) narrowed in
-    let second = both_true (is_fixed b) (list_all is_fixed bs) fixed in
-    let third = both_true (has_size b) (list_all has_size bs) sized in
-    true_both (fits_def d (settled_slot b)) _ (def_slot b.presence d b.smin b.smax b.emin b.emax b.pmin b.pmax first.0 second.0 third.0) (each_def ds bs first.1 second.1 third.1)
-
--- the slots fit where sizes are right
-pub settled_fits : (m : Data) (r : Region) → IsRegionOf m r → is_settled r ≡ true → all_sized r ≡ true → placewise fits_def m.intervals (settled_slots r) ≡ true
-settled_fits m r of settled sized = each_def m.intervals r.bounds of.bounds settled sized
-
 -- with no sequence there is no order, and no segments are those of each state function
 no_orders : (m : Data) (a : Assignment) (ds : List SequenceDef) → is_empty ds ≡ true → placewise (lists_present a) ds (empty_for_each ds) ≡ true
 no_orders m a [] h = refl
@@ -93,28 +76,46 @@ beats_best : (m : Data) (l : Seen) (o : Option Objective) → m.objective ≡ o 
 beats_best m l None is best same h = refl
 beats_best m l (Some o) is None same h = refl
 beats_best m l (Some o) is (Some v) same h =
-    let at : not (beats o.sense (value_of (settled_assignment m l.region) o.expr) v) ≡ false =
-    sym (ap (λ best. passes (λ best. passes (λ p. not (beats p.sense (value_of (settled_assignment m l.region) p.expr) best)) m.objective) best) same
-    ∙ ap (λ q. passes (λ p. not (beats p.sense (value_of (settled_assignment m l.region) p.expr) v)) q) is) ∙ h in
-    ap (λ q. passes (λ p. beats p.sense (value_of (settled_assignment m l.region) p.expr) v) q) is ∙ not-false _ at
+    let at : not (beats o.sense (value_of (settled_alone l.region) o.expr) v) ≡ false =
+    sym (ap (λ best. passes (λ best. passes (λ p. not (beats p.sense (value_of (settled_alone l.region) p.expr) best)) m.objective) best) same
+    ∙ ap (λ q. passes (λ p. not (beats p.sense (value_of (settled_alone l.region) p.expr) v)) q) is) ∙ h in
+    ap (λ q. passes (λ p. beats p.sense (value_of (settled_assignment m l.region) p.expr) v) q) is
+    ∙ ap (λ z. beats o.sense z v) (value_same (settled_assignment m l.region) (settled_alone l.region) refl o.expr) ∙ not-false _ at
 
--- where each precedence and each expression holds, in a model that has no others all constraints do
-all_hold : (m : Data) (a : Assignment) (cs : List Constraint) → list_all is_of_slots cs ≡ true → list_all (λ c. is_of_slots c implies holds m a c) cs ≡ true → list_all (holds m a) cs ≡ true
-all_hold m a [] of h = refl
-all_hold m a (c ∷ cs) of h =
-    let first = both_true (is_of_slots c) (list_all is_of_slots cs) of in
-    let second = both_true (is_of_slots c implies holds m a c) (list_all (λ c. is_of_slots c implies holds m a c) cs) h in
-    true_both (holds m a c) _ (sym (ap (λ b. b implies holds m a c) first.0) ∙ second.0) (all_hold m a cs first.1 second.1)
+-- LEAF looks at each constraint of a model that is served
+served_leaf : (c : Constraint) → is_served_constraint c ≡ true → is_leaf_constraint c ≡ true
+served_leaf (Temporal from to equal x y z) of = refl
+served_leaf (Logic e) of = refl
+served_leaf (Span x parts) of = cc
+served_leaf (Alternative x parts) of = cc
+served_leaf (Synchronize x parts) of = cc
+served_leaf (NoOverlap p matrix direct) of = cc
+served_leaf (First p x) of = cc
+served_leaf (Last p x) of = cc
+served_leaf (Before p x y) of = cc
+served_leaf (Prev p x y) of = cc
+served_leaf (CumulIn f w lo hi) of = cc
+served_leaf (AlwaysEqual g x v i j) of = cc
+served_leaf (AlwaysNoState g x) of = cc
 
--- the tests one by one
-pub tested : (m : Data) (l : Seen) → IsRegionOf m l.region → is_served m ≡ true → is_settled l.region ≡ true → all_sized l.region ≡ true → list_all (keeps m l.region) m.constraints ≡ true
-    → is_no_better m l ≡ false → Solves m l
-tested m l of served settled sized hold better =
-    let two = both_true (is_empty m.sequences) (list_all is_of_slots m.constraints) served in
+-- so where none fails all of them hold
+all_hold : (m : Data) (r : Region) (cs : List Constraint) → list_all is_served_constraint cs ≡ true → list_all (keeps m r) cs ≡ true → list_all (holds m (settled_assignment m r)) cs ≡ true
+all_hold m r [] of h = refl
+all_hold m r (c ∷ cs) of h =
+    let first = both_true (is_served_constraint c) (list_all is_served_constraint cs) of in
+    let second = both_true (keeps m r c) (list_all (keeps m r) cs) h in
+    let leaf : is_leaf_constraint c ≡ true = served_leaf c first.0 in
+    let here : holds m (settled_alone r) c ≡ true = sym (ap (λ b. b implies holds m (settled_alone r) c) leaf) ∙ second.0 in
+    true_both (holds m (settled_assignment m r) c) _ (holds_same m (settled_assignment m r) (settled_alone r) refl c leaf ∙ here) (all_hold m r cs first.1 second.1)
+
+-- what passes LEAF is a solution
+pub passes_solves : (m : Data) (l : Seen) → IsRegionOf m l.region → is_served m ≡ true → is_settled l.region ≡ true → PassesLeaf m l → Solves m l
+passes_solves m l of served settled passed =
+    let two = both_true (is_empty m.sequences) (list_all is_served_constraint m.constraints) served in
     record {
-      solution = true_both (is_in_domain m (settled_assignment m l.region)) _ (settled_in_domain m l.region of two.0 settled sized) (all_hold m (settled_assignment m l.region) m.constraints two.1 hold);
+      solution = true_both (is_in_domain m (settled_assignment m l.region)) _ (settled_in_domain m l.region of two.0 settled passed.sized) (all_hold m l.region m.constraints two.1 passed.kept);
       allowed = settled_allowed m l.region settled;
-      better = beats_best m l m.objective refl l.best refl better;
+      better = beats_best m l m.objective refl l.best refl passed.better;
     }
 
 -- a list that doesn't pass has an element that doesn't
@@ -127,27 +128,17 @@ unlisted : {X : Type 0} → (p : X → Bool) (xs : List X) → list_all p xs ≡
 unlisted p [] h = absurd (true≢false h)
 unlisted p (x ∷ xs) h = unlisted_or p x xs (p x) refl h (unlisted p xs)
 
--- what isn't kept is of slots alone and fails
+-- what isn't kept fails
 not_kept : (p q : Bool) → not (p implies q) ≡ true → (p && not q) ≡ true
 not_kept true q h = h
 not_kept false q h = cc
 
-unkept_fails : (m : Data) (r : Region) (o : Option Constraint) → passes (λ c. not (keeps m r c)) o ≡ true → passes (λ c. is_of_slots c && not (holds m (settled_assignment m r) c)) o ≡ true
+unkept_fails : (m : Data) (r : Region) (o : Option Constraint) → passes (λ c. not (keeps m r c)) o ≡ true → passes (λ c. is_leaf_constraint c && not (holds m (settled_alone r) c)) o ≡ true
 unkept_fails m r None h = cc
-unkept_fails m r (Some c) h = not_kept (is_of_slots c) (holds m (settled_assignment m r) c) h
+unkept_fails m r (Some c) h = not_kept (is_leaf_constraint c) (holds m (settled_alone r) c) h
 
 number_below : (n k : ℕ) → n < k → k ≤ 20000 → is_number n ≡ true
 number_below n k h few = grind (arith, nat_tests)
-
-pub few_of : (m : Data) → IsValid m → (length m.intervals ≤ 2000) × (length m.constraints ≤ 20000)
-few_of m valid =
-    let h7 = (both_true _ _ valid.limits).0 in
-    let h6 = both_true _ (nat_le (length m.constraints) 20000) (both_true _ _ h7).0 in
-    let h5 = (both_true _ _ h6.0).0 in
-    let h4 = (both_true _ _ h5).0 in
-    let h3 = (both_true _ _ h4).0 in
-    let h2 = (both_true (nat_le (length m.intervals) 2000) _ h3).0 in
-    (leb-true _ _ h2, leb-true _ _ h6.1)
 
 pub no_leaf_solves : (m : Data) (l : Seen) → IsValid m → IsRegionOf m l.region → IsTrue (is_served m) → is_settled l.region ≡ true → ((k u : ℕ) → IsTrue (refutes m l (Leaf k u)) → ⊥) → Solves m l
 no_leaf_solves m l valid of served settled none = sized_or (all_sized l.region) refl
@@ -159,7 +150,7 @@ no_leaf_solves m l valid of served settled none = sized_or (all_sized l.region) 
     few_bounds = omega (arith, (few_of m valid).0, placewise-length is_narrowed m.intervals l.region.bounds of.bounds)
 
     better_or : all_sized l.region ≡ true → list_all (keeps m l.region) m.constraints ≡ true → (b : Bool) → is_no_better m l ≡ b → Solves m l
-    better_or sized hold false is = tested m l of served settled sized hold is
+    better_or sized hold false is = passes_solves m l of served settled (record { sized = sized; kept = hold; better = is })
     better_or sized hold true is = absurd (row 2 0 refl refl (true_both (all_sized l.region) (is_no_better m l) sized is))
 
     hold_or : all_sized l.region ≡ true → (b : Bool) → list_all (keeps m l.region) m.constraints ≡ b → Solves m l

@@ -1,5 +1,5 @@
 use Rattle.std.proofs.Common.{◌≡◌, [], replicate}
-use Rattle.refute_basic.proofs.find.empty_lists.Given as goal
+use Rattle.solver.proofs.leaf.empty_lists.Given as goal
 
 abbrev pub invariant-loop : goal.invariant-loop
 invariant-loop g l = l.lists.items ≡ replicate l.counter []

@@ -1,7 +1,7 @@
 use Rattle.std.proofs.Common.{rules}
-use Rattle.refute_basic.specs.laws.NoLeaf.{slots_allowed}
-use Rattle.refute_basic.proofs.Slots.{assigned}
-use Rattle.refute_basic.proofs.find.settled_assignment.Goals as goal
+use Rattle.solver.specs.laws.NoLeaf.{slots_allowed}
+use Rattle.solver.proofs.Assigned.{assigned}
+use Rattle.solver.proofs.leaf.settled_assignment.Goals as goal
 
 pub returns-clause-value : goal.returns-clause-value
 returns-clause-value c = assigned c.args.model.now c.args.look.now.region c.from_vec.result c.in_ok-empty_lists.field-0 c.in_ok-empty_lists-2.field-0 (search rules) (search rules) (search rules)

@@ -1,0 +1,22 @@
+-- The assignment that a settled region leaves.
+use Rattle.std.specs.Prelude.{IsTrue, List, [], map}
+use Rattle.sched_model.specs.declared.types.Assignment.{Assignment}
+use Rattle.sched_model.specs.Words.{passes_if_any}
+use Rattle.sched_model.specs.Data.{Data}
+use Rattle.sched_model.specs.Solution.{is_solution, is_better}
+use Rattle.region.specs.Cells.{Region, settled_slots, allows}
+use Rattle.region.specs.Looks.{Seen}
+
+-- an empty list for each element
+abbrev pub empty_for_each : {X Y : Type 0} → List X → List (List Y)
+empty_for_each xs = map (λ x. []) xs
+
+-- the assignment of a `Sol` line: the settled slots, an empty order for each sequence, and no segment for any state function
+abbrev pub settled_assignment : Data → Region → Assignment
+settled_assignment m r = record { slots = settled_slots r; orders = empty_for_each m.sequences; segs = empty_for_each m.states }
+
+-- it is a solution that the look allows, and better than the best value, where there are an objective and a best value
+pub record Solves (m : Data) (l : Seen) : Type 0 where
+  pub solution : IsTrue (is_solution m (settled_assignment m l.region))
+  pub allowed : IsTrue (allows l.region (settled_assignment m l.region))
+  pub better : IsTrue (passes_if_any (λ o. is_better m l.best (settled_assignment m l.region)) m.objective)

@@ -1,0 +1,53 @@
+ghost use Rattle.std.specs.Prelude.{◌≡◌, ◌<◌, ◌^◌, [], length, ◌++◌, replicate, IsTrue, IfOk, OnOk};
+ghost use Rattle.region.specs.Cells.{is_settled, settled_slots, allows};
+ghost use Rattle.region.specs.Looks.{IsRegionOf};
+ghost use Rattle.solver.specs.Leaves.{settled_assignment};
+
+use refute_basic::settled_slot;
+use region::Look;
+use sched_base::{Itv, List, NoMemory};
+use sched_model::{Assignment, Model, Slot};
+use std::alloc::Global;
+
+fn settled_slots(look: &Look<'_>, slots: &mut Vec<Slot>) -> Result<(), NoMemory>
+    requires { length look.now.region.bounds < 2 ^ 32 }
+    ensures { OnOk result (slots.new.items ≡ slots.old.items ++ settled_slots look.now.region) }
+{
+    for n in 0..look.len() as u32 {
+        slots.push(settled_slot(look.bounds(Itv(n))))?;
+    }
+    Ok(())
+}
+
+/// So many empty lists.
+fn empty_lists<T: Drop>(alloc: Global, n: usize) -> Result<List<List<T>>, NoMemory>
+    ensures { IfOk result (λ o. o ≡ replicate n []) }
+{
+    let mut lists = Vec::with_capacity(alloc, n)?;
+    for _ in 0..n {
+        lists.push(List::new(alloc))?;
+    }
+    Ok(List::from_vec(lists))
+}
+
+/// The assignment at the settled values, with an empty order for each sequence and no segment for
+/// any state function. A settled look of a model that is served allows no other solution.
+pub fn settled_assignment(
+    alloc: Global,
+    model: &Model,
+    look: &Look<'_>,
+) -> Result<Assignment, NoMemory>
+    requires of { IsRegionOf model.now look.now.region }
+    requires settled { IsTrue (is_settled look.now.region) }
+    ensures value { IfOk result (λ a. a ≡ settled_assignment model.now look.now.region) }
+    ensures allowed { IfOk result (λ a. IsTrue (allows look.now.region a)) }
+{
+    let _ = model.intervals();
+    let mut slots = Vec::with_capacity(alloc, look.len())?;
+    settled_slots(look, &mut slots)?;
+    Ok(Assignment {
+        slots: List::from_vec(slots),
+        orders: empty_lists(alloc, model.sequences().len())?,
+        segs: empty_lists(alloc, model.states().len())?,
+    })
+}
