@@ -4,3 +4,4 @@ pub mod Logs
 pub mod Reached
 pub mod Judged
 pub mod Determined
+pub mod Desk

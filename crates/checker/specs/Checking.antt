@@ -1,5 +1,5 @@
 -- What checking a log gives, and what it does to the desk.
-use Rattle.std.specs.Prelude.{◌≡◌, ◌+◌, ◌≤◌, true, take, Result, Ok, Err, IfSome, ⊤}
+use Rattle.std.specs.Prelude.{◌≡◌, ℕ, ◌+◌, ◌≤◌, true, take, drop, Option, option_map, Result, Ok, Err, IfSome, ⊤}
 use Rattle.sched_base.specs.declared.desk.Inlet.TheVariants.{Log}
 use Rattle.sched_base.specs.State.{State, left_in}
 use Rattle.sched_base.specs.Calls.{Rose}
@@ -22,15 +22,28 @@ Judges m bytes (Err NoMemory) = ⊤
 abbrev pub log_bytes : Bytes → Bytes
 log_bytes bytes = take (log_limit + 1) bytes
 
--- a fault was counted where it is told, and no answer comes with one
+-- a fault was counted where it is told, and no other answer comes with one
 abbrev pub Counts : Result Checked CheckFault → State → State → Type 0
 Counts (Err Fault) old new = Rose old.faults new.faults × (old.calm ≡ true → ⊥)
-Counts (Err NoMemory) old new = ⊤
 Counts _ old new = new.faults ≡ old.faults
+
+-- at most so many bytes of what was left in a slot were read, and the others are left
+pub record ReadsAtMost (most : ℕ) (before after : Option Bytes) : Type 0 where
+  pub count : ℕ
+  pub few : count ≤ most
+  pub left : after ≡ option_map (drop count) before
+
+-- where the log was judged
+abbrev pub IfJudged : Result Checked CheckFault → Type 0 → Type 0
+IfJudged (Err Fault) X = ⊤
+IfJudged (Err NoMemory) X = ⊤
+IfJudged _ X = X
 
 pub record Checks (m : Data) (result : Result Checked CheckFault) (old new : State) : Type 0 where
   pub judgement : IfSome (left_in Log old) (λ bytes. Judges m (log_bytes bytes) result)
   pub counts : Counts result old new
+  -- a judgement has read one byte beyond the limit at most
+  pub reads : IfJudged result (ReadsAtMost (log_limit + 1) (left_in Log old) (left_in Log new))
   -- only the place in the log's slot and the count have changed
   pub only : new ≡ record old { log = new.log; faults = new.faults }
   pub later : old.faults ≤ new.faults
