@@ -4,7 +4,7 @@ use Rattle.sched_base.specs.declared.desk.Port.TheVariants.{Out}
 use Rattle.schedtool.specs.declared.ended.Ended.TheVariants as end
 use Rattle.schedtool.specs.declared.stop.Stop.TheVariants as stop
 use Rattle.schedtool.specs.CheckText.{check_text}
-use Rattle.std.proofs.Common.{◌≡◌, ◌≤◌, ℕ, List, Option, Some, None, Ok, Err, length, take, refl, sym, ap, subst, ◌∙◌, inr, arith}
+use Rattle.std.proofs.Common.{◌≡◌, ◌≤◌, ◌+◌, ℕ, List, Option, Some, None, Ok, Err, length, take, refl, sym, ap, subst, ◌∙◌, inr, arith}
 use Rattle.std.specs.Prelude.{IfSome, option_and_then}
 use Rattle.sched_base.specs.declared.desk.File.{File}
 use Rattle.sched_base.specs.declared.desk.Inlet.TheVariants.{Log}
@@ -16,8 +16,9 @@ use Rattle.kernel.specs.Promises.{Means}
 use Rattle.checker.specs.declared.judging.Checked.{Checked}
 use Rattle.checker.specs.declared.judging.CheckFault.{CheckFault}
 use Rattle.checker.specs.declared.judging.CheckFault.TheVariants as fault
-use Rattle.checker.specs.Checking.{Checks, Judges, log_bytes}
-use Rattle.schedtool.specs.Runs.{IfFile, FileServes, AcceptsLog}
+use Rattle.checker.specs.Judgement.{log_limit}
+use Rattle.checker.specs.Checking.{Checks, Judges, log_bytes, ReadsAtMost}
+use Rattle.schedtool.specs.Runs.{IfFile, FileServes, AcceptsLog, ReadsModel, ReadsLog}
 use Rattle.schedtool.specs.Stops.{stop_of_check}
 use Rattle.schedtool.specs.Tries.{OnlyReads, OnlyJudges, JudgesFile, TriesCheck}
 
@@ -28,16 +29,21 @@ in_file (Some fs) name P is = is
 judged_file : (s o : State) (log : Bytes) (u : Unit {0}) (P : Bytes → Type 0) → Opens Log log (Ok u) s o → IfSome (left_in Log o) P → IfFile s log P
 judged_file s o log u P opens is = (opens.there, in_file s.files log P (subst (λ left. IfSome left P) (ap (λ (x : State). left_in Log x) opens.opened) is))
 
+-- how far the log was read, from its first byte on
+log_read : (s o t : State) (log : Bytes) (u : Unit {0}) → Opens Log log (Ok u) s o → ReadsAtMost (log_limit + 1) (left_in Log o) (left_in Log t) → ReadsLog log s t
+log_read s o t log u opens reads = subst (λ left. ReadsAtMost (log_limit + 1) left t.log.left) (ap (λ (x : State). left_in Log x) opens.opened) reads
+
 pub accepted_file : (m : Data) (log : Bytes) (c : Checked) (u : Unit {0}) (s o t : State) → Opens Log log (Ok u) s o → Checks m (Ok c) o t → Means m c.verdict → JudgesFile m log (Ok c) s t
 accepted_file m log c u s o t opens checks means = (
   checks.counts ∙ ap (λ (x : State). x.faults) opens.opened,
   judged_file s o log u (λ bytes. Judges m (log_bytes bytes) (Ok c)) opens checks.judgement,
   means,
+  log_read s o t log u opens checks.reads,
 )
 
 pub not_accepted : (m : Data) (log : Bytes) (e : CheckFault) (u : Unit {0}) (s o t : State) → Opens Log log (Ok u) s o → Checks m (Err e) o t → JudgesFile m log (Err (stop_of_check e)) s t
-not_accepted m log (fault.Refused k) u s o t opens checks = judged_file s o log u (λ bytes. Judges m (log_bytes bytes) (Err (fault.Refused k))) opens checks.judgement
-not_accepted m log fault.TooLong u s o t opens checks = judged_file s o log u (λ bytes. Judges m (log_bytes bytes) (Err fault.TooLong)) opens checks.judgement
+not_accepted m log (fault.Refused k) u s o t opens checks = (judged_file s o log u (λ bytes. Judges m (log_bytes bytes) (Err (fault.Refused k))) opens checks.judgement, log_read s o t log u opens checks.reads)
+not_accepted m log fault.TooLong u s o t opens checks = (judged_file s o log u (λ bytes. Judges m (log_bytes bytes) (Err fault.TooLong)) opens checks.judgement, log_read s o t log u opens checks.reads)
 not_accepted m log fault.Fault u s o t opens checks = record {
   rose = subst (λ n. Rose n t.faults) (ap (λ (x : State). x.faults) opens.opened) checks.counts.0;
   calm = λ calm there. checks.counts.1 (ap (λ (x : State). x.calm) opens.opened ∙ calm);
@@ -57,10 +63,13 @@ accepts m model log c old s t reads deserved judges = record {
 both_only : (old s t : State) → OnlyReads old s → OnlyJudges s t → t ≡ record old { model = s.model; log = t.log; faults = t.faults }
 both_only old s t reads judged = judged.only ∙ ap (λ (x : State). record x { log = t.log; faults = t.faults }) reads.only
 
+log_read_behind : (log : Bytes) (old s t : State) → OnlyReads old s → ReadsLog log s t → ReadsLog log old t
+log_read_behind log old s t reads far = subst (λ (files : Option (List File)). ReadsLog log (record old { files = files }) t) (ap (λ (x : State). x.files) reads.only) far
+
 -- the text that says so was printed
-pub accept_printed : (m : Data) (model log bytes : Bytes) (c : Checked) (u : Unit {0}) (old s t w : State) → OnlyReads old s → s.faults ≡ old.faults → FileServes old model m → OnlyJudges s t → JudgesFile m log (Ok c) s t
+pub accept_printed : (m : Data) (model log bytes : Bytes) (c : Checked) (u : Unit {0}) (old s t w : State) → OnlyReads old s → s.faults ≡ old.faults → FileServes old model m → ReadsModel model old s → OnlyJudges s t → JudgesFile m log (Ok c) s t
     → bytes ≡ check_text c.verdict c.nodes → Writes Out bytes (Ok u) t w → TriesCheck model log (Ok end.Accepted) old w
-accept_printed m model log bytes c u old s t w reads kept deserved judged judges spelt writes =
+accept_printed m model log bytes c u old s t w reads kept deserved far judged judges spelt writes =
     let text : Bytes = check_text c.verdict c.nodes in
     let faults : t.faults ≡ old.faults = judges.0 ∙ kept in
     let is : w ≡ record old { model = s.model; log = t.log; out = appended text old.out; faults = t.faults } =
@@ -70,7 +79,7 @@ accept_printed m model log bytes c u old s t w reads kept deserved judged judges
     subst (TriesCheck model log (Ok end.Accepted) old) (sym is) (record {
       only = refl;
       later = subst (λ n. old.faults ≤ n) (sym faults) (omega arith);
-      tried = (faults, refl, record { verdict = c.verdict; nodes = c.nodes; accepts = accepts m model log c old s t reads deserved judges; printed = refl });
+      tried = (faults, refl, record { verdict = c.verdict; nodes = c.nodes; accepts = accepts m model log c old s t reads deserved judges; printed = refl }, far, log_read_behind log old s t reads judges.3);
     })
 
 -- or a front part of it

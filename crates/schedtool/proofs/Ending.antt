@@ -1,6 +1,6 @@
 -- The promise of a command, by how it ended.
-use Rattle.std.proofs.Common.{◌≡◌, ◌≤◌, ℕ, true, false, Option, Some, None, Ok, Err, refl, sym, ap, subst, ◌∙◌, inl, inr, arith}
-use Rattle.sched_base.specs.State.{State}
+use Rattle.std.proofs.Common.{◌≡◌, ◌≤◌, ◌+◌, ℕ, true, false, Option, Some, None, Ok, Err, refl, sym, ap, subst, ◌∙◌, inl, inr, arith}
+use Rattle.sched_base.specs.State.{State, Place}
 use Rattle.sched_base.specs.Calls.{Rose, appended}
 use Rattle.sched_model.specs.declared.types.Answer.{Answer}
 use Rattle.sched_model.specs.declared.types.Answer.TheVariants as answer
@@ -8,6 +8,8 @@ use Rattle.cpo_text.specs.declared.text.Refusal.{Refusal}
 use Rattle.command_line.specs.Commands.{Command, Solve, Check, Show}
 use Rattle.textline.specs.Lines.{Bytes}
 use Rattle.logtext.specs.Writing.{AppendedFrom}
+use Rattle.checker.specs.Judgement.{log_limit}
+use Rattle.checker.specs.Checking.{ReadsAtMost}
 use Rattle.schedtool.specs.declared.ended.Ended.{Ended}
 use Rattle.schedtool.specs.declared.ended.Ended.TheVariants as end
 use Rattle.schedtool.specs.declared.stop.Stop.{Stop}
@@ -17,7 +19,7 @@ use Rattle.sched_text.specs.Canonical.{canonical_text}
 use Rattle.schedtool.specs.CheckText.{check_text}
 use Rattle.schedtool.specs.Ended.{is_success}
 use Rattle.schedtool.specs.Told.{Tells, Reports, usage_line, fault_line, memory_line, refusal_line, log_line, too_long_line}
-use Rattle.schedtool.specs.Runs.{RunPromise, EveryRun, CommandPromise, HasFiles, FileRefuses, RefusesBy, FileDeserves, ShowsPart, LogPromise, HoldsBegunLog, CutShort, AnswerPromise, AcceptsPart, ending_of, SolveEnds}
+use Rattle.schedtool.specs.Runs.{RunPromise, EveryRun, CommandPromise, HasFiles, FileRefuses, RefusesBy, FileDeserves, ShowsPart, LogPromise, HoldsBegunLog, CutShort, AnswerPromise, AcceptsPart, ending_of, SolveEnds, file_of, ReadsModel, ReadsLog}
 use Rattle.schedtool.specs.Runs.CutShort.{before_log, in_log, in_answer}
 use Rattle.cpo_elab.specs.Answers.Answer.{Refused}
 use Rattle.schedtool.specs.Runs.RefusesLog.{at_line, too_long}
@@ -137,6 +139,13 @@ cut_told name log limit text old s new (in_answer m solved deserved answer creat
     in_answer m solved deserved answer (ap (λ (x : State). x.created) reports.only ∙ created.0, ap (λ (x : State). x.logs) reports.only ∙ created.1) (subst (λ b. LogPromise m limit solved old.logged b) (sym (ap (λ (x : State). x.logged) reports.only)) written)
     (subst (λ b. AppendedFrom (answer_text m solved) old.out b) (sym (ap (λ (x : State). x.out) reports.only)) part)
 
+-- how far the files were read, after the line too
+model_read : (model text : Bytes) (old s new : State) → ReadsModel model old s → Reports text s new → ReadsModel model old new
+model_read model text old s new far reports = subst (λ (p : Place). ReadsAtMost 16777217 (file_of old model) p.left) (sym (ap (λ (x : State). x.model) reports.only)) far
+
+log_read : (log text : Bytes) (old s new : State) → ReadsLog log old s → Reports text s new → ReadsLog log old new
+log_read log text old s new far reports = subst (λ (p : Place). ReadsAtMost (log_limit + 1) (file_of old log) p.left) (sym (ap (λ (x : State). x.log) reports.only)) far
+
 part_told : (model log text : Bytes) (old s new : State) → AcceptsPart model log old s → Reports text s new → AcceptsPart model log old new
 part_told model log text old s new (inl out) reports = inl (ap (λ (x : State). x.out) reports.only ∙ out)
 part_told model log text old s new (inr part) reports = inr (part.0, part.1, part.2, subst (λ b. AppendedFrom (check_text part.0 part.1) old.out b) (sym (ap (λ (x : State). x.out) reports.only)) part.3)
@@ -175,6 +184,7 @@ solved model log limit e old new tries = record {
     only = subst (OnlySolves old) (sym tries.only) refl;
     ends = solve_ends model log limit e old new tries.tried.1 tries.tried.2;
   };
+  reads = λ no_fault enough. tries.tried.3;
 }
 
 solve_no_memory : (model log : Bytes) (limit : ℕ) (old s new : State) → s ≡ record old { model = s.model; out = s.out; logged = s.logged; created = s.created; logs = s.logs; faults = s.faults } → old.faults ≤ s.faults → s.out ≡ old.out → CutShort model log limit old s
@@ -182,12 +192,14 @@ solve_no_memory : (model log : Bytes) (limit : ℕ) (old s new : State) → s �
 solve_no_memory model log limit old s new only later out cut reports = record {
   every = no_memory (Solve model log limit) old s new (ap (λ (x : State). x.err) only) out later reports;
   its_own = record { only = solve_only memory_line old s new only reports; ends = cut_told model log limit memory_line old s new cut reports };
+  reads = λ no_fault enough. absurd (enough refl);
 }
 
 pub solve_stopped : (model log : Bytes) (limit : ℕ) (e : Stop) (ended : Ended) (old s new : State) → TriesSolve model log limit (Err e) old s → EndsStopped e ended s new → RunPromise (Some (Solve model log limit)) ended old new
 solve_stopped model log limit stop.Fault ended old s new tries ends = subst (λ x. RunPromise (Some (Solve model log limit)) x old new) (sym ends.0) (record {
   every = faulted (Solve model log limit) old s new (ap (λ (x : State). x.err) tries.only) tries.later tries.tried.0.rose tries.tried.0.calm ends.1;
   its_own = record { only = solve_only fault_line old s new tries.only ends.1; ends = cut_told model log limit fault_line old s new tries.tried.1 ends.1 };
+  reads = λ no_fault enough. absurd (no_fault refl);
 })
 solve_stopped model log limit stop.NoMemory ended old s new tries ends = subst (λ x. RunPromise (Some (Solve model log limit)) x old new) (sym ends.0)
     (solve_no_memory model log limit old s new tries.only tries.later tries.tried.0 tries.tried.1 ends.1)
@@ -196,6 +208,7 @@ solve_stopped model log limit (stop.ModelRefused r) ended old s new tries (inl e
     subst (λ x. RunPromise (Some (Solve model log limit)) x old new) (sym ends.0) (record {
       every = model_refused (Solve model log limit) (refusal_line r) old s new (ap (λ (x : State). x.out) reads.only) reads.later ends.1;
       its_own = record { only = solve_only (refusal_line r) old s new tries.only ends.1; ends = refuses (FileRefuses old model) old s new reads r tries.tried.2 ends.1 };
+      reads = λ no_fault enough. model_read model (refusal_line r) old s new tries.tried.3 ends.1;
     })
 solve_stopped model log limit (stop.ModelRefused r) ended old s new tries (inr ends) =
     let reads = tries.tried.0 in
@@ -210,6 +223,7 @@ pub checked : (model log : Bytes) (e : Ended) (old new : State) → TriesCheck m
 checked model log e old new tries = subst (λ x. RunPromise (Some (Check model log)) x old new) (sym tries.tried.1) (record {
   every = succeeded (Check model log) end.Accepted old new refl tries.tried.0 (ap (λ (x : State). x.err) tries.only);
   its_own = record { only = subst (OnlyChecks old) (sym tries.only) refl; ends = tries.tried.2 };
+  reads = λ no_fault enough. (tries.tried.3, λ served. tries.tried.4);
 })
 
 check_no_memory : (model log : Bytes) (old s new : State) → s ≡ record old { model = s.model; log = s.log; out = s.out; faults = s.faults } → old.faults ≤ s.faults → s.out ≡ old.out
@@ -217,12 +231,14 @@ check_no_memory : (model log : Bytes) (old s new : State) → s ≡ record old {
 check_no_memory model log old s new only later out reports = record {
   every = no_memory (Check model log) old s new (ap (λ (x : State). x.err) only) out later reports;
   its_own = record { only = check_only memory_line old s new only reports; ends = ap (λ (x : State). x.out) reports.only ∙ out };
+  reads = λ no_fault enough. absurd (enough refl);
 }
 
 pub check_stopped : (model log : Bytes) (e : Stop) (ended : Ended) (old s new : State) → TriesCheck model log (Err e) old s → EndsStopped e ended s new → RunPromise (Some (Check model log)) ended old new
 check_stopped model log stop.Fault ended old s new tries ends = subst (λ x. RunPromise (Some (Check model log)) x old new) (sym ends.0) (record {
   every = faulted (Check model log) old s new (ap (λ (x : State). x.err) tries.only) tries.later tries.tried.0 (λ calm there. tries.tried.1 calm there.0 there.1) ends.1;
   its_own = record { only = check_only fault_line old s new tries.only ends.1; ends = part_told model log fault_line old s new tries.tried.2 ends.1 };
+  reads = λ no_fault enough. absurd (no_fault refl);
 })
 check_stopped model log stop.NoMemory ended old s new tries ends = subst (λ x. RunPromise (Some (Check model log)) x old new) (sym ends.0)
     (check_no_memory model log old s new tries.only tries.later tries.tried ends.1)
@@ -231,6 +247,7 @@ check_stopped model log (stop.ModelRefused r) ended old s new tries (inl ends) =
     subst (λ x. RunPromise (Some (Check model log)) x old new) (sym ends.0) (record {
       every = model_refused (Check model log) (refusal_line r) old s new (ap (λ (x : State). x.out) reads.only) reads.later ends.1;
       its_own = record { only = check_only (refusal_line r) old s new tries.only ends.1; ends = refuses (FileRefuses old model) old s new reads r tries.tried.2 ends.1 };
+      reads = λ no_fault enough. (model_read model (refusal_line r) old s new tries.tried.3 ends.1, λ served. absurd (served refl));
     })
 check_stopped model log (stop.ModelRefused r) ended old s new tries (inr ends) = subst (λ x. RunPromise (Some (Check model log)) x old new) (sym ends.0)
     (check_no_memory model log old s new tries.only tries.later (ap (λ (x : State). x.out) tries.tried.0.only) ends.1)
@@ -240,6 +257,7 @@ check_stopped model log (stop.LogRefused k) ended old s new tries (inl ends) = s
     only = check_only (log_line k) old s new tries.only ends.1;
     ends = at_line tries.tried.1.0 k tries.tried.1.1 tries.tried.1.2 (tells_on (log_line k) old s new (ap (λ (x : State). x.err) tries.only) tries.later ends.1);
   };
+  reads = λ no_fault enough. (model_read model (log_line k) old s new tries.tried.2 ends.1, λ served. log_read log (log_line k) old s new tries.tried.3 ends.1);
 })
 check_stopped model log (stop.LogRefused k) ended old s new tries (inr ends) = subst (λ x. RunPromise (Some (Check model log)) x old new) (sym ends.0)
     (check_no_memory model log old s new tries.only tries.later tries.tried.0 ends.1)
@@ -249,6 +267,7 @@ check_stopped model log stop.LogTooLong ended old s new tries ends = subst (λ x
     only = check_only too_long_line old s new tries.only ends.1;
     ends = too_long tries.tried.1.0 tries.tried.1.1 tries.tried.1.2 (tells_on too_long_line old s new (ap (λ (x : State). x.err) tries.only) tries.later ends.1);
   };
+  reads = λ no_fault enough. (model_read model too_long_line old s new tries.tried.2 ends.1, λ served. log_read log too_long_line old s new tries.tried.3 ends.1);
 })
 
 -- `show`.
@@ -268,6 +287,7 @@ pub shown : (model : Bytes) (e : Ended) (old new : State) → TriesShow model (O
 shown model e old new tries = subst (λ x. RunPromise (Some (Show model)) x old new) (sym tries.tried.1) (record {
   every = succeeded (Show model) end.Done old new refl tries.tried.0 (ap (λ (x : State). x.err) tries.only);
   its_own = record { only = subst (OnlyShows old) (sym tries.only) refl; ends = tries.tried.2 };
+  reads = λ no_fault enough. tries.tried.3;
 })
 
 show_no_memory : (model : Bytes) (old s new : State) → s ≡ record old { model = s.model; out = s.out; faults = s.faults } → old.faults ≤ s.faults → s.out ≡ old.out
@@ -275,12 +295,14 @@ show_no_memory : (model : Bytes) (old s new : State) → s ≡ record old { mode
 show_no_memory model old s new only later out reports = record {
   every = no_memory (Show model) old s new (ap (λ (x : State). x.err) only) out later reports;
   its_own = record { only = show_only memory_line old s new only reports; ends = ap (λ (x : State). x.out) reports.only ∙ out };
+  reads = λ no_fault enough. absurd (enough refl);
 }
 
 pub show_stopped : (model : Bytes) (e : Stop) (ended : Ended) (old s new : State) → TriesShow model (Err e) old s → EndsStopped e ended s new → RunPromise (Some (Show model)) ended old new
 show_stopped model stop.Fault ended old s new tries ends = subst (λ x. RunPromise (Some (Show model)) x old new) (sym ends.0) (record {
   every = faulted (Show model) old s new (ap (λ (x : State). x.err) tries.only) tries.later tries.tried.0.rose tries.tried.0.calm ends.1;
   its_own = record { only = show_only fault_line old s new tries.only ends.1; ends = shown_told model fault_line old s new tries.tried.1 ends.1 };
+  reads = λ no_fault enough. absurd (no_fault refl);
 })
 show_stopped model stop.NoMemory ended old s new tries ends = subst (λ x. RunPromise (Some (Show model)) x old new) (sym ends.0)
     (show_no_memory model old s new tries.only tries.later tries.tried ends.1)
@@ -289,6 +311,7 @@ show_stopped model (stop.ModelRefused r) ended old s new tries (inl ends) =
     subst (λ x. RunPromise (Some (Show model)) x old new) (sym ends.0) (record {
       every = model_refused (Show model) (refusal_line r) old s new (ap (λ (x : State). x.out) reads.only) reads.later ends.1;
       its_own = record { only = show_only (refusal_line r) old s new tries.only ends.1; ends = refuses (λ k. FileDeserves old model (Refused k)) old s new reads r tries.tried.2 ends.1 };
+      reads = λ no_fault enough. model_read model (refusal_line r) old s new tries.tried.3 ends.1;
     })
 show_stopped model (stop.ModelRefused r) ended old s new tries (inr ends) = subst (λ x. RunPromise (Some (Show model)) x old new) (sym ends.0)
     (show_no_memory model old s new tries.only tries.later (ap (λ (x : State). x.out) tries.tried.0.only) ends.1)
@@ -311,6 +334,7 @@ no_command old new reports = record {
     memory_told = λ h. cc;
   };
   its_own = reports;
+  reads = λ no_fault enough. tt;
 }
 
 unread : (command : Option Command) (old new : State) → Reports memory_line old new → EveryRun command end.NoMemory old new
@@ -342,4 +366,4 @@ unread_own (Some (Show model)) old new reports = record {
 }
 
 pub words_unread : (command : Option Command) (old new : State) → Reports memory_line old new → RunPromise command end.NoMemory old new
-words_unread command old new reports = record { every = unread command old new reports; its_own = unread_own command old new reports }
+words_unread command old new reports = record { every = unread command old new reports; its_own = unread_own command old new reports; reads = λ no_fault enough. absurd (enough refl) }

@@ -24,6 +24,7 @@ log_promise m limit solved lines state before is = record {
   lines = lines;
   state = state;
   steps = is.log;
+  cuts = is.cuts;
   written = refl;
   accepted = record { lines = lines; state = state; log = is.log; text = refl; verdict = sym is.verdict; nodes = is.nodes };
   schedule = last_shown (refutes_with refutes_none) m lines (opening m) state _ is.log.steps refl is.shown;

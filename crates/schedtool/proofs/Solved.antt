@@ -12,7 +12,7 @@ use Rattle.schedtool.specs.declared.stop.Stop.{Stop}
 use Rattle.schedtool.specs.declared.stop.Stop.TheVariants as stop
 use Rattle.sched_text.specs.Answers.{answer_text}
 use Rattle.schedtool.specs.Ended.{is_success}
-use Rattle.schedtool.specs.Runs.{FileServes, LogPromise, HoldsBegunLog, CutShort, ending_of}
+use Rattle.schedtool.specs.Runs.{FileServes, LogPromise, HoldsBegunLog, CutShort, ending_of, ReadsModel}
 use Rattle.schedtool.specs.Runs.CutShort.{before_log, in_log, in_answer}
 use Rattle.schedtool.specs.Tries.{OnlyReads, BeginsSearch, Searches, TriesSolve}
 
@@ -64,9 +64,9 @@ answered_log : (m : Data) (log : Bytes) (limit : ℕ) (solved : Solved) (old s t
 answered_log m log limit solved old s t reads says = subst (λ b. LogPromise m limit solved b t.logged) (ap (λ (x : State). x.logged) reads.only) says.0
 
 -- it was printed
-pub printed : (m : Data) (limit : ℕ) (solved : Solved) (name log : Bytes) (ended : Ended) (u : Unit {0}) (old s t w : State) → OnlyReads old s → s.faults ≡ old.faults → FileServes old name m → Searches m log limit (Ok solved) s t
+pub printed : (m : Data) (limit : ℕ) (solved : Solved) (name log : Bytes) (ended : Ended) (u : Unit {0}) (old s t w : State) → OnlyReads old s → s.faults ≡ old.faults → FileServes old name m → ReadsModel name old s → Searches m log limit (Ok solved) s t
     → Writes Out (answer_text m solved) (Ok u) t w → ended ≡ ending_of solved.answer → is_success ended ≡ true → TriesSolve name log limit (Ok ended) old w
-printed m limit solved name log ended u old s t w reads kept deserved says writes ending success =
+printed m limit solved name log ended u old s t w reads kept deserved far says writes ending success =
     let text : Bytes = answer_text m solved in
     let is : w ≡ record old { model = s.model; out = appended text old.out; logged = t.logged; created = true; logs = with_log log old.logs; faults = s.faults } =
     writes.written
@@ -78,6 +78,7 @@ printed m limit solved name log ended u old s t w reads kept deserved says write
         kept,
         success,
         record { m = m; solved = solved; deserved = deserved; answer = says.1; ending = ending; printed = refl; created = (refl, refl); written = answered_log m log limit solved old s t reads says },
+        far,
       );
     })
 

@@ -1,5 +1,5 @@
 -- What a run promises: which ending it has, and what it has done to the desk by then.
-use Rattle.std.specs.Prelude.{◌≡◌, ◌↔◌, ◌⊎◌, ℕ, ◌≤◌, true, false, IsTrue, List, [], take, Option, Some, None, option_map, IfSome, IsSome, ⊤, if◌then◌else◌}
+use Rattle.std.specs.Prelude.{◌≡◌, ◌↔◌, ◌⊎◌, ℕ, ◌+◌, ◌≤◌, true, false, IsTrue, List, [], take, Option, Some, None, option_map, option_and_then, IfSome, IsSome, ⊤, if◌then◌else◌}
 use Rattle.sched_base.specs.declared.desk.File.{File}
 use Rattle.sched_base.specs.State.{State, bytes_of, with_log}
 use Rattle.sched_base.specs.Calls.{Rose, appended}
@@ -14,7 +14,7 @@ use Rattle.cpo_elab.specs.Answers.Answer.{Accepted, Refused}
 use Rattle.cpo_elab.specs.Deserves.{Deserves}
 use Rattle.refute_basic.specs.Served.{is_served}
 use Rattle.kernel.specs.declared.types.Verdict.{Verdict}
-use Rattle.kernel.specs.Steps.{LogState}
+use Rattle.kernel.specs.Steps.{LogState, opening}
 use Rattle.kernel.specs.Promises.{Means}
 use Rattle.command_line.specs.Commands.{Command, Solve, Check, Show, command_of}
 use Rattle.textline.specs.Lines.{Bytes}
@@ -22,8 +22,9 @@ use Rattle.sched_text.specs.Answers.{answer_text}
 use Rattle.sched_text.specs.Canonical.{canonical_text}
 use Rattle.logtext.specs.Logs.{PlainLine, IsPlainLog, plain_log}
 use Rattle.logtext.specs.Writing.{AppendedFrom}
-use Rattle.checker.specs.Judgement.{IsAccepted, IsRefused, IsTooLong}
-use Rattle.checker.specs.Checking.{log_bytes}
+use Rattle.checker.specs.Judgement.{IsAccepted, IsRefused, IsTooLong, log_limit}
+use Rattle.checker.specs.Checking.{log_bytes, ReadsAtMost}
+use Rattle.solver.specs.Cuts.{CutFrom}
 use Rattle.solver.specs.Answers.{IsAnswer, verdict_in, shown_in, is_unfinished}
 use Rattle.schedtool.specs.declared.ended.Ended.{Ended}
 use Rattle.schedtool.specs.declared.ended.Ended.TheVariants as end
@@ -41,6 +42,17 @@ IfFile s name P = IfSome s.files (λ files. IsSome (bytes_of files name)) × IfS
 -- of a longer file the first 16,777,217 bytes decide
 abbrev pub model_bytes : Bytes → Bytes
 model_bytes bytes = take 16777217 bytes
+
+-- of the file of this name, where the desk tells its files and this one is there, so many bytes were read at most, and the
+-- others are left in its slot: of the model one byte beyond its limit of 16,777,216, and of the log one beyond 2^62
+abbrev pub file_of : State → Bytes → Option Bytes
+file_of s name = option_and_then (λ files. bytes_of files name) s.files
+
+abbrev pub ReadsModel : Bytes → State → State → Type 0
+ReadsModel name old new = ReadsAtMost 16777217 (file_of old name) new.model.left
+
+abbrev pub ReadsLog : Bytes → State → State → Type 0
+ReadsLog name old new = ReadsAtMost (log_limit + 1) (file_of old name) new.log.left
 
 -- the text in the file of this name deserves this
 abbrev pub FileDeserves : State → Bytes → Answer → Type 0
@@ -121,6 +133,8 @@ pub record LogPromise (m : Data) (limit : ℕ) (solved : Solved) (before after :
   pub state : LogState
   -- the lines step one after another from the opening state of the model to this one
   pub steps : IsPlainLog m lines state
+  -- each of them that splits on a bound cuts at the middle of what is open of it
+  pub cuts : CutFrom m (opening m) lines
   -- the log was created empty, and its bytes are exactly the text of these lines
   pub written : after ≡ option_map (λ bytes. plain_log lines) before
   -- the judgement of those bytes is that they are accepted, with the printed verdict and the printed count of nodes
@@ -154,11 +168,12 @@ pub record AnswerPromise (model log : Bytes) (limit : ℕ) (result : Ended) (old
   pub created : CreatesLog log old new
   pub written : LogPromise m limit solved old.logged new.logged
 
--- The log holds a front part of the text of a log of the model, whose lines all step.
+-- The log holds a front part of the text of a log of the model, whose lines all step, and which cuts so too.
 pub record HoldsBegunLog (m : Data) (before after : Option Bytes) : Type 0 where
   pub lines : List PlainLine
   pub state : LogState
   pub steps : IsPlainLog m lines state
+  pub cuts : CutFrom m (opening m) lines
   pub part : AppendedFrom (plain_log lines) (option_map (λ bytes. []) before) after
 
 -- How far `solve` came where it was cut short by a fault or for want of memory.
@@ -265,9 +280,18 @@ CommandPromise (Some (Solve model log limit)) result old new = SolvePromise mode
 CommandPromise (Some (Check model log)) result old new = CheckPromise model log result old new
 CommandPromise (Some (Show model)) result old new = ShowPromise model result old new
 
+-- how far a command reads its files; `check` opens the log only where the model isn't refused
+abbrev pub ReadsFiles : Option Command → Ended → State → State → Type 0
+ReadsFiles None result old new = ⊤
+ReadsFiles (Some (Solve model log limit)) result old new = ReadsModel model old new
+ReadsFiles (Some (Check model log)) result old new = ReadsModel model old new × ((result ≡ end.ModelRefused → ⊥) → ReadsLog log old new)
+ReadsFiles (Some (Show model)) result old new = ReadsModel model old new
+
 pub record RunPromise (command : Option Command) (result : Ended) (old new : State) : Type 0 where
   pub every : EveryRun command result old new
   pub its_own : CommandPromise command result old new
+  -- with every ending but `Fault` and `NoMemory` no file was read further than it decides
+  pub reads : (result ≡ end.Fault → ⊥) → (result ≡ end.NoMemory → ⊥) → ReadsFiles command result old new
 
 -- that of the command that the words are
 abbrev pub Runs : List Bytes → Ended → State → State → Type 0

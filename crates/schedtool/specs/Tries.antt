@@ -18,7 +18,7 @@ use Rattle.schedtool.specs.declared.stop.Stop.{Stop}
 use Rattle.schedtool.specs.declared.stop.Stop.TheVariants as stop
 use Rattle.schedtool.specs.Ended.{is_success}
 use Rattle.schedtool.specs.Told.{Reports, fault_line, memory_line, refusal_line, log_line, too_long_line}
-use Rattle.schedtool.specs.Runs.{IfFile, FileDeserves, FileServes, FileRefuses, not_served, HasFile, LogPromise, HoldsBegunLog, AnswerPromise, CutShort, AcceptsPart, AcceptPromise, ShowsModel, ShowsPart, model_bytes}
+use Rattle.schedtool.specs.Runs.{IfFile, FileDeserves, FileServes, FileRefuses, not_served, HasFile, LogPromise, HoldsBegunLog, AnswerPromise, CutShort, AcceptsPart, AcceptPromise, ShowsModel, ShowsPart, model_bytes, ReadsModel, ReadsLog}
 
 -- Reading the model.
 
@@ -36,22 +36,22 @@ pub record IsFault (name : Bytes) (old new : State) : Type 0 where
 abbrev pub StopsText : Bytes → State → State → Stop → Type 0
 StopsText name old new stop.Fault = IsFault name old new
 StopsText name old new stop.NoMemory = ⊤
-StopsText name old new (stop.ModelRefused r) = (new.faults ≡ old.faults) × FileDeserves old name (Refused r)
+StopsText name old new (stop.ModelRefused r) = (new.faults ≡ old.faults) × FileDeserves old name (Refused r) × ReadsModel name old new
 StopsText name old new _ = ⊥
 
 -- why there is no model that is served
 abbrev pub StopsReading : Bytes → State → State → Stop → Type 0
 StopsReading name old new stop.Fault = IsFault name old new
 StopsReading name old new stop.NoMemory = ⊤
-StopsReading name old new (stop.ModelRefused r) = (new.faults ≡ old.faults) × FileRefuses old name r
+StopsReading name old new (stop.ModelRefused r) = (new.faults ≡ old.faults) × FileRefuses old name r × ReadsModel name old new
 StopsReading name old new _ = ⊥
 
 abbrev pub Fetches : Bytes → Result (List ℕ) Stop → State → State → Type 0
-Fetches name (Ok bytes) old new = (new.faults ≡ old.faults) × IfFile old name (λ bs. bytes ≡ model_bytes bs)
+Fetches name (Ok bytes) old new = (new.faults ≡ old.faults) × IfFile old name (λ bs. bytes ≡ model_bytes bs) × ReadsModel name old new
 Fetches name (Err s) old new = StopsText name old new s
 
 abbrev pub Reads : Bytes → Result Data Stop → State → State → Type 0
-Reads name (Ok m) old new = (new.faults ≡ old.faults) × FileDeserves old name (Accepted m)
+Reads name (Ok m) old new = (new.faults ≡ old.faults) × FileDeserves old name (Accepted m) × ReadsModel name old new
 Reads name (Err s) old new = StopsText name old new s
 
 -- the model, where it is served
@@ -60,7 +60,7 @@ Serves m (Ok k) = (k ≡ m) × IsTrue (is_served m)
 Serves m (Err s) = (s ≡ stop.ModelRefused not_served) × (is_served m ≡ false)
 
 abbrev pub Loads : Bytes → Result Data Stop → State → State → Type 0
-Loads name (Ok m) old new = (new.faults ≡ old.faults) × FileServes old name m
+Loads name (Ok m) old new = (new.faults ≡ old.faults) × FileServes old name m × ReadsModel name old new
 Loads name (Err s) old new = StopsReading name old new s
 
 -- Searching with a log.
@@ -76,10 +76,10 @@ Searches m log limit (Err stop.NoMemory) old new = (old.faults ≤ new.faults) �
 Searches m log limit (Err _) old new = ⊥
 
 abbrev pub SolveTried : Bytes → Bytes → ℕ → Result Ended Stop → State → State → Type 0
-SolveTried model log limit (Ok ended) old new = (new.faults ≡ old.faults) × (is_success ended ≡ true) × AnswerPromise model log limit ended old new
+SolveTried model log limit (Ok ended) old new = (new.faults ≡ old.faults) × (is_success ended ≡ true) × AnswerPromise model log limit ended old new × ReadsModel model old new
 SolveTried model log limit (Err stop.Fault) old new = IsFault model old new × CutShort model log limit old new
 SolveTried model log limit (Err stop.NoMemory) old new = (new.out ≡ old.out) × CutShort model log limit old new
-SolveTried model log limit (Err (stop.ModelRefused r)) old new = OnlyReads old new × (new.faults ≡ old.faults) × FileRefuses old model r
+SolveTried model log limit (Err (stop.ModelRefused r)) old new = OnlyReads old new × (new.faults ≡ old.faults) × FileRefuses old model r × ReadsModel model old new
 SolveTried model log limit (Err _) old new = ⊥
 
 pub record TriesSolve (model log : Bytes) (limit : ℕ) (result : Result Ended Stop) (old new : State) : Type 0 where
@@ -96,20 +96,20 @@ pub record OnlyJudges (old new : State) : Type 0 where
 
 -- what the log in a file is found to be
 abbrev pub JudgesFile : Data → Bytes → Result Checked Stop → State → State → Type 0
-JudgesFile m log (Ok c) old new = (new.faults ≡ old.faults) × IfFile old log (λ bytes. IsAccepted m (log_bytes bytes) c.verdict c.nodes × (IsTooLong m (log_bytes bytes) → ⊥)) × Means m c.verdict
-JudgesFile m log (Err (stop.LogRefused k)) old new = IfFile old log (λ bytes. IsRefused m (log_bytes bytes) k × (IsTooLong m (log_bytes bytes) → ⊥))
-JudgesFile m log (Err stop.LogTooLong) old new = IfFile old log (λ bytes. IsTooLong m (log_bytes bytes))
+JudgesFile m log (Ok c) old new = (new.faults ≡ old.faults) × IfFile old log (λ bytes. IsAccepted m (log_bytes bytes) c.verdict c.nodes × (IsTooLong m (log_bytes bytes) → ⊥)) × Means m c.verdict × ReadsLog log old new
+JudgesFile m log (Err (stop.LogRefused k)) old new = IfFile old log (λ bytes. IsRefused m (log_bytes bytes) k × (IsTooLong m (log_bytes bytes) → ⊥)) × ReadsLog log old new
+JudgesFile m log (Err stop.LogTooLong) old new = IfFile old log (λ bytes. IsTooLong m (log_bytes bytes)) × ReadsLog log old new
 JudgesFile m log (Err stop.Fault) old new = IsFault log old new
 JudgesFile m log (Err stop.NoMemory) old new = ⊤
 JudgesFile m log (Err (stop.ModelRefused r)) old new = ⊥
 
 abbrev pub CheckTried : Bytes → Bytes → Result Ended Stop → State → State → Type 0
-CheckTried model log (Ok ended) old new = (new.faults ≡ old.faults) × (ended ≡ end.Accepted) × AcceptPromise model log old new
+CheckTried model log (Ok ended) old new = (new.faults ≡ old.faults) × (ended ≡ end.Accepted) × AcceptPromise model log old new × ReadsModel model old new × ReadsLog log old new
 CheckTried model log (Err stop.Fault) old new = Rose old.faults new.faults × (old.calm ≡ true → HasFile old model → HasFile old log → ⊥) × AcceptsPart model log old new
 CheckTried model log (Err stop.NoMemory) old new = new.out ≡ old.out
-CheckTried model log (Err (stop.ModelRefused r)) old new = OnlyReads old new × (new.faults ≡ old.faults) × FileRefuses old model r
-CheckTried model log (Err (stop.LogRefused k)) old new = (new.out ≡ old.out) × ((m : Data) × FileServes old model m × IfFile old log (λ bytes. IsRefused m (log_bytes bytes) k × (IsTooLong m (log_bytes bytes) → ⊥)))
-CheckTried model log (Err stop.LogTooLong) old new = (new.out ≡ old.out) × ((m : Data) × FileServes old model m × IfFile old log (λ bytes. IsTooLong m (log_bytes bytes)))
+CheckTried model log (Err (stop.ModelRefused r)) old new = OnlyReads old new × (new.faults ≡ old.faults) × FileRefuses old model r × ReadsModel model old new
+CheckTried model log (Err (stop.LogRefused k)) old new = (new.out ≡ old.out) × ((m : Data) × FileServes old model m × IfFile old log (λ bytes. IsRefused m (log_bytes bytes) k × (IsTooLong m (log_bytes bytes) → ⊥))) × ReadsModel model old new × ReadsLog log old new
+CheckTried model log (Err stop.LogTooLong) old new = (new.out ≡ old.out) × ((m : Data) × FileServes old model m × IfFile old log (λ bytes. IsTooLong m (log_bytes bytes))) × ReadsModel model old new × ReadsLog log old new
 
 pub record TriesCheck (model log : Bytes) (result : Result Ended Stop) (old new : State) : Type 0 where
   pub only : new ≡ record old { model = new.model; log = new.log; out = new.out; faults = new.faults }
@@ -119,10 +119,10 @@ pub record TriesCheck (model log : Bytes) (result : Result Ended Stop) (old new 
 -- Showing a model.
 
 abbrev pub ShowTried : Bytes → Result Ended Stop → State → State → Type 0
-ShowTried model (Ok ended) old new = (new.faults ≡ old.faults) × (ended ≡ end.Done) × ShowsModel model old new
+ShowTried model (Ok ended) old new = (new.faults ≡ old.faults) × (ended ≡ end.Done) × ShowsModel model old new × ReadsModel model old new
 ShowTried model (Err stop.Fault) old new = IsFault model old new × ShowsPart model old new
 ShowTried model (Err stop.NoMemory) old new = new.out ≡ old.out
-ShowTried model (Err (stop.ModelRefused r)) old new = OnlyReads old new × (new.faults ≡ old.faults) × FileDeserves old model (Refused r)
+ShowTried model (Err (stop.ModelRefused r)) old new = OnlyReads old new × (new.faults ≡ old.faults) × FileDeserves old model (Refused r) × ReadsModel model old new
 ShowTried model (Err _) old new = ⊥
 
 pub record TriesShow (model : Bytes) (result : Result Ended Stop) (old new : State) : Type 0 where

@@ -16,7 +16,7 @@ pub returns-in-Ok : goal.returns-in-Ok
 returns-in-Ok g c =
     printed c.in_ok-model.model c.args.nodes c.in_ok-solved.solved c.args.name.now c.args.log.now c.ending.result _
     (g.D.Desk.state c.args.desk.now) (g.D.Desk.state c.load.new.desk) (g.D.Desk.state c.search_logged.new.desk) (g.D.Desk.state c.write_answer.new.desk)
-    c.in_ok-model.ensures.only c.in_ok-model.ensures.loads.0 c.in_ok-model.ensures.loads.1 c.in_ok-solved.ensures c.in-Ok.ensures c.ending.ensures.is c.ending.ensures.success
+    c.in_ok-model.ensures.only c.in_ok-model.ensures.loads.0 c.in_ok-model.ensures.loads.1 c.in_ok-model.ensures.loads.2 c.in_ok-solved.ensures c.in-Ok.ensures c.ending.ensures.is c.ending.ensures.success
 
 pub returns : goal.returns
 returns g c =
