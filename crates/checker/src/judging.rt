@@ -9,7 +9,7 @@ ghost use Rattle.checker.specs.Turns.{FindsHead, IsEntryAt, Tries, Turns, is_hea
 ghost use Rattle.checker.specs.declared.judging.CheckFault.TheVariants as fault;
 
 use kernel::{Kernel, Line, NoExtra, NoWitness, StepFault, Verdict};
-use logtext::{Entry, EntryFault, read_entry, spelling_is_determined};
+use logtext::{Entry, EntryFault, LogReader, spelling_is_determined};
 use sched_base::{Desk, Inlet, NoMemory, ReadError, read_up_to};
 use sched_model::Model;
 use std::alloc::Global;
@@ -97,10 +97,14 @@ fn is_head(entry: &Entry<NoWitness>) -> bool
 }
 
 /// The place behind the first line.
-fn behind_head(alloc: Global, bytes: &[u8]) -> Result<Option<usize>, NoMemory>
+fn behind_head(
+    alloc: Global,
+    reader: &mut LogReader,
+    bytes: &[u8],
+) -> Result<Option<usize>, NoMemory>
     ensures { FindsHead bytes.now result }
 {
-    let (entry, to) = match read_entry::<NoExtra>(alloc, bytes, 0) {
+    let (entry, to) = match reader.read_entry::<NoExtra>(alloc, bytes, 0) {
         Ok(Some(read)) => read,
         Ok(None) => return Ok(None),
         Err(EntryFault::Bad) => return Ok(None),
@@ -134,6 +138,7 @@ fn try_line(
 fn take_line(
     alloc: Global,
     model: &Model,
+    reader: &mut LogReader,
     bytes: &[u8],
     from: usize,
     kernel: &mut Kernel<NoExtra>,
@@ -145,7 +150,7 @@ fn take_line(
     ensures ready { Ready model.now kernel.new }
 {
     spelling_is_determined::<NoExtra>();
-    let (entry, to) = match read_entry::<NoExtra>(alloc, bytes, from) {
+    let (entry, to) = match reader.read_entry::<NoExtra>(alloc, bytes, from) {
         Ok(Some(read)) => read,
         Ok(None) => return Ok(Turn::Missing),
         Err(EntryFault::Bad) => return Ok(Turn::Wrong),
@@ -168,6 +173,7 @@ fn take_line(
 fn judge_lines(
     alloc: Global,
     model: &Model,
+    reader: &mut LogReader,
     bytes: &[u8],
     cut: &[u8],
     head: usize,
@@ -185,7 +191,7 @@ fn judge_lines(
     let mut place = head;
     let mut line: u64 = 2;
     'lines: loop {
-        match take_line(alloc, model, cut, place, kernel)? {
+        match take_line(alloc, model, reader, cut, place, kernel)? {
             Turn::Stepped(to) => {
                 place = to;
                 line += 1;
@@ -217,11 +223,12 @@ fn judge(alloc: Global, model: &Model, bytes: &[u8]) -> Result<Checked, CheckFau
     ensures means { IfOk result (λ c. Means model.now c.verdict) }
 {
     let cut = front(bytes, LOG_BYTES);
-    let Some(head) = behind_head(alloc, cut)? else {
+    let mut reader = LogReader::new(alloc);
+    let Some(head) = behind_head(alloc, &mut reader, cut)? else {
         return Err(CheckFault::Refused { line: 1 });
     };
     let mut kernel = Kernel::<NoExtra>::new(alloc, model)?;
-    judge_lines(alloc, model, bytes, cut, head, &mut kernel)
+    judge_lines(alloc, model, &mut reader, bytes, cut, head, &mut kernel)
 }
 
 /// Judges the bytes of the log that is opened, from the place that its slot has reached.

@@ -3,8 +3,9 @@ pub mod Spaced
 pub mod Values
 pub mod Guesses
 pub mod Fails
-pub mod Witnesses
 pub mod Rows
 pub mod Assignments
 pub mod Lines
+pub mod Tables
+pub mod Witnesses
 pub mod Texts

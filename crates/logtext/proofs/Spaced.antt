@@ -1,9 +1,10 @@
 -- Words put one after another, each with a space before it.
-use Rattle.std.proofs.Common.{◌≡◌, ℕ, ◌+◌, ◌<◌, ◌≤◌, List, [], ◌∷◌, ◌++◌, length, map, take, drop, get_or, refl, sym, ap, ◌∙◌, subst, append-nil, append_assoc}
+use Rattle.std.proofs.Common.{◌≡◌, ℕ, ◌+◌, ◌-◌, ◌<◌, ◌≤◌, List, [], ◌∷◌, ◌++◌, length, map, take, drop, get_or, slice_get, refl, sym, ap, ◌∙◌, subst, arith, append-nil, append_assoc, length-drop}
 use Rattle.std.proofs.lemmas.Grind.{flat_map-append}
 use Rattle.std.proofs.lemmas.List.Concat.{flat_map_single}
-use Rattle.std.proofs.lemmas.List.{at_drop_more, flat_map_more, take-append-drop, take_all, take_more}
-use Rattle.std.specs.Prelude.{Ok, Err, IsErr}
+use Rattle.std.proofs.lemmas.List.{at_drop_more, flat_map_more, get_or-drop, take-append-drop, take_all, take_more}
+use Rattle.std.proofs.lemmas.Option.{get_or_from_slice_get}
+use Rattle.std.specs.Prelude.{Some, Ok, Err, IsErr}
 use Rattle.std.specs.List.{flat_map}
 use Rattle.sched_base.specs.declared.desk.Failed.{Failed}
 use Rattle.sched_base.specs.State.{State}
@@ -73,6 +74,12 @@ stops_at f xs i x d {r} {e} {held} {mid} {kept} {s} {t} {v} within is failed bef
 
 pub all_put : {X : Type 0} (f : X → List Bytes) (xs : List X) (i : ℕ) {held kept : Bytes} {s t : State} → length xs ≤ i → SoFar f xs i held kept s t → Gathers (spaced (flat_map f xs)) (Ok tt) held kept s t
 all_put f xs i {held} {kept} {s} {t} past before = subst (λ ys. Gathers (spaced (flat_map f ys)) (Ok tt) held kept s t) (take_all i xs past) before
+
+-- an item among those from a place on
+pub item_behind : {X : Type 0} (xs : List X) (from i : ℕ) (x : X) → from ≤ i → i < length xs → slice_get xs i ≡ Some x → (i - from < length (drop from xs)) × (x ≡ get_or (drop from xs) (i - from) x)
+item_behind xs from i x above within is =
+    let same : from + (i - from) ≡ i = omega (arith, above) in
+    (omega (arith, above, within, length-drop from xs), sym (get_or-drop from xs (i - from) x ∙ ap (λ k. get_or xs k x) same ∙ get_or_from_slice_get xs i x x is))
 
 -- a word for each item
 pub as_map : {X : Type 0} (f : X → Bytes) (xs : List X) {r : Answer} {held kept : Bytes} {s t : State} → Gathers (spaced (flat_map (λ x. f x ∷ []) xs)) r held kept s t → Gathers (spaced (map f xs)) r held kept s t

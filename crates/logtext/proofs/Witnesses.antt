@@ -1,47 +1,51 @@
 -- Words that begin as a witness and are none.
-use Rattle.std.proofs.Common.{◌≡◌, ℕ, ℤ, Bool, true, IsTrue, List, ◌∷◌, ◌++◌, ◌==◌, length, map, sym, ◌∙◌, ap, subst, arith, Option, Some, None, IfSome, IfNone}
+use Rattle.std.proofs.Common.{◌≡◌, ℕ, ◌<◌, ℤ, pos, negsuc, Bool, true, false, IsTrue, List, [], ◌∷◌, ◌++◌, length, map, get_or, drop, slice_get, sym, ◌∙◌, ap, subst, arith, refl, Option, Some, None, IfSome, IfNone, Ok, Err}
 use Rattle.std.specs.Prelude.{codes}
+use Rattle.std.proofs.lemmas.Bool.Decides.{nat_tests}
+use Rattle.std.proofs.lemmas.List.Folds.{list_all-append}
 use Rattle.std.specs.Fmt.{decimal, signed_decimal}
 use Rattle.std.specs.List.{list_all}
-use Rattle.std.proofs.lemmas.List.Concat.{flat_map_single}
 use Rattle.sched_model.specs.Valid.{is_small}
-use Rattle.refute_basic.specs.declared.witness.BasicWitness.TheVariants.{Leaf}
+use Rattle.refute_basic.specs.declared.witness.BasicWitness.{BasicWitness}
+use Rattle.refute_basic.specs.Witness.{numbers_of, is_valid}
+use Rattle.kernel.specs.declared.types.Witness.{Witness}
 use Rattle.kernel.specs.declared.types.Witness.TheVariants.{Basic, Extra}
-use Rattle.refute_basic.specs.Witness.{is_valid}
 use Rattle.kernel.specs.Fit.{is_count, is_fit_witness}
-use Rattle.logtext.proofs.Values.{same_length, length_same}
 use Rattle.textline.specs.Lines.{Bytes}
-use Rattle.textline.specs.laws.Lines.{both_true, true_both}
-use Rattle.logtext.specs.Spelling.{witness_words}
-use Rattle.logtext.specs.Reads.{NoneStands, are_so_many, count_words, number_words, leaf_words, extra_words}
-use Rattle.logtext.specs.laws.Leads.{tag, behind, head_is}
-use Rattle.logtext.specs.laws.Told.{count_told, numbers_told}
+use Rattle.textline.specs.laws.Lines.{both_true}
+use Rattle.logtext.specs.declared.entry.EntryFault.{EntryFault}
+use Rattle.logtext.specs.declared.entry.EntryFault.TheVariants.{Bad, NoMemory}
+use Rattle.logtext.specs.Spelling.{basic_kinds, kind_words, witness_words}
+use Rattle.logtext.specs.Reads.{NoneStands, ReadsWhole, ReadsNumbers, ReadsValue, FindsWord, count_words, moment_words, extra_words}
+use Rattle.logtext.specs.laws.Leads.{behind, head_is}
+use Rattle.logtext.specs.laws.Told.{count_told, moments_told}
 use Rattle.logtext.specs.laws.Entries.{AreTold, all_small, few_is_count}
+use Rattle.logtext.specs.laws.Kinds.{is_placed, basic_differ, basic_placed, one_place, no_extra_word, kind_is_no_extra}
+use Rattle.logtext.proofs.Lines.{NoneWhole}
 
-pub no_count : {W : Type 0} (numbers : W → List ℤ) (valid : W → Bool) → AreTold numbers valid → (old : List Bytes) → NoneStands count_words is_count old → NoneStands (extra_words numbers) valid old
-no_count numbers valid laws old none v rest fit e = none (length (numbers v)) (map signed_decimal (numbers v) ++ rest) (few_is_count (length (numbers v)) (laws.few v fit)) e
+-- values
 
-pub no_numbers : {W : Type 0} (numbers : W → List ℤ) (valid : W → Bool) → AreTold numbers valid → (old ws : List Bytes) (n : ℕ) → is_count n ≡ true → old ≡ decimal n ∷ ws → NoneStands number_words (are_so_many n is_small) ws → NoneStands (extra_words numbers) valid old
-no_numbers numbers valid laws old ws n count is none v rest fit e =
-    let both = sym is ∙ e in
-    let many = count_told n (length (numbers v)) count (few_is_count (length (numbers v)) (laws.few v fit)) (head_is _ _ _ _ both) in
-    none (numbers v) rest (true_both (length (numbers v) == n) (list_all is_small (numbers v)) (same_length (numbers v) n many) (all_small (numbers v) (laws.small v fit)))
-    (behind _ _ _ _ both ∙ ap (λ ws. ws ++ rest) (sym (flat_map_single signed_decimal (numbers v))))
+-- no number stands where the numbers that were read end
+pub no_more : (us zs : List ℤ) (words : List Bytes) → list_all is_small zs ≡ true → (words ≡ [] → ⊥) → NoneStands moment_words is_small words → map signed_decimal us ++ words ≡ map signed_decimal zs → ⊥
+no_more [] [] words fit more none e = more e
+no_more [] (z ∷ zs) words fit more none e = none z (map signed_decimal zs) (both_true (is_small z) (list_all is_small zs) fit).0 e
+no_more (u ∷ us) [] words fit more none e = cc
+no_more (u ∷ us) (z ∷ zs) words fit more none e = no_more us zs words (both_true (is_small z) (list_all is_small zs) fit).1 more none (behind _ _ _ _ e)
 
-pub no_value : {W : Type 0} (numbers : W → List ℤ) (valid : W → Bool) → AreTold numbers valid → (old ws new : List Bytes) (n : ℕ) (zs : List ℤ) → is_count n ≡ true → old ≡ decimal n ∷ ws → are_so_many n is_small zs ≡ true → ws ≡ number_words zs ++ new
-    → ((w : W) → IsTrue (valid w) → numbers w ≡ zs → ⊥) → NoneStands (extra_words numbers) valid old
-no_value numbers valid laws old ws new n zs count is so_many stand none v rest fit e =
-    let both = sym is ∙ e in
-    let parts = both_true (length zs == n) (list_all is_small zs) so_many in
-    let many = count_told n (length (numbers v)) count (few_is_count (length (numbers v)) (laws.few v fit)) (head_is _ _ _ _ both) in
-    let same = numbers_told (numbers v) zs rest new (all_small (numbers v) (laws.small v fit)) parts.1 (sym many ∙ length_same zs n parts.0)
-    (sym (behind _ _ _ _ both) ∙ stand ∙ ap (λ ws. ws ++ new) (flat_map_single signed_decimal zs)) in
-    none v fit same.0
+behind_small : {W : Type 0} (numbers : W → List ℤ) (valid : W → Bool) → AreTold numbers valid → (front zs : List ℤ) (w : W) → IsTrue (valid w) → numbers w ≡ front ++ zs → list_all is_small zs ≡ true
+behind_small numbers valid laws front zs w fit is =
+    (both_true (list_all is_small front) (list_all is_small zs) (sym (list_all-append is_small front zs) ∙ ap (list_all is_small) (sym is) ∙ all_small (numbers w) (laws.small w fit))).1
 
-pub has_value : {W : Type 0} (numbers : W → List ℤ) (old ws new : List Bytes) (n : ℕ) (zs : List ℤ) (w : W) → old ≡ decimal n ∷ ws → are_so_many n is_small zs ≡ true → ws ≡ number_words zs ++ new → numbers w ≡ zs → old ≡ extra_words numbers w ++ new
-has_value numbers old ws new n zs w is so_many stand same =
-    let many = length_same zs n (both_true (length zs == n) (list_all is_small zs) so_many).0 in
-    is ∙ ap (λ vs. decimal n ∷ vs) (stand ∙ ap (λ vs. vs ++ new) (flat_map_single signed_decimal zs)) ∙ ap (λ k. decimal k ∷ map signed_decimal zs ++ new) many ∙ ap (λ ys. decimal (length ys) ∷ map signed_decimal ys ++ new) (sym same)
+pub value_fails : {W : Type 0} (numbers : W → List ℤ) (valid : W → Bool) → AreTold numbers valid → (words : List Bytes) (front after : List ℤ) (r : EntryFault) → ReadsNumbers words front after (Err r) → ReadsValue numbers valid front words (Err r)
+value_fails numbers valid laws words front after Bad none = λ w zs fit is e. none zs (behind_small numbers valid laws front zs w fit is) e
+value_fails numbers valid laws words front after NoMemory none = tt
+
+pub no_value : {W : Type 0} (numbers : W → List ℤ) (valid : W → Bool) → AreTold numbers valid → (words : List Bytes) (front after : List ℤ) (u : Unit {0}) → ReadsNumbers words front after (Ok u) → ((w : W) → IsTrue (valid w) → numbers w ≡ after → ⊥) → ReadsValue numbers valid front words (Err Bad)
+no_value numbers valid laws words front after u read none w zs fit is e =
+    let same = moments_told zs read.0 (behind_small numbers valid laws front zs w fit is) read.1 (sym e ∙ read.3) in none w fit (is ∙ ap (λ ys. front ++ ys) same ∙ sym read.2)
+
+pub has_value : {W : Type 0} (numbers : W → List ℤ) (valid : W → Bool) (words : List Bytes) (front after : List ℤ) (u : Unit {0}) (w : W) → ReadsNumbers words front after (Ok u) → IsTrue (valid w) → numbers w ≡ after → ReadsValue numbers valid front words (Ok w)
+has_value numbers valid words front after u w read fit is = (fit, read.0, is ∙ read.2, read.3)
 
 pub if_none : {A : Type 0} (P : Type 0) (o : Option A) → o ≡ None → IfNone o P → P
 if_none P None e h = h
@@ -51,10 +55,82 @@ pub if_some : {A : Type 0} (Q : A → Type 0) (o : Option A) (w : A) → o ≡ S
 if_some Q None w e h = cc
 if_some Q (Some x) w e h = let same : x ≡ w = cc in subst Q same h
 
-pub no_leaf : {W : Type 0} (numbers : W → List ℤ) (valid : W → Bool) (old ws : List Bytes) → old ≡ codes "LEAF" ∷ ws → NoneStands leaf_words is_valid ws → NoneStands (witness_words numbers) (is_fit_witness valid) old
-no_leaf numbers valid old ws is none (Basic (Leaf k u)) rest fit e = none (Leaf k u) rest fit (behind _ _ _ _ (sym is ∙ e))
-no_leaf numbers valid old ws is none (Extra w) rest fit e = absurd (omega (arith, ap tag (sym is ∙ e)))
+-- extra witnesses
 
-pub no_extra : {W : Type 0} (numbers : W → List ℤ) (valid : W → Bool) (old ws : List Bytes) → old ≡ codes "EXTRA" ∷ ws → NoneStands (extra_words numbers) valid ws → NoneStands (witness_words numbers) (is_fit_witness valid) old
-no_extra numbers valid old ws is none (Basic (Leaf k u)) rest fit e = absurd (omega (arith, ap tag (sym is ∙ e)))
-no_extra numbers valid old ws is none (Extra w) rest fit e = none w rest fit (behind _ _ _ _ (sym is ∙ e))
+pub no_count : {W : Type 0} (numbers : W → List ℤ) (valid : W → Bool) → AreTold numbers valid → (old : List Bytes) → NoneStands count_words is_count old → NoneWhole (extra_words numbers) valid old
+no_count numbers valid laws old none v fit e = none (length (numbers v)) (map signed_decimal (numbers v)) (few_is_count (length (numbers v)) (laws.few v fit)) e
+
+pub extra_fails : {W : Type 0} (numbers : W → List ℤ) (valid : W → Bool) (old ws : List Bytes) (n : ℕ) (r : EntryFault) → old ≡ decimal n ∷ ws → ReadsValue numbers valid [] ws (Err r) → ReadsWhole (extra_words numbers) valid old (Err r)
+extra_fails numbers valid old ws n Bad is none = λ v fit e. none v (numbers v) fit refl (behind _ _ _ _ (sym is ∙ e))
+extra_fails numbers valid old ws n NoMemory is none = tt
+
+pub other_count : {W : Type 0} (numbers : W → List ℤ) (valid : W → Bool) → AreTold numbers valid → (old ws : List Bytes) (n : ℕ) (w : W) → is_count n ≡ true → old ≡ decimal n ∷ ws → ReadsValue numbers valid [] ws (Ok w) → (length (numbers w) ≡ n → ⊥) → NoneWhole (extra_words numbers) valid old
+other_count numbers valid laws old ws n w count is read other v fit e =
+    let both = sym is ∙ e in
+    let many = count_told n (length (numbers v)) count (few_is_count (length (numbers v)) (laws.few v fit)) (head_is _ _ _ _ both) in
+    let same = moments_told (numbers v) (numbers w) (all_small (numbers v) (laws.small v fit)) (all_small (numbers w) (laws.small w read.0)) (sym (behind _ _ _ _ both) ∙ read.3 ∙ ap (map signed_decimal) (sym read.2)) in
+    other (ap length (sym same) ∙ sym many)
+
+pub has_extra : {W : Type 0} (numbers : W → List ℤ) (valid : W → Bool) (old ws : List Bytes) (n : ℕ) (w : W) → old ≡ decimal n ∷ ws → ReadsValue numbers valid [] ws (Ok w) → length (numbers w) ≡ n → old ≡ extra_words numbers w
+has_extra numbers valid old ws n w is read many = is ∙ ap (λ k. decimal k ∷ ws) (sym many) ∙ ap (λ vs. decimal (length (numbers w)) ∷ vs) (read.3 ∙ ap (map signed_decimal) (sym read.2))
+
+-- the word of a kind
+
+-- a kind's numbers behind its place
+record HasPlace (kinds : List Bytes) (zs : List ℤ) : Type 0 where
+  place : ℕ
+  others : List ℤ
+  within : place < length kinds
+  is : zs ≡ pos place ∷ others
+
+has_place : (kinds : List Bytes) (zs : List ℤ) → is_placed kinds zs ≡ true → HasPlace kinds zs
+has_place kinds [] h = cc
+has_place kinds (negsuc k ∷ zs) h = cc
+has_place kinds (pos k ∷ zs) h = record { place = k; others = zs; within = grind (arith, nat_tests); is = refl }
+
+pub no_word : {W : Type 0} (numbers : W → List ℤ) (valid : W → Bool) → NoneWhole (witness_words numbers) (is_fit_witness valid) []
+no_word numbers valid (Basic w) fit e = let there = has_place basic_kinds (numbers_of w) (basic_placed w) in let bare = e ∙ ap (kind_words basic_kinds) there.is in cc
+no_word numbers valid (Extra w) fit e = cc
+
+pub kind_fails : {W : Type 0} (numbers : W → List ℤ) (valid : W → Bool) (old ws : List Bytes) (k : ℕ) (r : EntryFault) → k < length basic_kinds → old ≡ get_or basic_kinds k [] ∷ ws → ReadsValue numbers_of is_valid (pos k ∷ []) ws (Err r)
+    → ReadsWhole (witness_words numbers) (is_fit_witness valid) old (Err r)
+kind_fails {W} numbers valid old ws k Bad within is none = no_kind
+  where
+    no_kind : (v : Witness W) → IsTrue (is_fit_witness valid v) → old ≡ witness_words numbers v → ⊥
+    no_kind (Basic w) fit e =
+        let there = has_place basic_kinds (numbers_of w) (basic_placed w) in
+        let both = sym is ∙ e ∙ ap (kind_words basic_kinds) there.is in
+        let place = one_place basic_kinds k there.place basic_differ within there.within (head_is _ _ _ _ both) in
+        none w there.others fit (there.is ∙ ap (λ j. pos j ∷ there.others) (sym place)) (behind _ _ _ _ both)
+    no_kind (Extra w) fit e = no_extra_word k within (sym (head_is _ _ _ _ (sym is ∙ e)))
+kind_fails numbers valid old ws k NoMemory within is none = tt
+
+pub has_kind : {W : Type 0} (numbers : W → List ℤ) (old ws : List Bytes) (k : ℕ) (w : BasicWitness) → old ≡ get_or basic_kinds k [] ∷ ws → ReadsValue numbers_of is_valid (pos k ∷ []) ws (Ok w) → old ≡ witness_words numbers (Basic w)
+has_kind numbers old ws k w is read = is ∙ ap (λ vs. get_or basic_kinds k [] ∷ vs) read.3 ∙ ap (kind_words basic_kinds) (sym read.2)
+
+pub behind_extra : {W : Type 0} (numbers : W → List ℤ) (valid : W → Bool) (old ws : List Bytes) (r : EntryFault) → old ≡ codes "EXTRA" ∷ ws → ReadsWhole (extra_words numbers) valid ws (Err r) → ReadsWhole (witness_words numbers) (is_fit_witness valid) old (Err r)
+behind_extra {W} numbers valid old ws Bad is none = no_extra
+  where
+    no_extra : (v : Witness W) → IsTrue (is_fit_witness valid v) → old ≡ witness_words numbers v → ⊥
+    no_extra (Basic w) fit e = kind_is_no_extra (numbers_of w) ws (basic_placed w) (sym is ∙ e)
+    no_extra (Extra w) fit e = none w fit (behind _ _ _ _ (sym is ∙ e))
+behind_extra numbers valid old ws NoMemory is none = tt
+
+pub other_word : {W : Type 0} (numbers : W → List ℤ) (valid : W → Bool) (old ws : List Bytes) (kind : Bytes) → old ≡ kind ∷ ws → FindsWord basic_kinds kind None → (kind ≡ codes "EXTRA" → ⊥) → NoneWhole (witness_words numbers) (is_fit_witness valid) old
+other_word numbers valid old ws kind is none other (Basic w) fit e =
+    let there = has_place basic_kinds (numbers_of w) (basic_placed w) in none there.place there.within (head_is _ _ _ _ (sym is ∙ e ∙ ap (kind_words basic_kinds) there.is))
+other_word numbers valid old ws kind is none other (Extra w) fit e = other (head_is _ _ _ _ (sym is ∙ e))
+
+pub never : IsTrue false → ⊥
+never h = cc
+
+-- writing the word of a kind
+
+pub kind_place : (kinds : List Bytes) (zs : List ℤ) (z : ℤ) → is_placed kinds zs ≡ true → slice_get zs 0 ≡ Some z → (k : ℕ) × (z ≡ pos k) × (k < length kinds) × (kind_words kinds zs ≡ get_or kinds k [] ∷ map signed_decimal (drop 1 zs))
+kind_place kinds [] z placed at = cc
+kind_place kinds (negsuc k ∷ zs) z placed at = cc
+kind_place kinds (pos k ∷ zs) z placed at = (k, cc, grind (arith, nat_tests), refl)
+
+pub some_number : (kinds : List Bytes) (zs : List ℤ) → is_placed kinds zs ≡ true → 0 < length zs
+some_number kinds [] placed = cc
+some_number kinds (z ∷ zs) placed = omega arith

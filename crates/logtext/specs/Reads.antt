@@ -1,11 +1,9 @@
 -- What stands in front of words.
-use Rattle.std.specs.Prelude.{◌≡◌, ℕ, ◌==◌, ◌&&◌, ℤ, Bool, List, [], ◌∷◌, ◌++◌, ◌⊎◌, ◌<◌, not, length, take, slice_index, map, codes, Option, Some, None, Result, Ok, Err, IsTrue, ⊤}
+use Rattle.std.specs.Prelude.{◌≡◌, ℕ, ◌==◌, ◌&&◌, ℤ, Bool, List, [], ◌∷◌, ◌++◌, ◌⊎◌, ◌<◌, not, length, take, slice_index, map, get_or, codes, Option, Some, None, Result, Ok, Err, IsTrue, ⊤}
 use Rattle.std.specs.Fmt.{decimal, signed_decimal}
 use Rattle.std.specs.List.{list_all, flat_map}
 use Rattle.sched_base.specs.declared.ids.Itv.{Itv}
 use Rattle.sched_model.specs.Valid.{is_small}
-use Rattle.refute_basic.specs.declared.witness.BasicWitness.{BasicWitness}
-use Rattle.refute_basic.specs.declared.witness.BasicWitness.TheVariants.{Leaf}
 use Rattle.kernel.specs.Fit.{is_id}
 use Rattle.sched_model.specs.declared.types.Segment.{Segment}
 use Rattle.textline.specs.Lines.{Bytes}
@@ -68,16 +66,26 @@ is_fit_bound b = is_id b.0 && is_small b.1
 abbrev pub are_so_many : {A : Type 0} → ℕ → (A → Bool) → List A → Bool
 are_so_many n fit vs = length vs == n && list_all fit vs
 
--- the words behind a witness's kind
+-- small numbers were put behind those at hand, and all the words spell them; or the words spell none
+abbrev pub ReadsNumbers : List Bytes → List ℤ → List ℤ → Result (Unit {0}) EntryFault → Type 0
+ReadsNumbers words old new (Ok _) = (zs : List ℤ) × IsTrue (list_all is_small zs) × (new ≡ old ++ zs) × (words ≡ map signed_decimal zs)
+ReadsNumbers words old new (Err Bad) = (zs : List ℤ) → IsTrue (list_all is_small zs) → words ≡ map signed_decimal zs → ⊥
+ReadsNumbers words old new (Err NoMemory) = ⊤
 
-abbrev pub leaf_words : BasicWitness → List Bytes
-leaf_words (Leaf k u) = decimal k ∷ decimal u ∷ []
+-- the valid value whose numbers are those at hand and then those that all the words spell, or none
+abbrev pub ReadsValue : {W : Type 0} → (W → List ℤ) → (W → Bool) → List ℤ → List Bytes → Result W EntryFault → Type 0
+ReadsValue numbers valid front words (Ok w) = IsTrue (valid w) × (zs : List ℤ) × (numbers w ≡ front ++ zs) × (words ≡ map signed_decimal zs)
+ReadsValue {W} numbers valid front words (Err Bad) = (w : W) (zs : List ℤ) → IsTrue (valid w) → numbers w ≡ front ++ zs → words ≡ map signed_decimal zs → ⊥
+ReadsValue numbers valid front words (Err NoMemory) = ⊤
 
-abbrev pub number_words : List ℤ → List Bytes
-number_words zs = flat_map moment_words zs
-
+-- the words behind the word of an extra witness
 abbrev pub extra_words : {W : Type 0} → (W → List ℤ) → W → List Bytes
 extra_words numbers w = decimal (length (numbers w)) ∷ map signed_decimal (numbers w)
+
+-- the place of a word in a table, or it stands nowhere there
+abbrev pub FindsWord : List Bytes → Bytes → Option ℕ → Type 0
+FindsWord words w (Some k) = (k < length words) × (w ≡ get_or words k [])
+FindsWord words w None = (k : ℕ) → k < length words → w ≡ get_or words k [] → ⊥
 
 -- the words of members and of segments, and with their count in front
 

@@ -1,5 +1,5 @@
 -- How a log spells its lines: a letter, then words and numbers with one space between each two, and a line feed.
-use Rattle.std.specs.Prelude.{ℤ, List, [], ◌∷◌, ◌++◌, length, map, flat_map, codes}
+use Rattle.std.specs.Prelude.{ℤ, pos, List, [], ◌∷◌, ◌++◌, length, get_or, map, flat_map, codes}
 use Rattle.std.specs.Fmt.{decimal, signed_decimal}
 use Rattle.sched_base.specs.declared.ids.Itv.{Itv}
 use Rattle.sched_model.specs.declared.types.Assignment.{Assignment}
@@ -8,8 +8,7 @@ use Rattle.sched_model.specs.declared.types.Slot.{Slot}
 use Rattle.sched_model.specs.declared.types.Slot.TheVariants as slot
 use Rattle.region.specs.declared.types.Guess.{Guess}
 use Rattle.region.specs.declared.types.Guess.TheVariants.{Present, Absent, StartLe, StartGe, EndLe, EndGe}
-use Rattle.refute_basic.specs.declared.witness.BasicWitness.{BasicWitness}
-use Rattle.refute_basic.specs.declared.witness.BasicWitness.TheVariants.{Leaf}
+use Rattle.refute_basic.specs.Witness.{numbers_of}
 use Rattle.kernel.specs.declared.types.Witness.{Witness}
 use Rattle.kernel.specs.declared.types.Witness.TheVariants.{Basic, Extra}
 use Rattle.kernel.specs.declared.types.Line.{Line}
@@ -25,12 +24,18 @@ guess_words (StartGe x t) = codes "SG" ∷ decimal x.0 ∷ signed_decimal t ∷ 
 guess_words (EndLe x t) = codes "EL" ∷ decimal x.0 ∷ signed_decimal t ∷ []
 guess_words (EndGe x t) = codes "EG" ∷ decimal x.0 ∷ signed_decimal t ∷ []
 
--- the word of a kind, and its numbers; an extra witness has the count of its numbers before them
-abbrev pub basic_words : BasicWitness → List Bytes
-basic_words (Leaf k u) = codes "LEAF" ∷ decimal k ∷ decimal u ∷ []
+-- the words of the kinds of each crate, by their places
+abbrev pub basic_kinds : List Bytes
+basic_kinds = codes "SIZE" ∷ codes "ARC" ∷ codes "CYCLE" ∷ codes "EXPR" ∷ codes "OBJ" ∷ codes "LEAF" ∷ []
 
+-- of the numbers of a witness the first is the place of its kind: the word there, and the other numbers
+abbrev pub kind_words : List Bytes → List ℤ → List Bytes
+kind_words kinds (pos k ∷ zs) = get_or kinds k [] ∷ map signed_decimal zs
+kind_words kinds _ = []
+
+-- an extra witness has the count of its numbers before all of them
 abbrev pub witness_words : {W : Type 0} → (W → List ℤ) → Witness W → List Bytes
-witness_words numbers (Basic w) = basic_words w
+witness_words numbers (Basic w) = kind_words basic_kinds (numbers_of w)
 witness_words numbers (Extra w) = codes "EXTRA" ∷ decimal (length (numbers w)) ∷ map signed_decimal (numbers w)
 
 -- where each interval stands, the members of each sequence in their order, the segments of each state function

@@ -3,6 +3,7 @@
 #![tactic(auto)]
 
 mod entry;
+mod kinds;
 mod laws;
 mod line;
 mod reader;
@@ -16,5 +17,5 @@ mod writer_tests;
 
 pub use entry::{Entry, EntryFault};
 pub use laws::spelling_is_determined;
-pub use reader::read_entry;
+pub use reader::LogReader;
 pub use writer::LogWriter;

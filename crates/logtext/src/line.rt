@@ -14,34 +14,34 @@ use std::alloc::Global;
 use textline::Words;
 
 /// Reads the words behind the letter of a line that learns a fact.
-fn read_derive<W: Numbers>(alloc: Global, words: &mut Words<'_>) -> Result<Line<W>, EntryFault>
+fn read_derive<W: Numbers>(
+    alloc: Global,
+    words: &mut Words<'_>,
+    numbers: &mut Vec<i64>,
+) -> Result<Line<W>, EntryFault>
     ensures { ReadsWhole (line_words W.numbers) (is_fit W.is_valid) (codes "d" ∷ words.old) result }
 {
     let Some(guess) = take_guess(words) else {
         return Err(EntryFault::Bad);
     };
-    let witness = match read_witness(alloc, words) {
-        Ok(witness) => witness,
-        Err(fault) => return Err(fault),
-    };
-    if !words.is_done() {
-        return Err(EntryFault::Bad);
+    match read_witness(alloc, words, numbers) {
+        Ok(witness) => Ok(Line::Derive(guess, witness)),
+        Err(fault) => Err(fault),
     }
-    Ok(Line::Derive(guess, witness))
 }
 
 /// Reads the words behind the letter of a line that closes a region.
-fn read_fail<W: Numbers>(alloc: Global, words: &mut Words<'_>) -> Result<Line<W>, EntryFault>
+fn read_fail<W: Numbers>(
+    alloc: Global,
+    words: &mut Words<'_>,
+    numbers: &mut Vec<i64>,
+) -> Result<Line<W>, EntryFault>
     ensures { ReadsWhole (line_words W.numbers) (is_fit W.is_valid) (codes "f" ∷ words.old) result }
 {
-    let witness = match read_witness(alloc, words) {
-        Ok(witness) => witness,
-        Err(fault) => return Err(fault),
-    };
-    if !words.is_done() {
-        return Err(EntryFault::Bad);
+    match read_witness(alloc, words, numbers) {
+        Ok(witness) => Ok(Line::Fail(witness)),
+        Err(fault) => Err(fault),
     }
-    Ok(Line::Fail(witness))
 }
 
 /// Reads the words behind the letter of a line that cuts a region.
@@ -72,14 +72,15 @@ fn read_step<W: Numbers>(
     alloc: Global,
     letter: &[u8],
     words: &mut Words<'_>,
+    numbers: &mut Vec<i64>,
 ) -> Result<Line<W>, EntryFault>
     ensures { ReadsWhole (line_words W.numbers) (is_fit W.is_valid) (letter.now ∷ words.old) result }
 {
     if is(letter, b"d") {
-        return read_derive(alloc, words);
+        return read_derive(alloc, words, numbers);
     }
     if is(letter, b"f") {
-        return read_fail(alloc, words);
+        return read_fail(alloc, words, numbers);
     }
     if is(letter, b"s") {
         return read_split(words);
@@ -90,8 +91,12 @@ fn read_step<W: Numbers>(
     Err(EntryFault::Bad)
 }
 
-/// Reads a line from its words.
-pub fn read_words<W: Numbers>(alloc: Global, words: &mut Words<'_>) -> Result<Entry<W>, EntryFault>
+/// Reads a line from its words. What the list of numbers holds doesn't matter.
+pub fn read_words<W: Numbers>(
+    alloc: Global,
+    words: &mut Words<'_>,
+    numbers: &mut Vec<i64>,
+) -> Result<Entry<W>, EntryFault>
     ensures { ReadsWhole (entry_words W.numbers) (is_fit_entry W.is_valid) words.old result }
 {
     let Some(first) = words.next() else {
@@ -112,7 +117,7 @@ pub fn read_words<W: Numbers>(alloc: Global, words: &mut Words<'_>) -> Result<En
         }
         return Ok(Entry::Finish);
     }
-    match read_step(alloc, first, words) {
+    match read_step(alloc, first, words, numbers) {
         Ok(line) => Ok(Entry::Step(line)),
         Err(fault) => Err(fault),
     }

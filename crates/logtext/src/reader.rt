@@ -35,6 +35,7 @@ fn find_feed(bytes: &[u8]) -> Option<usize>
 fn read_front<W: Numbers>(
     alloc: Global,
     rest: &[u8],
+    numbers: &mut Vec<i64>,
 ) -> Result<Option<(Entry<W>, usize)>, EntryFault>
     ensures { ReadsEntry W.numbers W.is_valid rest.now 0 result }
 {
@@ -46,27 +47,44 @@ fn read_front<W: Numbers>(
     };
     let (line, _) = rest.split_at(end);
     let mut words = Words::of(line);
-    match read_words(alloc, &mut words) {
+    match read_words(alloc, &mut words, numbers) {
         Ok(entry) => Ok(Some((entry, end + 1))),
         Err(fault) => Err(fault),
     }
 }
 
-/// Reads the line that begins at `from`, and tells the place behind its line feed. None where the
-/// bytes from there hold no line feed and are not yet too long for a line.
-pub fn read_entry<X: Refuter>(
-    alloc: Global,
-    bytes: &[u8],
-    from: usize,
-) -> Result<Option<(Entry<X::Witness>, usize)>, EntryFault>
-    requires { from ≤ length bytes.now }
-    ensures { ReadsEntry X.Witness.numbers X.Witness.is_valid bytes.now from result }
-{
-    let (_, rest) = bytes.split_at(from);
-    match read_front(alloc, rest) {
-        Ok(Some((entry, len))) => Ok(Some((entry, from + len))),
-        Ok(None) => Ok(None),
-        Err(fault) => Err(fault),
+/// Reads the lines of a log. It lends each line the room in which the numbers of a witness are
+/// gathered, so that a line takes no memory but for what it keeps.
+#[derive(Drop)]
+pub struct LogReader {
+    numbers: Vec<i64>,
+}
+
+impl LogReader {
+    /// A reader with no room yet: the first line with a witness takes some.
+    pub fn new(alloc: Global) -> LogReader {
+        LogReader {
+            numbers: Vec::new(alloc),
+        }
+    }
+
+    /// Reads the line that begins at `from`, and tells the place behind its line feed. None where
+    /// the bytes from there hold no line feed and are not yet too long for a line.
+    pub fn read_entry<X: Refuter>(
+        &mut self,
+        alloc: Global,
+        bytes: &[u8],
+        from: usize,
+    ) -> Result<Option<(Entry<X::Witness>, usize)>, EntryFault>
+        requires { from ≤ length bytes.now }
+        ensures { ReadsEntry X.Witness.numbers X.Witness.is_valid bytes.now from result }
+    {
+        let (_, rest) = bytes.split_at(from);
+        match read_front(alloc, rest, &mut self.numbers) {
+            Ok(Some((entry, len))) => Ok(Some((entry, from + len))),
+            Ok(None) => Ok(None),
+            Err(fault) => Err(fault),
+        }
     }
 }
 
@@ -82,7 +100,7 @@ mod tests {
     type Read = Result<Option<(Entry<BasicWitness>, usize)>, EntryFault>;
 
     fn read(alloc: Global, text: &[u8]) -> Read {
-        read_entry::<Basic>(alloc, text, 0)
+        LogReader::new(alloc).read_entry::<Basic>(alloc, text, 0)
     }
 
     /// Whether each text is read as one line.

@@ -1,15 +1,13 @@
-ghost use Rattle.sched_model.specs.Valid.{is_small};
-ghost use Rattle.refute_basic.specs.Witness.{is_valid};
+ghost use Rattle.std.specs.Prelude.{◌<◌, ◌^◌, pos, [], ◌∷◌};
 ghost use Rattle.kernel.specs.Fit.{is_fit_guess, is_fit_witness};
 ghost use Rattle.logtext.specs.Spelling.{guess_words, witness_words};
-ghost use Rattle.logtext.specs.Reads.{Takes, Reads, are_so_many, leaf_words, number_words, extra_words};
+ghost use Rattle.logtext.specs.Reads.{Takes, ReadsWhole, ReadsNumbers, ReadsValue, extra_words};
 
 use crate::entry::EntryFault;
+use crate::kinds::basic_place;
 use crate::value::{is, take_bound, take_count, take_id, take_moment};
 use kernel::Witness;
-use refute_basic::BasicWitness;
 use region::{Guess, Numbers};
-use sched_base::List;
 use std::alloc::Global;
 use textline::Words;
 
@@ -59,47 +57,75 @@ pub fn take_guess(words: &mut Words<'_>) -> Option<Guess>
     None
 }
 
-/// Takes the two counts of a leaf.
-fn take_leaf(words: &mut Words<'_>) -> Option<BasicWitness>
-    ensures { Takes leaf_words is_valid words.old words.new result }
+/// Puts all the numbers that are left behind those at hand. They take room as they come.
+fn read_numbers(words: &mut Words<'_>, numbers: &mut Vec<i64>) -> Result<(), EntryFault>
+    ensures { ReadsNumbers words.old numbers.old.items numbers.new.items result }
 {
-    let Some(k) = take_count(words) else {
-        return None;
-    };
-    let Some(u) = take_count(words) else {
-        return None;
-    };
-    Some(BasicWitness::Leaf { k, u })
-}
-
-/// Reads so many moments. They take room as they come, whatever their count says.
-fn read_numbers(alloc: Global, count: u32, words: &mut Words<'_>) -> Result<List<i64>, EntryFault>
-    ensures { Reads number_words (are_so_many count is_small) words.old words.new result }
-{
-    let mut numbers = List::new(alloc);
-    for _i in 0..count {
+    while !words.is_done() {
         let Some(z) = take_moment(words) else {
             return Err(EntryFault::Bad);
         };
-        numbers.push(z)?;
+        if numbers.push(z).is_err() {
+            return Err(EntryFault::NoMemory);
+        }
     }
-    Ok(numbers)
+    Ok(())
+}
+
+/// Reads the value whose numbers are those at hand, and then all that are left.
+fn read_value<W: Numbers>(
+    alloc: Global,
+    words: &mut Words<'_>,
+    numbers: &mut Vec<i64>,
+) -> Result<W, EntryFault>
+    ensures { ReadsValue W.numbers W.is_valid numbers.old.items words.old result }
+{
+    match read_numbers(words, numbers) {
+        Ok(()) => {}
+        Err(fault) => return Err(fault),
+    }
+    let Some(w) = W::from_numbers(alloc, numbers.as_slice())? else {
+        return Err(EntryFault::Bad);
+    };
+    Ok(w)
+}
+
+/// Reads the numbers of a witness, behind the word of the kind at this place.
+fn read_kind<W: Numbers>(
+    alloc: Global,
+    place: usize,
+    words: &mut Words<'_>,
+    numbers: &mut Vec<i64>,
+) -> Result<W, EntryFault>
+    requires { place < 2 ^ 32 }
+    ensures { ReadsValue W.numbers W.is_valid (pos place ∷ []) words.old result }
+{
+    numbers.clear();
+    if numbers.push(place as i64).is_err() {
+        return Err(EntryFault::NoMemory);
+    }
+    read_value(alloc, words, numbers)
 }
 
 /// Reads the count and the numbers of an extra witness.
-fn read_extra<W: Numbers>(alloc: Global, words: &mut Words<'_>) -> Result<W, EntryFault>
-    ensures { Reads (extra_words W.numbers) W.is_valid words.old words.new result }
+fn read_extra<W: Numbers>(
+    alloc: Global,
+    words: &mut Words<'_>,
+    numbers: &mut Vec<i64>,
+) -> Result<W, EntryFault>
+    ensures { ReadsWhole (extra_words W.numbers) W.is_valid words.old result }
 {
     let Some(count) = take_count(words) else {
         return Err(EntryFault::Bad);
     };
-    let numbers = match read_numbers(alloc, count, words) {
-        Ok(numbers) => numbers,
+    numbers.clear();
+    let w: W = match read_value(alloc, words, numbers) {
+        Ok(w) => w,
         Err(fault) => return Err(fault),
     };
-    let Some(w) = W::from_numbers(alloc, numbers.as_slice())? else {
+    if w.count() != count as usize {
         return Err(EntryFault::Bad);
-    };
+    }
     Ok(w)
 }
 
@@ -107,20 +133,21 @@ fn read_extra<W: Numbers>(alloc: Global, words: &mut Words<'_>) -> Result<W, Ent
 pub fn read_witness<W: Numbers>(
     alloc: Global,
     words: &mut Words<'_>,
+    numbers: &mut Vec<i64>,
 ) -> Result<Witness<W>, EntryFault>
-    ensures { Reads (witness_words W.numbers) (is_fit_witness W.is_valid) words.old words.new result }
+    ensures { ReadsWhole (witness_words W.numbers) (is_fit_witness W.is_valid) words.old result }
 {
     let Some(kind) = words.next() else {
         return Err(EntryFault::Bad);
     };
-    if is(kind, b"LEAF") {
-        let Some(basic) = take_leaf(words) else {
-            return Err(EntryFault::Bad);
+    if let Some(place) = basic_place(kind) {
+        return match read_kind(alloc, place, words, numbers) {
+            Ok(w) => Ok(Witness::Basic(w)),
+            Err(fault) => Err(fault),
         };
-        return Ok(Witness::Basic(basic));
     }
     if is(kind, b"EXTRA") {
-        return match read_extra(alloc, words) {
+        return match read_extra(alloc, words, numbers) {
             Ok(w) => Ok(Witness::Extra(w)),
             Err(fault) => Err(fault),
         };

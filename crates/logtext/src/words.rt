@@ -1,10 +1,12 @@
-ghost use Rattle.std.specs.Prelude.{◌≡◌, [], ◌∷◌, ◌++◌, map, true, codes};
+ghost use Rattle.std.specs.Prelude.{◌≡◌, [], ◌∷◌, ◌++◌, map, drop, true, codes};
 ghost use Rattle.std.specs.List.{flat_map};
 ghost use Rattle.std.specs.Fmt.{decimal, signed_decimal};
+ghost use Rattle.refute_basic.specs.Witness.{numbers_of};
 ghost use Rattle.kernel.specs.declared.types.Witness.TheVariants.{Extra};
-ghost use Rattle.logtext.specs.Spelling.{guess_words, basic_words, witness_words, slot_words, member_word, order_words, segment_words, segments_words, assignment_words};
+ghost use Rattle.logtext.specs.Spelling.{guess_words, basic_kinds, kind_words, witness_words, slot_words, member_word, order_words, segment_words, segments_words, assignment_words};
 ghost use Rattle.logtext.specs.Writing.{Gathers, spaced};
 
+use crate::kinds::basic_word;
 use crate::writer::LogWriter;
 use kernel::Witness;
 use refute_basic::BasicWitness;
@@ -54,32 +56,43 @@ impl LogWriter {
         }
     }
 
-    fn put_leaf<D: Desk>(&mut self, k: u32, u: u32, desk: &mut D) -> Result<(), Failed>
+    /// The numbers from a place on.
+    fn put_numbers<W: Numbers, D: Desk>(
+        &mut self,
+        w: &W,
+        from: usize,
+        desk: &mut D,
+    ) -> Result<(), Failed>
         requires { (D.state desk.old).created ≡ true }
-        ensures { Gathers (spaced (codes "LEAF" ∷ decimal k ∷ decimal u ∷ [])) result self.old self.new (D.state desk.old) (D.state desk.new) }
+        ensures { Gathers (spaced (map signed_decimal (drop from (W.numbers w.now)))) result self.old self.new (D.state desk.old) (D.state desk.new) }
     {
-        self.put(b" LEAF", desk)?;
-        self.put_number(k, desk)?;
-        self.put_number(u, desk)
-    }
-
-    fn put_basic<D: Desk>(&mut self, w: BasicWitness, desk: &mut D) -> Result<(), Failed>
-        requires { (D.state desk.old).created ≡ true }
-        ensures { Gathers (spaced (basic_words w)) result self.old self.new (D.state desk.old) (D.state desk.new) }
-    {
-        match w {
-            BasicWitness::Leaf { k, u } => self.put_leaf(k, u, desk),
-        }
-    }
-
-    fn put_numbers<W: Numbers, D: Desk>(&mut self, w: &W, desk: &mut D) -> Result<(), Failed>
-        requires { (D.state desk.old).created ≡ true }
-        ensures { Gathers (spaced (map signed_decimal (W.numbers w.now))) result self.old self.new (D.state desk.old) (D.state desk.new) }
-    {
-        for i in 0..w.count() {
+        for i in from..w.count() {
             self.put_number(w.number(i), desk)?;
         }
         Ok(())
+    }
+
+    /// The word of a kind, and the numbers behind that of its place.
+    fn put_kind<W: Numbers, D: Desk>(
+        &mut self,
+        word: &[u8],
+        w: &W,
+        desk: &mut D,
+    ) -> Result<(), Failed>
+        requires { (D.state desk.old).created ≡ true }
+        ensures { Gathers (spaced (word.now ∷ map signed_decimal (drop 1 (W.numbers w.now)))) result self.old self.new (D.state desk.old) (D.state desk.new) }
+    {
+        self.put(b" ", desk)?;
+        self.put(word, desk)?;
+        self.put_numbers(w, 1, desk)
+    }
+
+    fn put_basic<D: Desk>(&mut self, w: &BasicWitness, desk: &mut D) -> Result<(), Failed>
+        requires { (D.state desk.old).created ≡ true }
+        ensures { Gathers (spaced (kind_words basic_kinds (numbers_of w.now))) result self.old self.new (D.state desk.old) (D.state desk.new) }
+    {
+        let place = w.number(0);
+        self.put_kind(basic_word(place as usize), w, desk)
     }
 
     fn put_extra<W: Numbers, D: Desk>(&mut self, w: &W, desk: &mut D) -> Result<(), Failed>
@@ -88,7 +101,7 @@ impl LogWriter {
     {
         self.put(b" EXTRA", desk)?;
         self.put_number(w.count(), desk)?;
-        self.put_numbers(w, desk)
+        self.put_numbers(w, 0, desk)
     }
 
     pub(crate) fn put_witness<W: Numbers, D: Desk>(
@@ -100,7 +113,7 @@ impl LogWriter {
         ensures { Gathers (spaced (witness_words W.numbers w.now)) result self.old self.new (D.state desk.old) (D.state desk.new) }
     {
         match w {
-            Witness::Basic(basic) => self.put_basic(*basic, desk),
+            Witness::Basic(basic) => self.put_basic(basic, desk),
             Witness::Extra(extra) => self.put_extra(extra, desk),
         }
     }

@@ -1,5 +1,5 @@
 -- No spelling of a line is the front of another's, and each tells its line.
-use Rattle.std.specs.Prelude.{◌≡◌, ℕ, zero, suc, ◌^◌, ◌<◌, ℤ, Bool, true, IsTrue, List, [], ◌∷◌, ◌++◌, length, map, codes}
+use Rattle.std.specs.Prelude.{◌≡◌, ℕ, zero, suc, ◌^◌, ◌<◌, ℤ, pos, negsuc, Bool, true, IsTrue, List, [], ◌∷◌, ◌++◌, length, get_or, map, codes}
 use Rattle.std.proofs.Common.{refl, ap, sym, ◌∙◌, arith}
 use Rattle.std.proofs.lemmas.List.{append-nil}
 use Rattle.std.proofs.lemmas.Bool.Decides.{nat_tests}
@@ -7,22 +7,23 @@ use Rattle.std.specs.List.{list_all}
 use Rattle.std.specs.Fmt.{decimal, signed_decimal}
 use Rattle.sched_model.specs.Valid.{is_small}
 use Rattle.region.specs.Spelled.{AreSmall}
-use Rattle.refute_basic.specs.declared.witness.BasicWitness.TheVariants.{Leaf}
 use Rattle.kernel.specs.declared.types.Witness.{Witness}
 use Rattle.kernel.specs.declared.types.Witness.TheVariants.{Basic, Extra}
 use Rattle.kernel.specs.declared.types.Line.{Line}
 use Rattle.kernel.specs.declared.types.Line.TheVariants.{Derive, Fail, Split, Sol}
-use Rattle.refute_basic.specs.Witness.{is_valid}
+use Rattle.refute_basic.specs.Witness.{numbers_of, is_valid}
+use Rattle.refute_basic.specs.laws.Spelling.{few_numbers, small_numbers, told_apart}
 use Rattle.kernel.specs.Fit.{is_count, is_fit, is_fit_guess, is_fit_witness}
 use Rattle.textline.specs.Lines.{Bytes, line}
 use Rattle.textline.specs.Words.{are_words}
 use Rattle.textline.specs.laws.Lines.{both_true, true_both, line_told}
 use Rattle.logtext.specs.declared.entry.Entry.{Entry}
 use Rattle.logtext.specs.declared.entry.Entry.TheVariants.{Head, Step, Finish}
-use Rattle.logtext.specs.Spelling.{guess_words, basic_words, witness_words, assignment_words, line_words}
+use Rattle.logtext.specs.Spelling.{guess_words, basic_kinds, kind_words, witness_words, assignment_words, line_words}
 use Rattle.logtext.specs.Entries.{entry_text, entry_words, is_fit_entry}
-use Rattle.logtext.specs.laws.Leads.{Tells, tag, behind}
-use Rattle.logtext.specs.laws.Told.{count_told, numbers_told, guess_told, assignment_told}
+use Rattle.logtext.specs.laws.Leads.{tag, behind}
+use Rattle.logtext.specs.laws.Told.{moments_told, guess_told, assignment_told}
+use Rattle.logtext.specs.laws.Kinds.{are_different, is_placed, basic_differ, basic_plain, basic_placed, word_at, kind_told, kind_is_no_extra}
 use Rattle.logtext.specs.laws.Plain.{count_word, moment_word, first_and, front_and, each_plain, guess_plain, assignment_plain}
 
 -- valid witnesses have few and small numbers, which tell them apart
@@ -38,30 +39,30 @@ all_small (z ∷ zs) h = true_both (is_small z) (list_all is_small zs) (h zero z
 pub few_is_count : (n : ℕ) → n < 2 ^ 32 → is_count n ≡ true
 few_is_count n h = grind (arith, nat_tests)
 
-pub basic_told : Tells basic_words is_valid
-basic_told (Leaf k u) (Leaf l v) x y ha hb e =
-    let h = both_true (is_count k) (is_count u) ha in
-    let i = both_true (is_count l) (is_count v) hb in
-    let first = count_told k l h.0 i.0 (cc) in
-    let second = count_told u v h.1 i.1 (cc) in (cc, cc)
+-- a kind's spelling tells its witness
+kind_witness_told : {W : Type 0} → (kinds : List Bytes) (numbers : W → List ℤ) (valid : W → Bool) → are_different kinds ≡ true → ((w : W) → is_placed kinds (numbers w) ≡ true) → AreTold numbers valid → (a b : W) → valid a ≡ true → valid b ≡ true
+    → kind_words kinds (numbers a) ≡ kind_words kinds (numbers b) → a ≡ b
+kind_witness_told kinds numbers valid differ placed laws a b ha hb e =
+    laws.apart a b ha hb (kind_told kinds (numbers a) (numbers b) differ (placed a) (placed b) (all_small (numbers a) (laws.small a ha)) (all_small (numbers b) (laws.small b hb)) e)
 
-pub witness_told : {W : Type 0} → (numbers : W → List ℤ) (valid : W → Bool) → AreTold numbers valid → Tells (witness_words numbers) (is_fit_witness valid)
-witness_told numbers valid laws (Basic a) (Basic b) x y ha hb e = let same = basic_told a b x y ha hb e in (ap Basic same.0, same.1)
-witness_told numbers valid laws (Extra a) (Extra b) x y ha hb e =
-    let count = count_told (length (numbers a)) (length (numbers b)) (few_is_count (length (numbers a)) (laws.few a ha)) (few_is_count (length (numbers b)) (laws.few b hb)) (cc) in
-    let same = numbers_told (numbers a) (numbers b) x y (all_small (numbers a) (laws.small a ha)) (all_small (numbers b) (laws.small b hb)) count (cc) in (ap Extra (laws.apart a b ha hb same.0), same.1)
-witness_told numbers valid laws (Basic (Leaf k u)) (Extra b) x y ha hb e = absurd (omega (arith, ap tag e))
-witness_told numbers valid laws (Extra a) (Basic (Leaf k u)) x y ha hb e = absurd (omega (arith, ap tag e))
+pub basic_laws : AreTold numbers_of is_valid
+basic_laws = record { few = few_numbers; small = small_numbers; apart = told_apart }
+
+-- a witness is the last thing of its line
+pub witness_told : {W : Type 0} → (numbers : W → List ℤ) (valid : W → Bool) → AreTold numbers valid → (a b : Witness W) → is_fit_witness valid a ≡ true → is_fit_witness valid b ≡ true → witness_words numbers a ≡ witness_words numbers b → a ≡ b
+witness_told numbers valid laws (Basic a) (Basic b) ha hb e = ap Basic (kind_witness_told basic_kinds numbers_of is_valid basic_differ basic_placed basic_laws a b ha hb e)
+witness_told numbers valid laws (Extra a) (Extra b) ha hb e =
+    let same = moments_told (numbers a) (numbers b) (all_small (numbers a) (laws.small a ha)) (all_small (numbers b) (laws.small b hb)) (behind _ _ _ _ (behind _ _ _ _ e)) in ap Extra (laws.apart a b ha hb same)
+witness_told numbers valid laws (Basic a) (Extra b) ha hb e = absurd (kind_is_no_extra (numbers_of a) _ (basic_placed a) (sym e))
+witness_told numbers valid laws (Extra a) (Basic b) ha hb e = absurd (kind_is_no_extra (numbers_of b) _ (basic_placed b) e)
 
 pub line_words_told : {W : Type 0} → (numbers : W → List ℤ) (valid : W → Bool) → AreTold numbers valid → (a b : Line W) → is_fit valid a ≡ true → is_fit valid b ≡ true → line_words numbers a ≡ line_words numbers b → a ≡ b
 line_words_told numbers valid laws (Derive g v) (Derive h w) ha hb e =
     let fa = both_true (is_fit_guess g) (is_fit_witness valid v) ha in
     let fb = both_true (is_fit_guess h) (is_fit_witness valid w) hb in
     let guess = guess_told g h (witness_words numbers v) (witness_words numbers w) fa.0 fb.0 (behind _ _ _ _ e) in
-    let witness = witness_told numbers valid laws v w [] [] fa.1 fb.1 (append-nil (witness_words numbers v) ∙ guess.1 ∙ sym (append-nil (witness_words numbers w))) in
-    ap (λ x. Derive x v) guess.0 ∙ ap (λ x. Derive h x) witness.0
-line_words_told numbers valid laws (Fail v) (Fail w) ha hb e =
-    ap Fail (witness_told numbers valid laws v w [] [] ha hb (append-nil (witness_words numbers v) ∙ behind _ _ _ _ e ∙ sym (append-nil (witness_words numbers w)))).0
+    ap (λ x. Derive x v) guess.0 ∙ ap (λ x. Derive h x) (witness_told numbers valid laws v w fa.1 fb.1 guess.1)
+line_words_told numbers valid laws (Fail v) (Fail w) ha hb e = ap Fail (witness_told numbers valid laws v w ha hb (behind _ _ _ _ e))
 line_words_told numbers valid laws (Split g) (Split h) ha hb e =
     ap Split (guess_told g h [] [] ha hb (append-nil (guess_words g) ∙ behind _ _ _ _ e ∙ sym (append-nil (guess_words h)))).0
 line_words_told numbers valid laws (Sol a) (Sol b) ha hb e = ap Sol (assignment_told a b ha hb (behind _ _ _ _ e))
@@ -85,12 +86,18 @@ entry_words_told numbers valid laws Finish (Step b) ha hb e = absurd (omega (ari
 entry_words_told numbers valid laws (Step a) Head ha hb e = absurd (omega (arith, letter numbers a, ap tag e))
 entry_words_told numbers valid laws (Step a) Finish ha hb e = absurd (omega (arith, letter numbers a, ap tag e))
 
+numbers_plain : (zs : List ℤ) → list_all is_small zs ≡ true → are_words (map signed_decimal zs) ≡ true
+numbers_plain zs h = each_plain signed_decimal is_small moment_word zs h
+
+kind_plain : (kinds : List Bytes) (zs : List ℤ) → are_words kinds ≡ true → list_all is_small zs ≡ true → are_words (kind_words kinds zs) ≡ true
+kind_plain kinds [] plain h = refl
+kind_plain kinds (negsuc k ∷ zs) plain h = refl
+kind_plain kinds (pos k ∷ zs) plain h = first_and (get_or kinds k []) (map signed_decimal zs) (word_at kinds k plain) (numbers_plain zs (both_true (is_small (pos k)) (list_all is_small zs) h).1)
+
 pub witness_plain : {W : Type 0} → (numbers : W → List ℤ) (valid : W → Bool) → AreTold numbers valid → (w : Witness W) → is_fit_witness valid w ≡ true → are_words (witness_words numbers w) ≡ true
-witness_plain numbers valid laws (Basic (Leaf k u)) h =
-    let two = both_true (is_count k) (is_count u) h in first_and (decimal k) (decimal u ∷ []) (count_word k two.0) (first_and (decimal u) [] (count_word u two.1) refl)
+witness_plain numbers valid laws (Basic w) h = kind_plain basic_kinds (numbers_of w) basic_plain (all_small (numbers_of w) (small_numbers w h))
 witness_plain numbers valid laws (Extra w) h =
-    first_and (decimal (length (numbers w))) (map signed_decimal (numbers w)) (count_word (length (numbers w)) (few_is_count (length (numbers w)) (laws.few w h)))
-    (each_plain signed_decimal is_small moment_word (numbers w) (all_small (numbers w) (laws.small w h)))
+    first_and (decimal (length (numbers w))) (map signed_decimal (numbers w)) (count_word (length (numbers w)) (few_is_count (length (numbers w)) (laws.few w h))) (numbers_plain (numbers w) (all_small (numbers w) (laws.small w h)))
 
 line_plain : {W : Type 0} → (numbers : W → List ℤ) (valid : W → Bool) → AreTold numbers valid → (l : Line W) → is_fit valid l ≡ true → are_words (line_words numbers l) ≡ true
 line_plain numbers valid laws (Derive g w) h =

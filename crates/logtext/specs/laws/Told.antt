@@ -21,7 +21,7 @@ use Rattle.textline.specs.Lines.{Bytes}
 use Rattle.textline.specs.laws.Lines.{both_true}
 use Rattle.logtext.specs.Spelling.{guess_words, slot_words, member_word, order_words, segment_words, segments_words, assignment_words}
 use Rattle.logtext.specs.Reads.{BeginsWith, BeginsSlot, counted_ids, counted_segments}
-use Rattle.logtext.specs.laws.Leads.{Tells, tag, counted_told, open_told}
+use Rattle.logtext.specs.laws.Leads.{Tells, tag, behind, head_is, counted_told, open_told}
 
 pub three_true : (p q r : Bool) → (p && q && r) ≡ true → (p ≡ true) × (q ≡ true) × (r ≡ true)
 three_true true true r h = (refl, refl, h)
@@ -68,8 +68,16 @@ slot_told _ _ ws vs hx hy e = absurd (omega (arith, ap tag e))
 pub member_told : Tells (λ x. member_word x ∷ []) is_id
 member_told x y ws vs hx hy e = (id_told x y hx hy (cc), cc)
 
-pub number_told : Tells (λ z. signed_decimal z ∷ []) is_small
-number_told x y ws vs hx hy e = (moment_told x y hx hy (cc), cc)
+-- numbers are told by their spellings
+pub moments_told : (xs ys : List ℤ) → list_all is_small xs ≡ true → list_all is_small ys ≡ true → map signed_decimal xs ≡ map signed_decimal ys → xs ≡ ys
+moments_told [] [] hx hy e = refl
+moments_told [] (y ∷ ys) hx hy e = cc
+moments_told (x ∷ xs) [] hx hy e = cc
+moments_told (x ∷ xs) (y ∷ ys) hx hy e =
+    let h = both_true (is_small x) (list_all is_small xs) hx in
+    let k = both_true (is_small y) (list_all is_small ys) hy in
+    let first = moment_told x y h.0 k.0 (head_is _ _ _ _ e) in
+    let rest = moments_told xs ys h.1 k.1 (behind _ _ _ _ e) in cc
 
 abbrev made_segment : ℤ → ℤ → ℤ → Segment
 made_segment p q v = record { p = p; q = q; v = v }
@@ -89,10 +97,6 @@ segment_told a b ws vs hx hy e =
 pub ids_told : (xs ys : List Itv) (x y : List Bytes) → list_all is_id xs ≡ true → list_all is_id ys ≡ true → length xs ≡ length ys → map member_word xs ++ x ≡ map member_word ys ++ y → (xs ≡ ys) × (x ≡ y)
 ids_told xs ys x y hx hy same e =
     counted_told (λ z. member_word z ∷ []) is_id member_told xs ys x y hx hy same (ap (λ l. l ++ x) (flat_map_single member_word xs) ∙ e ∙ ap (λ l. l ++ y) (sym (flat_map_single member_word ys)))
-
-pub numbers_told : (xs ys : List ℤ) (x y : List Bytes) → list_all is_small xs ≡ true → list_all is_small ys ≡ true → length xs ≡ length ys → map signed_decimal xs ++ x ≡ map signed_decimal ys ++ y → (xs ≡ ys) × (x ≡ y)
-numbers_told xs ys x y hx hy same e =
-    counted_told (λ z. signed_decimal z ∷ []) is_small number_told xs ys x y hx hy same (ap (λ l. l ++ x) (flat_map_single signed_decimal xs) ∙ e ∙ ap (λ l. l ++ y) (sym (flat_map_single signed_decimal ys)))
 
 pub order_told : Tells order_words is_fit_order
 order_told xs ys ws vs hx hy e =

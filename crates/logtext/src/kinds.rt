@@ -1,0 +1,31 @@
+ghost use Rattle.std.specs.Prelude.{◌≡◌, ◌<◌, [], get_or};
+ghost use Rattle.std.specs.List.{position};
+ghost use Rattle.std.specs.Str.{bytes_eq};
+ghost use Rattle.logtext.specs.Spelling.{basic_kinds};
+ghost use Rattle.logtext.specs.Reads.{FindsWord};
+
+/// The words of the kinds in `refute_basic`, by their places there.
+const BASIC: [&[u8]; 6] = [b"SIZE", b"ARC", b"CYCLE", b"EXPR", b"OBJ", b"LEAF"];
+
+/// The place of a word in a table.
+#[inline(always)]
+fn place_of(word: &[u8], kinds: &[&[u8]]) -> Option<usize>
+    ensures { result ≡ position (λ w. bytes_eq word.now w.now) kinds.now }
+{
+    kinds.iter().position(|kind| word == *kind)
+}
+
+/// The place of the kind in `refute_basic` that has this word.
+pub fn basic_place(word: &[u8]) -> Option<usize>
+    ensures { FindsWord basic_kinds word.now result }
+{
+    place_of(word, &BASIC)
+}
+
+/// The word of the kind at a place in `refute_basic`.
+pub fn basic_word(place: usize) -> &'static [u8]
+    requires { place < 6 }
+    ensures { result.now ≡ get_or basic_kinds place [] }
+{
+    BASIC[place]
+}
