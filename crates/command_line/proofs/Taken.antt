@@ -2,6 +2,7 @@
 use Rattle.std.proofs.Common.{◌≡◌, Bool, true, false, refl, sym, ap, ◌∙◌, List, [], ◌∷◌, Option, Some, None, option_map, codes, eqb-true}
 use Rattle.std.specs.Prelude.{◌||◌, option_and_then, if◌then◌else◌}
 use Rattle.std.specs.Str.{bytes_eq}
+use Rattle.std.proofs.lemmas.Bool.{or_right}
 use Rattle.command_line.specs.Commands.{Command, Parts, Word, is_option, limit_of, parts_of, placed, solve_in, solve_of, stripped, with_argument, with_limit}
 use Rattle.command_line.specs.Found.{listed, solve_found}
 
@@ -57,16 +58,12 @@ by_test : (b : Bool) (x y u v : Option Parts) → Near x y → Near u v → Near
 by_test true x y u v first second = first
 by_test false x y u v first second = second
 
-later : (a b : Bool) → b ≡ true → (a || b) ≡ true
-later true b e = refl
-later false b e = e
-
 sooner : (a b : Bool) → a ≡ true → (a || b) ≡ true
 sooner a b e = rw e refl
 
 more_limits : (w : Word) (x y : Option Parts) → Near x y → Near (option_map (with_limit w) x) (option_map (with_limit w) y)
 more_limits w x y (alike o) = alike _
-more_limits w x y (missed p has) = missed (with_limit w p) (later (is_option w) (has_option p.limits) has)
+more_limits w x y (missed p has) = missed (with_limit w p) (or_right (is_option w) (has_option p.limits) has)
 
 more_arguments : (w : Word) (x y : Option Parts) → Near x y → Near (option_map (with_argument w) x) (option_map (with_argument w) y)
 more_arguments w x y (alike o) = alike _

@@ -1,6 +1,8 @@
 -- What becomes of the constraints of a valid model depends on the places of its sequences and functions alone.
 use Rattle.std.proofs.Common.{◌≡◌, ℕ, Bool, true, false, ◌&&◌, List, [], ◌∷◌, map, length, nat_lt, refl, ap}
 use Rattle.std.specs.List.{list_all}
+use Rattle.std.proofs.lemmas.Bool.{and_parts}
+use Rattle.base_laws.specs.laws.Truth.{three_true}
 use Rattle.sched_base.specs.declared.ids.Itv.{Itv}
 use Rattle.sched_base.specs.declared.ids.Seq.{Seq}
 use Rattle.sched_model.specs.declared.types.Constraint.{Constraint}
@@ -8,7 +10,6 @@ use Rattle.sched_model.specs.declared.types.Constraint.TheVariants.{Temporal, Lo
 use Rattle.sched_model.specs.Data.{Data, has, members_of}
 use Rattle.sched_model.specs.Valid.{is_constraint, is_seq, is_member, is_window, is_small}
 use Rattle.cpo_elab.specs.Numbered.{new_seq, renumbered}
-use Rattle.cpo_elab.proofs.Truth.{both, each}
 
 -- two ways to place the first n things
 abbrev pub Agree : ℕ → (ℕ → ℕ) → (ℕ → ℕ) → Type 0
@@ -22,7 +23,7 @@ first_of_five true q r s t h = refl
 first_of_five false q r s t h = cc
 
 seq_of_member : (m : Data) (p : Seq) (x : Itv) → is_member m p x ≡ true → is_seq m p ≡ true
-seq_of_member m p x h = (both (is_seq m p) (has (members_of m p) x) h).0
+seq_of_member m p x h = (and_parts (is_seq m p) (has (members_of m p) x) h).0
 
 constraint_alike : (m : Data) (f g k j : ℕ → ℕ) → Agree (length m.sequences) f g → Agree (length m.cumuls) k j → (c : Constraint) → is_constraint m c ≡ true → renumbered f k c ≡ renumbered g j c
 constraint_alike m f g k j seqs cums (Temporal from to equal a b z) h = refl
@@ -30,11 +31,11 @@ constraint_alike m f g k j seqs cums (Logic x) h = refl
 constraint_alike m f g k j seqs cums (Span a parts) h = refl
 constraint_alike m f g k j seqs cums (Alternative a parts) h = refl
 constraint_alike m f g k j seqs cums (Synchronize a parts) h = refl
-constraint_alike m f g k j seqs cums (NoOverlap p matrix direct) h = ap (λ q. NoOverlap q matrix direct) (seq_alike m f g seqs p (both (is_seq m p) _ h).0)
+constraint_alike m f g k j seqs cums (NoOverlap p matrix direct) h = ap (λ q. NoOverlap q matrix direct) (seq_alike m f g seqs p (and_parts (is_seq m p) _ h).0)
 constraint_alike m f g k j seqs cums (First p a) h = ap (λ q. First q a) (seq_alike m f g seqs p (seq_of_member m p a h))
 constraint_alike m f g k j seqs cums (Last p a) h = ap (λ q. Last q a) (seq_alike m f g seqs p (seq_of_member m p a h))
-constraint_alike m f g k j seqs cums (Before p a b) h = ap (λ q. Before q a b) (seq_alike m f g seqs p (seq_of_member m p a (each (is_member m p a) (is_member m p b) _ h).0))
-constraint_alike m f g k j seqs cums (Prev p a b) h = ap (λ q. Prev q a b) (seq_alike m f g seqs p (seq_of_member m p a (each (is_member m p a) (is_member m p b) _ h).0))
+constraint_alike m f g k j seqs cums (Before p a b) h = ap (λ q. Before q a b) (seq_alike m f g seqs p (seq_of_member m p a (three_true (is_member m p a) (is_member m p b) _ h).0))
+constraint_alike m f g k j seqs cums (Prev p a b) h = ap (λ q. Prev q a b) (seq_alike m f g seqs p (seq_of_member m p a (three_true (is_member m p a) (is_member m p b) _ h).0))
 constraint_alike m f g k j seqs cums (CumulIn c w lo hi) h =
     let there = first_of_five (nat_lt c.0 (length m.cumuls)) (is_window m w) (is_small lo) (is_small hi) _ h in
     λ i. CumulIn (record { 0 = cums c.0 there i }) w lo hi
@@ -45,7 +46,7 @@ pub constraints_alike : (m : Data) (f g k j : ℕ → ℕ) → Agree (length m.s
     → map (renumbered f k) cs ≡ map (renumbered g j) cs
 constraints_alike m f g k j seqs cums [] all = refl
 constraints_alike m f g k j seqs cums (c ∷ cs) all =
-    let parts = both (is_constraint m c) _ all in
+    let parts = and_parts (is_constraint m c) _ all in
     λ i. constraint_alike m f g k j seqs cums c parts.0 i ∷ constraints_alike m f g k j seqs cums cs parts.1 i
 
 constraint_same : (c : Constraint) → renumbered (λ i. i) (λ i. i) c ≡ c

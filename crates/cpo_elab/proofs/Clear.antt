@@ -1,8 +1,9 @@
 -- A statement that deserves no number passes each test.
-use Rattle.std.proofs.Common.{◌≡◌, ℕ, Bool, true, false, List, [], ◌∷◌, None, refl}
+use Rattle.std.proofs.Common.{◌≡◌, ℕ, false, [], ◌∷◌, None}
 use Rattle.sched_model.specs.Data.{Data}
 use Rattle.cpo_text.specs.declared.tree.Statement.{Statement}
-use Rattle.cpo_elab.specs.Judged.{defines_again, uses_unknown, uses_wrong, has_reversed, has_negative, misfits, has_twice, passes_limit, aims_again, has_no_hull, has_crowded, first_of, number_in}
+use Rattle.cpo_elab.specs.Judged.{defines_again, uses_unknown, uses_wrong, has_reversed, has_negative, misfits, has_twice, passes_limit, aims_again, has_no_hull, has_crowded, number_in}
+use Rattle.cpo_elab.specs.lemmas.Firsts.{all_false}
 
 pub record Clear (m : Data) (k : ℕ) (s : Statement) : Type 0 where
   pub fresh : defines_again m s ≡ false
@@ -16,18 +17,6 @@ pub record Clear (m : Data) (k : ℕ) (s : Statement) : Type 0 where
   pub single : aims_again m s ≡ false
   pub hull : has_no_hull m s ≡ false
   pub sparse : has_crowded s ≡ false
-
-abbrev AllFalse : List (Bool × ℕ) → Type 0
-AllFalse [] = Unit {0}
-AllFalse (t ∷ ts) = (t.0 ≡ false) × AllFalse ts
-
-first_false : (b : Bool) (n : ℕ) (ts : List (Bool × ℕ)) → first_of ((b, n) ∷ ts) ≡ None → (b ≡ false) × (first_of ts ≡ None)
-first_false true n ts h = cc
-first_false false n ts h = (refl, h)
-
-all_false : (ts : List (Bool × ℕ)) → first_of ts ≡ None → AllFalse ts
-all_false [] h = tt
-all_false (t ∷ ts) h = let parts = first_false t.0 t.1 ts h in (parts.0, all_false ts parts.1)
 
 pub clear : (m : Data) (k : ℕ) (s : Statement) → number_in m k s ≡ None → Clear m k s
 unfolding number_in

@@ -3,6 +3,8 @@ use Rattle.std.proofs.Common.{◌≡◌, ℕ, suc, ◌*◌, true, false, List, [
 use Rattle.std.specs.List.{list_all, list_any}
 use Rattle.std.proofs.lemmas.Bool.Decides.{nat_tests}
 use Rattle.std.proofs.lemmas.List.{length-map}
+use Rattle.std.proofs.lemmas.Bool.{and_parts, and_from}
+use Rattle.base_laws.specs.laws.Items.{all_push}
 use Rattle.sched_model.specs.declared.types.SequenceDef.{SequenceDef}
 use Rattle.sched_model.specs.declared.types.CumulDef.{CumulDef}
 use Rattle.sched_model.specs.Data.{Data, with_interval, with_matrix, with_sequence, with_cumul, with_state}
@@ -20,17 +22,17 @@ use Rattle.cpo_elab.specs.Numbers.{size_of, int_of}
 use Rattle.cpo_elab.specs.Elaborated.{plain_interval, interval_of, types_in, sequence_named, matrix_named, state_named, cumul_named, defined}
 use Rattle.cpo_elab.specs.Judged.{is_of_other_sort}
 use Rattle.cpo_elab.specs.Shaped.{is_spelt}
-use Rattle.cpo_elab.proofs.Truth.{both, joined, all_three, not_true}
-use Rattle.cpo_elab.proofs.Lists.{all_push}
+use Rattle.cpo_elab.proofs.Truth.{all_three, not_true}
 use Rattle.cpo_elab.proofs.Inserted.{Inserted, inserted_left, inserted_right, names_inserted, absent_name, map_inserted, named_inserted, unnamed_same}
 use Rattle.cpo_elab.proofs.Ids.{right_itvs, right_mat}
 use Rattle.cpo_elab.proofs.Amounts.{types_small, cells_small, cell_number}
-use Rattle.cpo_elab.proofs.Intervals.{with_all, plain_fits, name_kept}
+use Rattle.cpo_elab.proofs.Intervals.{with_all, plain_fits}
 use Rattle.cpo_elab.proofs.Functions.{parts_well_made}
 use Rattle.cpo_elab.proofs.Extends.{extends_interval, extends_matrix, extends_sequence, extends_cumul, extends_state}
 use Rattle.cpo_elab.proofs.Growing.{all_four}
 use Rattle.cpo_elab.proofs.Kept.{kept}
 use Rattle.cpo_elab.proofs.Facts.{Facts}
+use Rattle.cpo_elab.specs.lemmas.Intervals.{name_kept}
 
 short_enough : (n : ℕ) → nat_lt 64 (suc n) ≡ false → nat_lt n 64 ≡ true
 short_enough n h = grind (arith, nat_tests)
@@ -38,7 +40,7 @@ short_enough n h = grind (arith, nat_tests)
 names_are_short : (n : List ℕ) → is_spelt n ≡ true → nat_lt 64 (length n) ≡ false → is_name n ≡ true
 names_are_short [] spelt short = spelt
 names_are_short (c ∷ cs) spelt short =
-    let parts = both (valid.is_letter c) (list_all valid.is_name_byte cs) spelt in
+    let parts = and_parts (valid.is_letter c) (list_all valid.is_name_byte cs) spelt in
     all_three (valid.is_letter c) (list_all valid.is_name_byte cs) _ parts.0 parts.1 (short_enough (length cs) short)
 
 -- the names with one more
@@ -87,7 +89,7 @@ with_sequence_valid m d before names here limits =
     }
 
 pub members_made : (m : Data) (ns : List (List ℕ)) → list_any (is_of_other_sort m Interval) ns ≡ false → are_distinct (itvs_of m ns) ≡ true → are_parts m (itvs_of m ns) ≡ true
-members_made m ns uses once = joined (list_all (is_itv m) (itvs_of m ns)) (are_distinct (itvs_of m ns)) (right_itvs m ns uses) once
+members_made m ns uses once = and_from (list_all (is_itv m) (itvs_of m ns)) (are_distinct (itvs_of m ns)) (right_itvs m ns uses) once
 
 few_members : (m : Data) (ns : List (List ℕ)) → nat_le (length ns) 500 ≡ true → nat_le (length (itvs_of m ns)) 500 ≡ true
 few_members m ns few = ap (λ n. nat_le n 500) (length-map ns (itv_of m)) ∙ few
@@ -99,7 +101,7 @@ listed_made m name ns uses once few = all_three (are_parts m (itvs_of m ns)) (na
 typed_made : (m : Data) (name : List ℕ) (ns : List (List ℕ)) (types : List Int) → Facts m (Define name (SequenceVar ns (Some types))) → is_sequence_def m (sequence_named m (Some name) ns (Some types)) ≡ true
 typed_made m name ns types facts =
     all_three (are_parts m (itvs_of m ns)) (nat_le (length (itvs_of m ns)) 500) _ (members_made m ns facts.uses facts.once) (few_members m ns facts.members)
-    (joined (nat_eq (length (types_in types)) (length (itvs_of m ns))) _ ((λ i. nat_eq (length-map types (λ n. size_of n.size) i) (length-map ns (itv_of m) i)) ∙ not_true _ facts.fitting) (types_small types facts.signs facts.small))
+    (and_from (nat_eq (length (types_in types)) (length (itvs_of m ns))) _ ((λ i. nat_eq (length-map types (λ n. size_of n.size) i) (length-map ns (itv_of m) i)) ∙ not_true _ facts.fitting) (types_small types facts.signs facts.small))
 
 sequence_made : (m : Data) (name : List ℕ) (ns : List (List ℕ)) (types : Option (List Int)) → Facts m (Define name (SequenceVar ns types)) → is_sequence_def m (sequence_named m (Some name) ns types) ≡ true
 sequence_made m name ns None facts = listed_made m (Some name) ns facts.uses facts.once facts.members
@@ -134,7 +136,7 @@ define_matrix : (m : Data) (name : List ℕ) (rows : List (List Int)) → IsVali
 define_matrix m name rows before spelt facts =
     let d = matrix_named name rows in
     let rest = kept m (with_matrix d m) (extends_matrix d m) before in
-    let square = both (nat_le 1 (length rows)) (list_all (λ row. nat_eq (length row) (length rows)) rows) (not_true _ facts.fitting) in
+    let square = and_parts (nat_le 1 (length rows)) (list_all (λ row. nat_eq (length row) (length rows)) rows) (not_true _ facts.fitting) in
     record {
       names = named m (with_matrix d m) name (TransitionMatrix rows) before spelt facts
           (inserted_left name _ _ _ (inserted_left name _ _ _ (inserted_left name _ _ _ (inserted_right name _ _ _ (map_inserted (λ d. d.name) m.matrices d)))));

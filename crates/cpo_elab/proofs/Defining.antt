@@ -7,7 +7,7 @@ use Rattle.cpo_text.specs.declared.tree.Ivarg.{Ivarg}
 use Rattle.cpo_elab.specs.declared.item.Item.{Item}
 use Rattle.cpo_elab.specs.Items.{with_item}
 use Rattle.cpo_elab.specs.Elaborated.{plain_interval, interval_of}
-use Rattle.cpo_elab.proofs.Intervals.{name_kept}
+use Rattle.cpo_elab.specs.lemmas.Intervals.{name_kept}
 
 pub add_item : (m n : Data) (x : Item) → with_item x m ≡ n → IsValid n → IsValid (with_item x m)
 add_item m n x made valid = subst IsValid (sym made) valid

@@ -13,6 +13,7 @@ use Rattle.cpo_text.specs.declared.text.Form.TheVariants.{Tree as Parsed, Number
 use Rattle.cpo_text.specs.declared.text.Reading.{Reading}
 use Rattle.cpo_text.specs.declared.text.Refusal.{Refusal}
 use Rattle.cpo_text.specs.declared.text.Tree.{Tree}
+use Rattle.cpo_text.specs.lemmas.Deserved.{same_number}
 use Rattle.cpo_elab.specs.Answers.{judged}
 use Rattle.cpo_elab.specs.Answers.Answer.{Refused}
 use Rattle.cpo_elab.specs.Deserves.Deserves.{unread, judgement}
@@ -34,15 +35,6 @@ no_number : (ws : List Word) (s : Statement) (n : ℕ) → HasForm ws (Parsed s)
 no_number ws s n parsed (inl told) = cc (parsed.0, told)
 no_number ws s n parsed (inr (none, inl outside)) = outside.1 (s, parsed.1)
 no_number ws s n parsed (inr (none, inr above)) = cc (parsed.2, above.2)
-
-same_number : (ws : List Word) (n m : ℕ) → DeservesNumber ws n → DeservesNumber ws m → n ≡ m
-same_number ws n m (inl told) (inl also) = cc (told, also)
-same_number ws n m (inl told) (inr (none, rest)) = cc (told, none)
-same_number ws n m (inr (none, rest)) (inl told) = cc (told, none)
-same_number ws n m (inr (none, inl outside)) (inr (also, inl too)) = outside.0 ∙ sym too.0
-same_number ws n m (inr (none, inl outside)) (inr (also, inr above)) = absurd (outside.1 above.1)
-same_number ws n m (inr (none, inr above)) (inr (also, inl outside)) = absurd (outside.1 above.1)
-same_number ws n m (inr (none, inr above)) (inr (also, inr too)) = above.0 ∙ sym too.0
 
 pub same_form : StatementsAreDetermined → (ws : List Word) (f g : Form) → HasForm ws f → HasForm ws g → f ≡ g
 same_form law ws (Parsed s) (Parsed t) one other = ap (λ x. Parsed x) (law ws s t one.1 other.1)

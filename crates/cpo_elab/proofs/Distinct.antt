@@ -3,11 +3,11 @@ use Rattle.std.proofs.Common.{◌≡◌, ℕ, ◌+◌, ◌<◌, Bool, true, fals
 use Rattle.std.specs.List.{list_any, list_all}
 use Rattle.std.proofs.lemmas.List.{at_drop_more}
 use Rattle.std.proofs.lemmas.Bool.Decides.{nat_tests}
+use Rattle.std.proofs.lemmas.Bool.{and_from, or_parts, not_from_false}
 use Rattle.sched_base.specs.declared.ids.Itv.{Itv}
 use Rattle.sched_model.specs.Data.{Data, same}
 use Rattle.cpo_elab.specs.Named.{itv_of, itvs_of}
 use Rattle.sched_model.specs.Valid.{are_distinct}
-use Rattle.cpo_elab.proofs.Truth.{joined, neither, not_false}
 use Rattle.cpo_elab.proofs.Lists.{pairwise_push}
 
 two_by : (b : Bool) → b ≡ not ((not b && true) && (true && true))
@@ -58,13 +58,13 @@ twice (k ∷ ks) x rest h = by (nat_eq x.0 k) refl h (twice ks x rest) where
   by false is h later = ap (λ b. list_all (differ (itv k)) (itvs ks ++ x ∷ rest) && b) (later h) ∙ and_false _
 
 differ_itv : (k : ℕ) (x : Itv) → nat_eq x.0 k ≡ false → differ (itv k) x ≡ true
-differ_itv k x is = not_false (same (itv k) x) (turn k x is) where
+differ_itv k x is = not_from_false (same (itv k) x) (turn k x is) where
   turn : (k : ℕ) (x : Itv) → nat_eq x.0 k ≡ false → same (itv k) x ≡ false
   turn k x is = grind (arith, nat_tests)
 
 none_same : (ks : List ℕ) (x : Itv) → list_any (nat_eq x.0) ks ≡ false → list_all (λ y. differ y x) (itvs ks) ≡ true
 none_same [] x h = refl
-none_same (k ∷ ks) x h = let parts = neither (nat_eq x.0 k) (list_any (nat_eq x.0) ks) h in joined _ _ (differ_itv k x parts.0) (none_same ks x parts.1)
+none_same (k ∷ ks) x h = let parts = or_parts (nat_eq x.0 k) (list_any (nat_eq x.0) ks) h in and_from _ _ (differ_itv k x parts.0) (none_same ks x parts.1)
 
 map_push : (ks : List ℕ) (x : Itv) → itvs (ks ++ x.0 ∷ []) ≡ itvs ks ++ x ∷ []
 map_push [] x = refl

@@ -1,7 +1,7 @@
 -- An expression whose names are right, and whose nodes have their operands, is well made.
-use Rattle.std.proofs.Common.{◌≡◌, ℕ, pos, Bool, true, false, not, ◌&&◌, ◌||◌, List, [], ◌∷◌, map, Option, Some, None, is_some, is_none, refl, ap, subst, ◌∙◌}
+use Rattle.std.proofs.Common.{◌≡◌, ℕ, pos, Bool, true, false, not, ◌&&◌, ◌||◌, List, [], ◌∷◌, map, Option, Some, None, is_some, is_none, refl, subst, ◌∙◌}
 use Rattle.std.specs.List.{list_all, list_any}
-use Rattle.std.proofs.lemmas.Simd.{map-map}
+use Rattle.std.proofs.lemmas.Bool.{and_parts, and_from, or_parts}
 use Rattle.sched_model.specs.declared.types.Expr.{Expr}
 use Rattle.sched_model.specs.declared.types.Expr.TheOpen.{Expr-F}
 use Rattle.sched_model.specs.declared.types.Expr.TheFolds.{fold-roll-Expr, map-Expr}
@@ -23,13 +23,13 @@ use Rattle.cpo_text.specs.declared.expression.Logic.TheOpen.{Logic-F}
 use Rattle.cpo_text.specs.declared.expression.Logic.TheOpen.Logic-F.{Lit, Group, PresenceOf, Measured, Gathered, Linked, Neg, Sum, Compare, Not, Implies}
 use Rattle.cpo_text.specs.declared.expression.Logic.TheFolds.{fold-roll-Logic, ind-Logic, map-Logic}
 use Rattle.cpo_text.specs.declared.expression.Logic.TheViews.{roll-Logic}
+use Rattle.cpo_text.specs.lemmas.Folds.{composed}
 use Rattle.cpo_elab.specs.declared.names.Sort.TheVariants.{Interval}
 use Rattle.cpo_elab.specs.Named.{itv_of, logic_step, some_in_logic}
 use Rattle.cpo_elab.specs.Numbers.{size_of, int_or_zero}
 use Rattle.cpo_elab.specs.Elaborated.{measure_of, gather_of, link_of, compare_of, expr_step, expr_of}
 use Rattle.cpo_elab.specs.Judged.{is_of_other_sort}
 use Rattle.cpo_elab.specs.Shaped.{operands_step, has_operands, gathers_some, all_true}
-use Rattle.cpo_elab.proofs.Truth.{both, joined, neither}
 use Rattle.cpo_elab.proofs.Growing.{is_tree}
 use Rattle.cpo_elab.proofs.Ids.{right_itv}
 use Rattle.cpo_elab.proofs.Amounts.{literal_small, delay_small}
@@ -47,9 +47,9 @@ trees : (m : Data) (ps : List (Part m)) → list_any (λ b. b) (map (λ p. some_
     → list_all (λ b. b) (map (is_tree m) (map (λ p. expr_of m p.0) ps)) ≡ true
 trees m [] right shaped = refl
 trees m (p ∷ ps) right shaped =
-    let r = neither (some_in_logic (is_of_other_sort m) p.0) _ right in
-    let s = both (has_operands p.0) _ shaped in
-    joined (is_tree m (expr_of m p.0)) _ (p.1 r.0 s.0) (trees m ps r.1 s.1)
+    let r = or_parts (some_in_logic (is_of_other_sort m) p.0) _ right in
+    let s = and_parts (has_operands p.0) _ shaped in
+    and_from (is_tree m (expr_of m p.0)) _ (p.1 r.0 s.0) (trees m ps r.1 s.1)
 
 some_trees : (m : Data) (ps : List (Part m)) → list_any (λ b. b) (map (λ p. some_in_logic (is_of_other_sort m) p.0) ps) ≡ false
     → (not (is_empty (map (λ p. has_operands p.0) ps)) && list_all (λ b. b) (map (λ p. has_operands p.0) ps)) ≡ true
@@ -60,15 +60,15 @@ some_trees m (p ∷ ps) right shaped = trees m (p ∷ ps) right shaped
 two_trees : (m : Data) (p q : Part m) → (some_in_logic (is_of_other_sort m) p.0 || some_in_logic (is_of_other_sort m) q.0) ≡ false → (has_operands p.0 && has_operands q.0) ≡ true
     → (is_tree m (expr_of m p.0) && is_tree m (expr_of m q.0)) ≡ true
 two_trees m p q right shaped =
-    let r = neither (some_in_logic (is_of_other_sort m) p.0) (some_in_logic (is_of_other_sort m) q.0) right in
-    let s = both (has_operands p.0) (has_operands q.0) shaped in
-    joined (is_tree m (expr_of m p.0)) (is_tree m (expr_of m q.0)) (p.1 r.0 s.0) (q.1 r.1 s.1)
+    let r = or_parts (some_in_logic (is_of_other_sort m) p.0) (some_in_logic (is_of_other_sort m) q.0) right in
+    let s = and_parts (has_operands p.0) (has_operands q.0) shaped in
+    and_from (is_tree m (expr_of m p.0)) (is_tree m (expr_of m q.0)) (p.1 r.0 s.0) (q.1 r.1 s.1)
 
 measured : (m : Data) (how : Measure) (a : List ℕ) (d : Option Int) → is_of_other_sort m Interval a ≡ false → is_tree m (measure_of how (itv_of m a) (int_or_zero d)) ≡ true
-measured m StartOf a d right = rolled m (Expr-F.StartOf (itv_of m a) (int_or_zero d)) (joined (is_itv m (itv_of m a)) (is_small (int_or_zero d)) (right_itv m a right) (delay_small d))
-measured m EndOf a d right = rolled m (Expr-F.EndOf (itv_of m a) (int_or_zero d)) (joined (is_itv m (itv_of m a)) (is_small (int_or_zero d)) (right_itv m a right) (delay_small d))
-measured m SizeOf a d right = rolled m (Expr-F.SizeOf (itv_of m a) (int_or_zero d)) (joined (is_itv m (itv_of m a)) (is_small (int_or_zero d)) (right_itv m a right) (delay_small d))
-measured m LengthOf a d right = rolled m (Expr-F.LengthOf (itv_of m a) (int_or_zero d)) (joined (is_itv m (itv_of m a)) (is_small (int_or_zero d)) (right_itv m a right) (delay_small d))
+measured m StartOf a d right = rolled m (Expr-F.StartOf (itv_of m a) (int_or_zero d)) (and_from (is_itv m (itv_of m a)) (is_small (int_or_zero d)) (right_itv m a right) (delay_small d))
+measured m EndOf a d right = rolled m (Expr-F.EndOf (itv_of m a) (int_or_zero d)) (and_from (is_itv m (itv_of m a)) (is_small (int_or_zero d)) (right_itv m a right) (delay_small d))
+measured m SizeOf a d right = rolled m (Expr-F.SizeOf (itv_of m a) (int_or_zero d)) (and_from (is_itv m (itv_of m a)) (is_small (int_or_zero d)) (right_itv m a right) (delay_small d))
+measured m LengthOf a d right = rolled m (Expr-F.LengthOf (itv_of m a) (int_or_zero d)) (and_from (is_itv m (itv_of m a)) (is_small (int_or_zero d)) (right_itv m a right) (delay_small d))
 
 gathered : (m : Data) (g : Gather) (ps : List (Part m)) → list_any (λ b. b) (map (λ p. some_in_logic (is_of_other_sort m) p.0) ps) ≡ false
     → (gathers_some g (map (λ p. has_operands p.0) ps) && all_true (map (λ p. has_operands p.0) ps)) ≡ true → is_tree m (gather_of g (map (λ p. expr_of m p.0) ps)) ≡ true
@@ -96,19 +96,6 @@ level m (Compare op p q) right shaped = rolled m (Expr-F.Compare (compare_of op)
 level m (Not p) right shaped = rolled m (Expr-F.Not (expr_of m p.0)) (p.1 right shaped)
 level m (Implies p q) right shaped = rolled m (Expr-F.Implies (expr_of m p.0) (expr_of m q.0)) (two_trees m p q right shaped)
 
-pub composed : (P : Logic → Type 0) (A : Type 0) (f : Logic → A) (y : Logic-F ((e : Logic) × P e)) → map-Logic Logic A f (map-Logic ((e : Logic) × P e) Logic (λ p. p.0) y) ≡ map-Logic ((e : Logic) × P e) A (λ p. f p.0) y
-composed P A f (Lit n) = refl
-composed P A f (Group p) = refl
-composed P A f (PresenceOf a) = refl
-composed P A f (Measured how a d) = refl
-composed P A f (Gathered g ps) = ap (λ (xs : List A). Gathered g xs) (map-map f (λ p. p.0) ps)
-composed P A f (Linked l ps) = ap (λ (xs : List A). Linked l xs) (map-map f (λ p. p.0) ps)
-composed P A f (Neg p) = refl
-composed P A f (Sum ps) = ap (λ (xs : List A). Sum xs) (map-map f (λ p. p.0) ps)
-composed P A f (Compare op p q) = refl
-composed P A f (Not p) = refl
-composed P A f (Implies p q) = refl
-
 made : (m : Data) (e : Logic) → Made m e
 made m = ind-Logic (Made m) (λ x y is. subst (λ z. Made m (roll-Logic z)) is (λ right shaped.
     rw (fold-roll-Logic Expr (expr_step m), composed (Made m) Expr (expr_of m) y)
@@ -120,4 +107,4 @@ there None h = cc
 there (Some x) h = refl
 
 pub expr_made : (m : Data) (e : Logic) → some_in_logic (is_of_other_sort m) e ≡ false → has_operands e ≡ true → is_none (hull_of m (expr_of m e)) ≡ false → is_expr m (expr_of m e) ≡ true
-expr_made m e right shaped hull = joined (is_tree m (expr_of m e)) (is_some (hull_of m (expr_of m e))) (made m e right shaped) (there (hull_of m (expr_of m e)) hull)
+expr_made m e right shaped hull = and_from (is_tree m (expr_of m e)) (is_some (hull_of m (expr_of m e))) (made m e right shaped) (there (hull_of m (expr_of m e)) hull)

@@ -1,8 +1,11 @@
 -- A model with more in it, and what stays as it is there.
-use Rattle.std.proofs.Common.{◌≡◌, ℕ, zero, suc, ℤ, true, ◌&&◌, List, [], ◌∷◌, ◌++◌, length, slice_get, get_or, Option, Some, None, is_some, unwrap_or, nat_lt, refl, sym, ap, ◌∙◌, arith}
+use Rattle.std.proofs.Common.{◌≡◌, ℕ, ℤ, true, ◌&&◌, List, [], ◌∷◌, length, slice_get, get_or, Option, Some, None, is_some, unwrap_or, nat_lt, refl, sym, ap, ◌∙◌}
 use Rattle.std.specs.List.{list_all}
-use Rattle.std.proofs.lemmas.Bool.Decides.{nat_tests}
 use Rattle.std.proofs.lemmas.Option.{unwrap_or-slice_get}
+use Rattle.std.proofs.lemmas.Bool.{and_parts, and_from}
+use Rattle.base_laws.specs.laws.Truth.{three_true}
+use Rattle.base_laws.specs.laws.Items.{all_weaker}
+use Rattle.base_laws.specs.laws.Places.{same_item, within}
 use Rattle.sched_base.specs.declared.ids.Itv.{Itv}
 use Rattle.sched_base.specs.declared.ids.Seq.{Seq}
 use Rattle.sched_base.specs.declared.ids.Cum.{Cum}
@@ -20,9 +23,7 @@ use Rattle.sched_model.specs.declared.types.Window.TheVariants.{Always, Moments,
 use Rattle.sched_model.specs.Words.{passes_if_any}
 use Rattle.sched_model.specs.Data.{Data, has, members_of, sequence_of, state_matrix, matrix_of, with_interval, with_matrix, with_sequence, with_cumul, with_state}
 use Rattle.sched_model.specs.Valid.{is_amount, is_itv, is_mat, is_seq, is_member, are_parts, are_distinct, is_shape, is_window, is_sequence_def, is_cumul_def, is_state_def}
-use Rattle.cpo_elab.proofs.Truth.{both, joined, each, all_three}
-use Rattle.cpo_elab.proofs.Lists.{all_weaker}
-use Rattle.cpo_elab.proofs.Parted.{within}
+use Rattle.cpo_elab.proofs.Truth.{all_three}
 
 -- what has an id in m has it in n
 pub record Extends (m n : Data) : Type 0 where
@@ -32,34 +33,23 @@ pub record Extends (m n : Data) : Type 0 where
   pub cum : (i : ℕ) → nat_lt i (length m.cumuls) ≡ true → slice_get n.cumuls i ≡ slice_get m.cumuls i
   pub stf : (i : ℕ) → nat_lt i (length m.states) ≡ true → slice_get n.states i ≡ slice_get m.states i
 
-outside : (i : ℕ) → nat_lt i 0 ≡ true → ⊥
-outside i h = grind (arith, nat_tests)
-
-back : (i n : ℕ) → nat_lt (suc i) (suc n) ≡ true → nat_lt i n ≡ true
-back i n h = grind (arith, nat_tests)
-
-appended : {X : Type 0} (xs ys : List X) (i : ℕ) → nat_lt i (length xs) ≡ true → slice_get (xs ++ ys) i ≡ slice_get xs i
-appended [] ys i there = absurd (outside i there)
-appended (x ∷ xs) ys zero there = refl
-appended (x ∷ xs) ys (suc i) there = appended xs ys i (back i (length xs) there)
-
 pub extends_itself : (m : Data) → Extends m m
 extends_itself m = record { itv = λ i h. refl; mat = λ i h. refl; seq = λ i h. refl; cum = λ i h. refl; stf = λ i h. refl }
 
 pub extends_interval : (d : IntervalDef) (m : Data) → Extends m (with_interval d m)
-extends_interval d m = record { itv = appended m.intervals (d ∷ []); mat = λ i h. refl; seq = λ i h. refl; cum = λ i h. refl; stf = λ i h. refl }
+extends_interval d m = record { itv = same_item m.intervals (d ∷ []); mat = λ i h. refl; seq = λ i h. refl; cum = λ i h. refl; stf = λ i h. refl }
 
 pub extends_matrix : (d : MatrixDef) (m : Data) → Extends m (with_matrix d m)
-extends_matrix d m = record { itv = λ i h. refl; mat = appended m.matrices (d ∷ []); seq = λ i h. refl; cum = λ i h. refl; stf = λ i h. refl }
+extends_matrix d m = record { itv = λ i h. refl; mat = same_item m.matrices (d ∷ []); seq = λ i h. refl; cum = λ i h. refl; stf = λ i h. refl }
 
 pub extends_sequence : (d : SequenceDef) (m : Data) → Extends m (with_sequence d m)
-extends_sequence d m = record { itv = λ i h. refl; mat = λ i h. refl; seq = appended m.sequences (d ∷ []); cum = λ i h. refl; stf = λ i h. refl }
+extends_sequence d m = record { itv = λ i h. refl; mat = λ i h. refl; seq = same_item m.sequences (d ∷ []); cum = λ i h. refl; stf = λ i h. refl }
 
 pub extends_cumul : (d : CumulDef) (m : Data) → Extends m (with_cumul d m)
-extends_cumul d m = record { itv = λ i h. refl; mat = λ i h. refl; seq = λ i h. refl; cum = appended m.cumuls (d ∷ []); stf = λ i h. refl }
+extends_cumul d m = record { itv = λ i h. refl; mat = λ i h. refl; seq = λ i h. refl; cum = same_item m.cumuls (d ∷ []); stf = λ i h. refl }
 
 pub extends_state : (d : StateDef) (m : Data) → Extends m (with_state d m)
-extends_state d m = record { itv = λ i h. refl; mat = λ i h. refl; seq = λ i h. refl; cum = λ i h. refl; stf = appended m.states (d ∷ []) }
+extends_state d m = record { itv = λ i h. refl; mat = λ i h. refl; seq = λ i h. refl; cum = λ i h. refl; stf = same_item m.states (d ∷ []) }
 
 there_still : {X : Type 0} (xs ys : List X) (i : ℕ) → slice_get ys i ≡ slice_get xs i → nat_lt i (length xs) ≡ true → nat_lt i (length ys) ≡ true
 there_still xs ys i same there = within ys i ∙ ap is_some same ∙ sym (within xs i) ∙ there
@@ -98,23 +88,23 @@ same_matrix m n more (Some x) there = more.mat x.0 there
 
 pub member_grows : (m n : Data) → Extends m n → (p : Seq) (x : Itv) → is_member m p x ≡ true → is_member n p x ≡ true
 member_grows m n more p x h =
-    let parts = both (is_seq m p) (has (members_of m p) x) h in
-    joined (is_seq n p) (has (members_of n p) x) (seq_grows m n more p parts.0) (ap (λ d. has d.members x) (same_sequence m n more p parts.0) ∙ parts.1)
+    let parts = and_parts (is_seq m p) (has (members_of m p) x) h in
+    and_from (is_seq n p) (has (members_of n p) x) (seq_grows m n more p parts.0) (ap (λ d. has d.members x) (same_sequence m n more p parts.0) ∙ parts.1)
 
 -- what is well made stays so
 
 pub parts_grow : (m n : Data) → Extends m n → (xs : List Itv) → are_parts m xs ≡ true → are_parts n xs ≡ true
 parts_grow m n more xs h =
-    let parts = both (list_all (is_itv m) xs) (are_distinct xs) h in
-    joined _ _ (all_weaker (is_itv m) (is_itv n) (itv_grows m n more) xs parts.0) parts.1
+    let parts = and_parts (list_all (is_itv m) xs) (are_distinct xs) h in
+    and_from _ _ (all_weaker (is_itv m) (is_itv n) (itv_grows m n more) xs parts.0) parts.1
 
 pub sequence_def_grows : (m n : Data) → Extends m n → (d : SequenceDef) → is_sequence_def m d ≡ true → is_sequence_def n d ≡ true
 sequence_def_grows m n more d h =
-    let parts = each (are_parts m d.members) _ _ h in
+    let parts = three_true (are_parts m d.members) _ _ h in
     all_three (are_parts n d.members) _ _ (parts_grow m n more d.members parts.0) parts.1 parts.2
 
 held_grows : (m n : Data) → Extends m n → (x : Itv) (h : ℤ) → (is_itv m x && is_amount h) ≡ true → (is_itv n x && is_amount h) ≡ true
-held_grows m n more x h it = let parts = both (is_itv m x) (is_amount h) it in joined (is_itv n x) (is_amount h) (itv_grows m n more x parts.0) parts.1
+held_grows m n more x h it = let parts = and_parts (is_itv m x) (is_amount h) it in and_from (is_itv n x) (is_amount h) (itv_grows m n more x parts.0) parts.1
 
 pub shape_grows : (m n : Data) → Extends m n → (s : Shape) → is_shape m s ≡ true → is_shape n s ≡ true
 shape_grows m n more (Pulse u v h) it = it

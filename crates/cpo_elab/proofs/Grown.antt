@@ -1,13 +1,14 @@
 -- A draft with one more thing.
-use Rattle.std.proofs.Common.{◌≡◌, ℕ, ◌+◌, ◌-◌, ◌≤◌, Bool, true, false, ◌&&◌, nat_le, nat_eq, List, [], ◌∷◌, ◌++◌, length, sum_by, Option, Some, None, is_some, refl, sym, ap, subst, ◌∙◌, arith}
+use Rattle.std.proofs.Common.{◌≡◌, ℕ, ◌+◌, ◌-◌, ◌≤◌, Bool, true, false, ◌&&◌, nat_le, nat_eq, List, [], ◌∷◌, ◌++◌, length, sum_by, Option, Some, None, sym, ap, subst, ◌∙◌, arith}
 use Rattle.std.specs.List.{list_all}
 use Rattle.std.specs.Str.{bytes_eq}
 use Rattle.std.proofs.lemmas.Bool.Decides.{nat_tests}
 use Rattle.sched_model.specs.Words.{passes_if_any}
-use Rattle.cpo_elab.proofs.Truth.{both}
 use Rattle.std.specs.Map.{lookup}
 use Rattle.std.specs.Option.{option_to_list}
 use Rattle.std.proofs.lemmas.List.{length-map}
+use Rattle.std.proofs.lemmas.Bool.{and_parts}
+use Rattle.base_laws.specs.laws.Places.{none_if_not}
 use Rattle.sched_model.specs.declared.types.IntervalDef.{IntervalDef}
 use Rattle.sched_model.specs.declared.types.MatrixDef.{MatrixDef}
 use Rattle.sched_model.specs.declared.types.SequenceDef.{SequenceDef}
@@ -17,17 +18,13 @@ use Rattle.sched_model.specs.declared.types.Constraint.{Constraint}
 use Rattle.sched_model.specs.declared.types.Objective.{Objective}
 use Rattle.sched_model.specs.Data.{Data, with_interval, with_matrix, with_sequence, with_cumul, with_state, with_constraint, with_objective}
 use Rattle.sched_model.specs.Valid.{IsValid, is_sequence_def, are_parts, pair_count, nodes_of, node_count, node_total}
+use Rattle.sched_model.specs.laws.Limits.{limits_of}
 use Rattle.cpo_elab.specs.declared.names.Sort.TheVariants.{Interval, Matrix, Sequence, Cumulated, State}
 use Rattle.cpo_elab.specs.Named.{number_of, is_defined}
 use Rattle.cpo_elab.specs.Drafts.{IsDraft, capped}
 use Rattle.cpo_elab.proofs.Meanings.{defined_by_name}
-use Rattle.cpo_elab.proofs.Within.{limits_of}
 use Rattle.cpo_elab.proofs.Rooms.{cells_interval, cells_sequence, nodes_cumul, nodes_constraint}
 use Rattle.cpo_elab.proofs.Entries.{Table, Tells, tells_more, tells_same, listed_names, unnamed_names, new_names, interval_names, matrix_names, state_names, sequence_names, cumul_names}
-
-none_if_not : {X : Type 0} (o : Option X) → is_some o ≡ false → o ≡ None
-none_if_not None h = refl
-none_if_not (Some x) h = cc
 
 pub absent_key : (table : Table) (m m' : Data) (k n : List ℕ) → Tells table m → m ≡ m' → k ≡ n → is_defined m' n ≡ false → lookup (bytes_eq k) table ≡ None
 absent_key table m m' k n tells same is fresh =
@@ -153,8 +150,8 @@ room_for_objective room count m o sums none valid counted =
 -- the last of the members that are valid
 
 last_of : {X : Type 0} (p : X → Bool) (xs : List X) (x : X) → list_all p (xs ++ x ∷ []) ≡ true → p x ≡ true
-last_of p [] x h = (both (p x) true h).0
-last_of p (y ∷ ys) x h = last_of p ys x (both (p y) (list_all p (ys ++ x ∷ [])) h).1
+last_of p [] x h = (and_parts (p x) true h).0
+last_of p (y ∷ ys) x h = last_of p ys x (and_parts (p y) (list_all p (ys ++ x ∷ [])) h).1
 
 few_of : (n : ℕ) → nat_le n 500 ≡ true → n ≤ 500
 few_of n h = grind (arith, nat_tests)
@@ -162,6 +159,6 @@ few_of n h = grind (arith, nat_tests)
 pub few_members : (m : Data) (d : SequenceDef) (n : ℕ) → IsValid (with_sequence d m) → n ≡ length d.members → n ≤ 500
 few_members m d n valid is =
     let here = last_of (is_sequence_def (with_sequence d m)) m.sequences d valid.sequences in
-    let parts = both (are_parts (with_sequence d m) d.members && nat_le (length d.members) 500) (passes_if_any (λ ts. nat_eq (length ts) (length d.members) && list_all (λ t. nat_le t 1000000) ts) d.types) here in
-    let few = few_of (length d.members) (both (are_parts (with_sequence d m) d.members) (nat_le (length d.members) 500) parts.0).1 in
+    let parts = and_parts (are_parts (with_sequence d m) d.members && nat_le (length d.members) 500) (passes_if_any (λ ts. nat_eq (length ts) (length d.members) && list_all (λ t. nat_le t 1000000) ts) d.types) here in
+    let few = few_of (length d.members) (and_parts (are_parts (with_sequence d m) d.members) (nat_le (length d.members) 500) parts.0).1 in
     omega (arith, is, few)

@@ -5,13 +5,13 @@ use Rattle.std.specs.Str.{bytes_eq}
 use Rattle.std.proofs.lemmas.Cmp.{nat_list_eq_equiv}
 use Rattle.std.proofs.lemmas.List.{append_assoc, append-nil, map-append}
 use Rattle.std.proofs.lemmas.List.Elements.{filter_map-append}
+use Rattle.std.proofs.lemmas.Bool.{and_parts, and_from, or_parts, not_from_false}
+use Rattle.base_laws.specs.laws.Places.{found}
 use Rattle.sched_model.specs.Words.{passes, pairwise}
 use Rattle.sched_model.specs.Data.{Data}
 use Rattle.sched_model.specs.Valid.{is_name, are_names, all_names}
 use Rattle.cpo_elab.specs.declared.names.Sort.TheVariants.{Interval, Matrix, Sequence, Cumulated, State}
 use Rattle.cpo_elab.specs.Named.{names_of, number_of, is_defined}
-use Rattle.cpo_elab.proofs.Truth.{both, joined, neither, not_false}
-use Rattle.cpo_elab.proofs.Places.{found}
 
 -- ys is xs with n at some place
 pub record Inserted {X : Type 0} (n : X) (xs ys : List X) : Type 0 where
@@ -40,38 +40,38 @@ inserted_right n xs ys zs i = record {
 }
 
 all_insert : {X : Type 0} (p : X → Bool) (xs ys : List X) (n : X) → list_all p (xs ++ ys) ≡ true → p n ≡ true → list_all p (xs ++ n ∷ ys) ≡ true
-all_insert p [] ys n all one = joined (p n) _ one all
-all_insert p (x ∷ xs) ys n all one = let parts = both (p x) _ all in joined (p x) _ parts.0 (all_insert p xs ys n parts.1 one)
+all_insert p [] ys n all one = and_from (p n) _ one all
+all_insert p (x ∷ xs) ys n all one = let parts = and_parts (p x) _ all in and_from (p x) _ parts.0 (all_insert p xs ys n parts.1 one)
 
 absent_before : (n : List ℕ) (ns : List (List ℕ)) → list_any (bytes_eq n) ns ≡ false → list_all (λ m. not (bytes_eq n m)) ns ≡ true
 absent_before n [] absent = refl
-absent_before n (m ∷ ms) absent = let parts = neither (bytes_eq n m) _ absent in joined _ _ (not_false _ parts.0) (absent_before n ms parts.1)
+absent_before n (m ∷ ms) absent = let parts = or_parts (bytes_eq n m) _ absent in and_from _ _ (not_from_false _ parts.0) (absent_before n ms parts.1)
 
 distinct_insert : (xs ys : List (List ℕ)) (n : List ℕ) → pairwise (λ x y. not (bytes_eq x y)) (xs ++ ys) ≡ true → list_any (bytes_eq n) (xs ++ ys) ≡ false → pairwise (λ x y. not (bytes_eq x y)) (xs ++ n ∷ ys) ≡ true
-distinct_insert [] ys n distinct absent = joined _ _ (absent_before n ys absent) distinct
+distinct_insert [] ys n distinct absent = and_from _ _ (absent_before n ys absent) distinct
 distinct_insert (x ∷ xs) ys n distinct absent =
-    let parts = both (list_all (λ y. not (bytes_eq x y)) (xs ++ ys)) _ distinct in
-    let names = neither (bytes_eq n x) _ absent in
-    joined _ _ (all_insert (λ y. not (bytes_eq x y)) xs ys n parts.0 (not_false _ (nat_list_eq_equiv.symm x n ∙ names.0))) (distinct_insert xs ys n parts.1 names.1)
+    let parts = and_parts (list_all (λ y. not (bytes_eq x y)) (xs ++ ys)) _ distinct in
+    let names = or_parts (bytes_eq n x) _ absent in
+    and_from _ _ (all_insert (λ y. not (bytes_eq x y)) xs ys n parts.0 (not_from_false _ (nat_list_eq_equiv.symm x n ∙ names.0))) (distinct_insert xs ys n parts.1 names.1)
 
 -- names stay names with one that is none of them
 pub names_inserted : (n : List ℕ) (xs ys : List (List ℕ)) → Inserted n xs ys → are_names xs ≡ true → is_name n ≡ true → list_any (bytes_eq n) xs ≡ false → are_names ys ≡ true
 names_inserted n xs ys i names name absent =
-    let parts = both (list_all is_name xs) _ names in
+    let parts = and_parts (list_all is_name xs) _ names in
     let all = subst (λ l. list_all is_name l ≡ true) i.without parts.0 in
     let distinct = subst (λ l. pairwise (λ x y. not (bytes_eq x y)) l ≡ true) i.without parts.1 in
     let none = subst (λ l. list_any (bytes_eq n) l ≡ false) i.without absent in
-    subst (λ l. are_names l ≡ true) (sym i.with_it) (joined _ _ (all_insert is_name i.before i.after n all name) (distinct_insert i.before i.after n distinct none))
+    subst (λ l. are_names l ≡ true) (sym i.with_it) (and_from _ _ (all_insert is_name i.before i.after n all name) (distinct_insert i.before i.after n distinct none))
 
 -- a name that a model doesn't define
 
 none_append : {X : Type 0} (p : X → Bool) (xs ys : List X) → list_any p xs ≡ false → list_any p ys ≡ false → list_any p (xs ++ ys) ≡ false
 none_append p [] ys one other = other
-none_append p (x ∷ xs) ys one other = let parts = neither (p x) _ one in (λ i. parts.0 i || list_any p (xs ++ ys)) ∙ none_append p xs ys parts.1 other
+none_append p (x ∷ xs) ys one other = let parts = or_parts (p x) _ one in (λ i. parts.0 i || list_any p (xs ++ ys)) ∙ none_append p xs ys parts.1 other
 
 none_of_all : {X : Type 0} (n : List ℕ) (name : X → List ℕ) (ds : List X) → list_any (passes (bytes_eq n)) (map (λ d. Some (name d)) ds) ≡ false → list_any (bytes_eq n) (map name ds) ≡ false
 none_of_all n name [] none = refl
-none_of_all n name (d ∷ ds) none = let parts = neither (bytes_eq n (name d)) _ none in (λ i. parts.0 i || list_any (bytes_eq n) (map name ds)) ∙ none_of_all n name ds parts.1
+none_of_all n name (d ∷ ds) none = let parts = or_parts (bytes_eq n (name d)) _ none in (λ i. parts.0 i || list_any (bytes_eq n) (map name ds)) ∙ none_of_all n name ds parts.1
 
 none_so_far : (n : List ℕ) (o : Option (List ℕ)) (ns : List (List ℕ)) → passes (bytes_eq n) o ≡ false → list_any (bytes_eq n) ns ≡ false → list_any (bytes_eq n) (cons_option o ns) ≡ false
 none_so_far n None ns first rest = rest
@@ -79,15 +79,15 @@ none_so_far n (Some m) ns first rest = (λ i. first i || list_any (bytes_eq n) n
 
 none_of_named : {X : Type 0} (n : List ℕ) (name : X → Option (List ℕ)) (ds : List X) → list_any (passes (bytes_eq n)) (map name ds) ≡ false → list_any (bytes_eq n) (filter_map name ds) ≡ false
 none_of_named n name [] none = refl
-none_of_named n name (d ∷ ds) none = let parts = neither (passes (bytes_eq n) (name d)) _ none in none_so_far n (name d) (filter_map name ds) parts.0 (none_of_named n name ds parts.1)
+none_of_named n name (d ∷ ds) none = let parts = or_parts (passes (bytes_eq n) (name d)) _ none in none_so_far n (name d) (filter_map name ds) parts.0 (none_of_named n name ds parts.1)
 
 five_false : (p q r s t : Bool) → (p || (q || (r || (s || (t || false))))) ≡ false → (p ≡ false) × (q ≡ false) × (r ≡ false) × (s ≡ false) × (t ≡ false)
 five_false p q r s t h =
-    let a = neither p _ h in
-    let b = neither q _ a.1 in
-    let c = neither r _ b.1 in
-    let d = neither s _ c.1 in
-    (a.0, b.0, c.0, d.0, (neither t false d.1).0)
+    let a = or_parts p _ h in
+    let b = or_parts q _ a.1 in
+    let c = or_parts r _ b.1 in
+    let d = or_parts s _ c.1 in
+    (a.0, b.0, c.0, d.0, (or_parts t false d.1).0)
 
 pub absent_name : (m : Data) (n : List ℕ) → is_defined m n ≡ false → list_any (bytes_eq n) (all_names m) ≡ false
 unfolding number_of is_defined

@@ -4,12 +4,12 @@ use Rattle.std.specs.List.{list_all}
 use Rattle.std.proofs.lemmas.Bool.Decides.{nat_tests}
 use Rattle.std.proofs.lemmas.List.{length_push}
 use Rattle.std.proofs.lemmas.List.Sums.{sum_by_push}
+use Rattle.std.proofs.lemmas.Bool.{and_parts, and_from}
+use Rattle.base_laws.specs.laws.Items.{all_push, all_weaker}
 use Rattle.sched_model.specs.declared.types.Constraint.{Constraint}
 use Rattle.sched_model.specs.Words.{passes_if_any}
 use Rattle.sched_model.specs.Data.{Data, with_constraint}
 use Rattle.sched_model.specs.Valid.{IsValid, is_sequence_def, is_cumul_def, is_state_def, is_constraint, is_expr, is_within_limits, node_total, nodes_of, cell_count}
-use Rattle.cpo_elab.proofs.Truth.{both, joined}
-use Rattle.cpo_elab.proofs.Lists.{all_push, all_weaker}
 use Rattle.cpo_elab.proofs.Extends.{Extends, sequence_def_grows, cumul_def_grows, state_def_grows}
 use Rattle.cpo_elab.proofs.Growing.{constraints_grow, objective_grows}
 
@@ -39,13 +39,13 @@ nodes_with m c = let more = sum_by_push nodes_of m.constraints c in omega (arith
 
 pub limits_without : (m : Data) (c : Constraint) → is_within_limits (with_constraint c m) ≡ true → is_within_limits m ≡ true
 limits_without m c h =
-    let nodes = both (nat_le (length m.intervals) 2000 && nat_le (length m.sequences) 200 && nat_le (length m.matrices) 200 && nat_le (length m.cumuls) 2000 && nat_le (length m.states) 200
+    let nodes = and_parts (nat_le (length m.intervals) 2000 && nat_le (length m.sequences) 200 && nat_le (length m.matrices) 200 && nat_le (length m.cumuls) 2000 && nat_le (length m.states) 200
     && nat_le (length (m.constraints ++ c ∷ [])) 20000 && nat_le (cell_count m) 1000000) (nat_le (node_total (with_constraint c m)) 100000) h in
-    let cells = both (nat_le (length m.intervals) 2000 && nat_le (length m.sequences) 200 && nat_le (length m.matrices) 200 && nat_le (length m.cumuls) 2000 && nat_le (length m.states) 200
+    let cells = and_parts (nat_le (length m.intervals) 2000 && nat_le (length m.sequences) 200 && nat_le (length m.matrices) 200 && nat_le (length m.cumuls) 2000 && nat_le (length m.states) 200
     && nat_le (length (m.constraints ++ c ∷ [])) 20000) (nat_le (cell_count m) 1000000) nodes.0 in
-    let others = both (nat_le (length m.intervals) 2000 && nat_le (length m.sequences) 200 && nat_le (length m.matrices) 200 && nat_le (length m.cumuls) 2000 && nat_le (length m.states) 200)
+    let others = and_parts (nat_le (length m.intervals) 2000 && nat_le (length m.sequences) 200 && nat_le (length m.matrices) 200 && nat_le (length m.cumuls) 2000 && nat_le (length m.states) 200)
     (nat_le (length (m.constraints ++ c ∷ [])) 20000) cells.0 in
-    joined _ _ (joined _ _ (joined _ _ others.0
+    and_from _ _ (and_from _ _ (and_from _ _ others.0
     (at_most_less (length m.constraints) 1 20000 (ap (λ n. nat_le n 20000) (sym (length_push m.constraints c)) ∙ others.1))) cells.1)
     (at_most_less (node_total m) (nodes_of c) 100000 (ap (λ n. nat_le n 100000) (sym (nodes_with m c)) ∙ nodes.1))
 

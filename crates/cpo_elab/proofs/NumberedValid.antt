@@ -5,6 +5,7 @@ use Rattle.std.specs.Option.{option_to_list}
 use Rattle.std.proofs.lemmas.List.{length-map}
 use Rattle.std.proofs.lemmas.List.Sums.{sum_by-cons}
 use Rattle.std.proofs.lemmas.Option.{unwrap_or-slice_get}
+use Rattle.base_laws.specs.laws.Places.{within}
 use Rattle.sched_base.specs.declared.ids.Itv.{Itv}
 use Rattle.sched_base.specs.declared.ids.Seq.{Seq}
 use Rattle.sched_base.specs.declared.ids.Cum.{Cum}
@@ -16,7 +17,8 @@ use Rattle.sched_model.specs.Words.{passes, passes_if_any}
 use Rattle.sched_model.specs.Data.{Data, same, has, sequence_of, parts_of, matrix_of}
 use Rattle.sched_model.specs.Valid.{IsValid, is_within_limits, is_constraint, is_seq, is_mat, is_member, is_window, is_small, is_sequence_def, is_cumul_def, all_names, are_names, cell_count, node_total, nodes_of, node_count, pair_count}
 use Rattle.cpo_elab.specs.Numbered.{is_named_sequence, is_named_cumul, parted, sequence_place, cumul_place, new_seq, new_cum, renumbered, named_first}
-use Rattle.cpo_elab.proofs.Parted.{at_new_place, within, sum_parted, length_parted, all_parted, names_parted}
+use Rattle.cpo_elab.proofs.Parted.{sum_parted, length_parted, names_parted}
+use Rattle.cpo_elab.specs.lemmas.Parted.{at_new_place, all_parted}
 
 pub sequence_stays : (m : Data) (p : Seq) → sequence_of (named_first m) (new_seq (sequence_place m) p) ≡ sequence_of m p
 sequence_stays m p =

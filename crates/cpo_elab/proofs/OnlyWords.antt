@@ -1,42 +1,21 @@
 -- Texts of the same words deserve the same, but for the offset.
-use Rattle.std.proofs.Common.{◌≡◌, ℕ, ◌+◌, ◌≤◌, Bool, true, false, if◌then◌else◌, List, [], ◌∷◌, map, length, take, codes, Option, Some, None, refl, sym, ap, subst, ◌∙◌}
+use Rattle.std.proofs.Common.{◌≡◌, ℕ, ◌+◌, ◌≤◌, Bool, List, [], ◌∷◌, map, length, take, Option, Some, None, refl, sym, ap, subst, ◌∙◌}
 use Rattle.std.proofs.lemmas.List.{take-map}
 use Rattle.sched_model.specs.Data.{Data, empty_model}
-use Rattle.cpo_text.specs.Words.{Word, is_sign}
 use Rattle.cpo_text.specs.Tokens.{Token, HasTokens}
-use Rattle.cpo_text.specs.Runs.{runs, before_runs, words_of, is_end}
+use Rattle.cpo_text.specs.Runs.{runs, words_of}
 use Rattle.cpo_text.specs.Reads.{IsRefused, HasForm, AreReadings, text_limit, told_limit, told}
 use Rattle.cpo_text.specs.Reads.IsRefused.{too_long, bad_byte}
 use Rattle.cpo_text.specs.Laws.{StatementsAreDetermined}
 use Rattle.cpo_text.specs.declared.text.Reading.{Reading}
 use Rattle.cpo_text.specs.declared.text.Refusal.{Refusal}
+use Rattle.cpo_text.specs.lemmas.WordRuns.{words_of_runs, word_runs}
 use Rattle.cpo_elab.specs.Answers.{Answer, number_at, after_form, refused_or, judged}
 use Rattle.cpo_elab.specs.Deserves.Deserves.{unread, judgement}
 use Rattle.cpo_elab.specs.Laws.{SameButOffset, OnlyWordsCount}
 use Rattle.cpo_elab.proofs.Determined.{ReadingIsDetermined, clash, same_form}
 
 -- the runs by their words
-
-abbrev before_words : Word → List (List Word) → List (List Word)
-before_words w [] = (w ∷ []) ∷ []
-before_words w (r ∷ rs) = (w ∷ r) ∷ rs
-
-abbrev word_runs : List Word → List (List Word)
-word_runs [] = []
-word_runs (w ∷ ws) = if is_sign (codes ";") w then (w ∷ []) ∷ word_runs ws else before_words w (word_runs ws)
-
-words_before : (t : Token) (rs : List (List Token)) → map words_of (before_runs t rs) ≡ before_words t.word (map words_of rs)
-words_before t [] = refl
-words_before t (r ∷ rs) = refl
-
-words_of_run : (b : Bool) (t : Token) (rs : List (List Token)) (ws : List (List Word)) → map words_of rs ≡ ws
-    → map words_of (if b then (t ∷ []) ∷ rs else before_runs t rs) ≡ (if b then (t.word ∷ []) ∷ ws else before_words t.word ws)
-words_of_run true t rs ws is = ap (λ x. (t.word ∷ []) ∷ x) is
-words_of_run false t rs ws is = words_before t rs ∙ ap (before_words t.word) is
-
-words_of_runs : (ts : List Token) → map words_of (runs ts) ≡ word_runs (words_of ts)
-words_of_runs [] = refl
-words_of_runs (t ∷ ts) = words_of_run (is_end t) t (runs ts) (word_runs (words_of ts)) (words_of_runs ts)
 
 words_told : (rs : List (List Token)) → map words_of (told rs) ≡ take told_limit (map words_of rs)
 unfolding told

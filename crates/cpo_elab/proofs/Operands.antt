@@ -1,7 +1,8 @@
 -- Where the grammar gives an expression a level, each of its nodes has the operands that it wants.
-use Rattle.std.proofs.Common.{◌≡◌, ℕ, suc, Bool, true, false, not, List, [], ◌∷◌, map, length, Option, Some, None, is_some, nat_le, refl, subst}
+use Rattle.std.proofs.Common.{◌≡◌, ℕ, suc, Bool, true, not, List, [], ◌∷◌, map, length, Option, is_some, nat_le, refl, subst}
+use Rattle.std.proofs.lemmas.Bool.{and_parts, and_from}
 use Rattle.sched_model.specs.Words.{is_empty}
-use Rattle.cpo_text.specs.Expressions.{at_least, all_at_least, if_so, are_many, gathers, link_level, level_step, level}
+use Rattle.cpo_text.specs.Expressions.{at_least, all_at_least, are_many, gathers, link_level, level_step, level}
 use Rattle.cpo_text.specs.declared.expression.Gather.{Gather}
 use Rattle.cpo_text.specs.declared.expression.Gather.TheVariants as gather
 use Rattle.cpo_text.specs.declared.expression.Logic.{Logic}
@@ -9,23 +10,15 @@ use Rattle.cpo_text.specs.declared.expression.Logic.TheOpen.{Logic-F}
 use Rattle.cpo_text.specs.declared.expression.Logic.TheOpen.Logic-F.{Lit, Group, PresenceOf, Measured, Gathered, Linked, Neg, Sum, Compare, Not, Implies}
 use Rattle.cpo_text.specs.declared.expression.Logic.TheFolds.{fold-roll-Logic, ind-Logic, map-Logic}
 use Rattle.cpo_text.specs.declared.expression.Logic.TheViews.{roll-Logic}
+use Rattle.cpo_text.specs.lemmas.Levels.{so, has_level}
+use Rattle.cpo_text.specs.lemmas.Folds.{composed}
 use Rattle.cpo_elab.specs.Shaped.{operands_step, has_operands, gathers_some, all_true}
-use Rattle.cpo_elab.proofs.Truth.{both, joined}
-use Rattle.cpo_elab.proofs.Expressions.{composed}
 
 abbrev Levelled : Logic → Type 0
 Levelled e = is_some (level e) ≡ true → has_operands e ≡ true
 
 abbrev Part : Type 0
 Part = (e : Logic) × Levelled e
-
-so : (b : Bool) (n : ℕ) → is_some (if_so b n) ≡ true → b ≡ true
-so true n h = refl
-so false n h = cc
-
-has_level : (n : ℕ) (o : Option ℕ) → at_least n o ≡ true → is_some o ≡ true
-has_level n None h = cc
-has_level n (Some m) h = refl
 
 abbrev levels : List Part → List (Option ℕ)
 levels ps = map (λ p. level p.0) ps
@@ -38,7 +31,7 @@ one p n h = p.1 (has_level n (level p.0) h)
 
 each : (ps : List Part) (n : ℕ) → all_at_least n (levels ps) ≡ true → all_true (shapes ps) ≡ true
 each [] n h = refl
-each (p ∷ ps) n h = let parts = both (at_least n (level p.0)) (all_at_least n (levels ps)) h in joined (has_operands p.0) _ (one p n parts.0) (each ps n parts.1)
+each (p ∷ ps) n h = let parts = and_parts (at_least n (level p.0)) (all_at_least n (levels ps)) h in and_from (has_operands p.0) _ (one p n parts.0) (each ps n parts.1)
 
 many : (ps : List Part) → are_many (levels ps) ≡ true → not (is_empty (shapes ps)) ≡ true
 many [] h = cc
@@ -59,20 +52,20 @@ ops (Group p) h = one p 0 (so _ 7 h)
 ops (PresenceOf a) h = refl
 ops (Measured how a d) h = refl
 ops (Gathered g ps) h =
-    let parts = both (gathers g (levels ps)) (all_at_least 0 (levels ps)) (so _ 7 h) in
-    joined (gathers_some g (shapes ps)) _ (gathered g ps parts.0) (each ps 0 parts.1)
+    let parts = and_parts (gathers g (levels ps)) (all_at_least 0 (levels ps)) (so _ 7 h) in
+    and_from (gathers_some g (shapes ps)) _ (gathered g ps parts.0) (each ps 0 parts.1)
 ops (Linked l ps) h =
-    let parts = both (are_many (levels ps)) (all_at_least (suc (link_level l)) (levels ps)) (so _ (link_level l) h) in
-    joined (not (is_empty (shapes ps))) _ (many ps parts.0) (each ps (suc (link_level l)) parts.1)
+    let parts = and_parts (are_many (levels ps)) (all_at_least (suc (link_level l)) (levels ps)) (so _ (link_level l) h) in
+    and_from (not (is_empty (shapes ps))) _ (many ps parts.0) (each ps (suc (link_level l)) parts.1)
 ops (Neg p) h = one p 6 (so _ 5 h)
-ops (Sum ps) h = each ps 5 (both (are_many (levels ps)) (all_at_least 5 (levels ps)) (so _ 4 h)).1
+ops (Sum ps) h = each ps 5 (and_parts (are_many (levels ps)) (all_at_least 5 (levels ps)) (so _ 4 h)).1
 ops (Compare op p q) h =
-    let parts = both (at_least 4 (level p.0)) (at_least 4 (level q.0)) (so _ 3 h) in
-    joined (has_operands p.0) (has_operands q.0) (one p 4 parts.0) (one q 4 parts.1)
+    let parts = and_parts (at_least 4 (level p.0)) (at_least 4 (level q.0)) (so _ 3 h) in
+    and_from (has_operands p.0) (has_operands q.0) (one p 4 parts.0) (one q 4 parts.1)
 ops (Not p) h = one p 3 (so _ 3 h)
 ops (Implies p q) h =
-    let parts = both (at_least 1 (level p.0)) (at_least 0 (level q.0)) (so _ 0 h) in
-    joined (has_operands p.0) (has_operands q.0) (one p 1 parts.0) (one q 0 parts.1)
+    let parts = and_parts (at_least 1 (level p.0)) (at_least 0 (level q.0)) (so _ 0 h) in
+    and_from (has_operands p.0) (has_operands q.0) (one p 1 parts.0) (one q 0 parts.1)
 
 levelled : (e : Logic) → Levelled e
 levelled = ind-Logic Levelled (λ x y is. subst (λ z. Levelled (roll-Logic z)) is (λ h.

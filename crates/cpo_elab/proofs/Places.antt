@@ -1,9 +1,9 @@
 -- The place of a name among names that are seen as lists of bytes.
-use Rattle.std.proofs.Common.{◌≡◌, ℕ, suc, ◌+◌, Bool, true, false, not, ◌||◌, cond, if◌then◌else◌, List, [], ◌∷◌, ◌++◌, map, length, position, Some, None, is_some, nat_lt, refl, sym, ap, ◌∙◌, arith}
+use Rattle.std.proofs.Common.{◌≡◌, ℕ, ◌+◌, Bool, not, ◌||◌, cond, if◌then◌else◌, List, [], ◌∷◌, ◌++◌, map, position, None, is_some, refl, sym, ap, ◌∙◌}
 use Rattle.std.specs.List.{position_or_len, list_any}
 use Rattle.std.specs.Str.{bytes_eq}
 use Rattle.std.proofs.lemmas.List.{length-map, map-append}
-use Rattle.std.proofs.lemmas.Bool.Decides.{nat_tests}
+use Rattle.base_laws.specs.laws.Places.{found}
 
 pub place_in_map : {X Y : Type 0} (f : X → Y) (p : Y → Bool) (xs : List X) → position_or_len p (map f xs) ≡ position_or_len (λ x. p (f x)) xs
 place_in_map f p [] = refl
@@ -11,24 +11,6 @@ place_in_map f p (x ∷ xs) = ap (λ n. cond (not (p (f x))) (1 + n) 0) (place_i
 
 pub position_in_map : {X Y : Type 0} (f : X → Y) (p : Y → Bool) (xs : List X) → position p (map f xs) ≡ position (λ x. p (f x)) xs
 position_in_map f p xs = rw (place_in_map f p xs, length-map xs f) refl
-
-some_if : (b : Bool) (n : ℕ) → is_some (cond b (Some n) None) ≡ b
-some_if true n = refl
-some_if false n = refl
-
-first_before_end : (b c : Bool) (i n : ℕ) → nat_lt i n ≡ c → nat_lt (cond (not b) (1 + i) 0) (suc n) ≡ (b || c)
-first_before_end true c i n rest = grind (arith, nat_tests)
-first_before_end false c i n rest = shift i n ∙ rest where
-  shift : (i n : ℕ) → nat_lt (1 + i) (suc n) ≡ nat_lt i n
-  shift i n = grind (arith, nat_tests)
-
-before_end : {X : Type 0} (p : X → Bool) (xs : List X) → nat_lt (position_or_len p xs) (length xs) ≡ list_any p xs
-before_end p [] = refl
-before_end p (x ∷ xs) = first_before_end (p x) (list_any p xs) (position_or_len p xs) (length xs) (before_end p xs)
-
--- a place is found exactly where some item passes
-pub found : {X : Type 0} (p : X → Bool) (xs : List X) → is_some (position p xs) ≡ list_any p xs
-found p xs = some_if (nat_lt (position_or_len p xs) (length xs)) (position_or_len p xs) ∙ before_end p xs
 
 any_in_map : {X Y : Type 0} (f : X → Y) (p : Y → Bool) (xs : List X) → list_any p (map f xs) ≡ list_any (λ x. p (f x)) xs
 any_in_map f p [] = refl

@@ -3,6 +3,8 @@ use Rattle.std.proofs.Common.{◌≡◌, ℕ, ◌+◌, ◌<◌, ◌≤◌, Bool,
 use Rattle.std.proofs.lemmas.List.{length-append}
 use Rattle.std.proofs.lemmas.List.Sums.{sum_by_push}
 use Rattle.std.proofs.lemmas.Bool.Decides.{nat_tests}
+use Rattle.std.proofs.lemmas.Bool.{and_parts, and_from}
+use Rattle.base_laws.specs.laws.Numbers.{at_most, is_at_most}
 use Rattle.sched_model.specs.declared.types.IntervalDef.{IntervalDef}
 use Rattle.sched_model.specs.declared.types.MatrixDef.{MatrixDef}
 use Rattle.sched_model.specs.declared.types.SequenceDef.{SequenceDef}
@@ -13,6 +15,7 @@ use Rattle.sched_model.specs.declared.types.Expr.{Expr}
 use Rattle.sched_model.specs.Words.{passes_if_any}
 use Rattle.sched_model.specs.Data.{Data, with_interval, with_matrix, with_sequence, with_cumul, with_state, with_constraint}
 use Rattle.sched_model.specs.Valid.{pair_count, nodes_of, node_count, cell_count, node_total, is_within_limits}
+use Rattle.sched_model.specs.laws.Limits.{limits_of, within_limits}
 use Rattle.cpo_text.specs.declared.tree.Hierarchy.TheVariants.{Span, Alternative, Synchronize}
 use Rattle.cpo_text.specs.declared.tree.Extreme.TheVariants.{First, Last}
 use Rattle.cpo_text.specs.declared.tree.Order.TheVariants.{Before, Prev}
@@ -26,8 +29,7 @@ use Rattle.cpo_text.specs.declared.tree.Statement.TheVariants.{Constrain}
 use Rattle.cpo_elab.specs.Held.{logic_held, members_written}
 use Rattle.cpo_elab.specs.Elaborated.{expr_of, constraint_of, named_itself, with_unnamed, with_written, after}
 use Rattle.cpo_elab.specs.Drafts.{capped}
-use Rattle.cpo_elab.proofs.Truth.{both, joined}
-use Rattle.cpo_elab.proofs.Within.{limits_of, within, same_bool, at_most, is_at_most}
+use Rattle.cpo_elab.proofs.Truth.{same_bool}
 
 below : (n k : ℕ) → nat_lt n k ≡ true → n < k
 below n k h = grind (arith, nat_tests)
@@ -55,8 +57,8 @@ pub room_interval : (m : Data) (d : IntervalDef) → is_within_limits m ≡ true
 room_interval m d valid = same_bool (nat_lt (length m.intervals) 2000 && nat_le (cell_count m) 999995) (is_within_limits (with_interval d m)) there back where
   there : (nat_lt (length m.intervals) 2000 && nat_le (cell_count m) 999995) ≡ true → is_within_limits (with_interval d m) ≡ true
   there h =
-      let p = both (nat_lt (length m.intervals) 2000) (nat_le (cell_count m) 999995) h in let l = limits_of m valid in let few = below (length m.intervals) 2000 p.0 in let cells = at_most (cell_count m) 999995 p.1 in
-      within (with_interval d m) (record {
+      let p = and_parts (nat_lt (length m.intervals) 2000) (nat_le (cell_count m) 999995) h in let l = limits_of m valid in let few = below (length m.intervals) 2000 p.0 in let cells = at_most (cell_count m) 999995 p.1 in
+      within_limits (with_interval d m) (record {
         intervals = omega (arith, few, length-append m.intervals (d ∷ []));
         sequences = l.sequences;
         matrices = l.matrices;
@@ -69,15 +71,15 @@ room_interval m d valid = same_bool (nat_lt (length m.intervals) 2000 && nat_le 
 
   back : is_within_limits (with_interval d m) ≡ true → (nat_lt (length m.intervals) 2000 && nat_le (cell_count m) 999995) ≡ true
   back h = let l = limits_of (with_interval d m) h in
-      joined _ _ (is_below (length m.intervals) 2000 (omega (arith, l.intervals, length-append m.intervals (d ∷ [])))) (is_at_most (cell_count m) 999995 (omega (arith, l.cells, cells_interval m d)))
+      and_from _ _ (is_below (length m.intervals) 2000 (omega (arith, l.intervals, length-append m.intervals (d ∷ [])))) (is_at_most (cell_count m) 999995 (omega (arith, l.cells, cells_interval m d)))
 
 pub room_sequence : (m : Data) (d : SequenceDef) (n : ℕ) → is_within_limits m ≡ true → length d.members ≡ n
     → (nat_lt (length m.sequences) 200 && nat_le (cell_count m + pair_count n) 1000000) ≡ is_within_limits (with_sequence d m)
 room_sequence m d n valid is = ap (λ k. nat_lt (length m.sequences) 200 && nat_le (cell_count m + pair_count k) 1000000) (sym is) ∙ same_bool (nat_lt (length m.sequences) 200 && nat_le (cell_count m + pair_count (length d.members)) 1000000) (is_within_limits (with_sequence d m)) there back where
   there : (nat_lt (length m.sequences) 200 && nat_le (cell_count m + pair_count (length d.members)) 1000000) ≡ true → is_within_limits (with_sequence d m) ≡ true
   there h =
-      let p = both (nat_lt (length m.sequences) 200) (nat_le (cell_count m + pair_count (length d.members)) 1000000) h in let l = limits_of m valid in let few = below (length m.sequences) 200 p.0 in let cells = at_most (cell_count m + pair_count (length d.members)) 1000000 p.1 in
-      within (with_sequence d m) (record {
+      let p = and_parts (nat_lt (length m.sequences) 200) (nat_le (cell_count m + pair_count (length d.members)) 1000000) h in let l = limits_of m valid in let few = below (length m.sequences) 200 p.0 in let cells = at_most (cell_count m + pair_count (length d.members)) 1000000 p.1 in
+      within_limits (with_sequence d m) (record {
         intervals = l.intervals;
         sequences = omega (arith, few, length-append m.sequences (d ∷ []));
         matrices = l.matrices;
@@ -90,14 +92,14 @@ room_sequence m d n valid is = ap (λ k. nat_lt (length m.sequences) 200 && nat_
 
   back : is_within_limits (with_sequence d m) ≡ true → (nat_lt (length m.sequences) 200 && nat_le (cell_count m + pair_count (length d.members)) 1000000) ≡ true
   back h = let l = limits_of (with_sequence d m) h in
-      joined _ _ (is_below (length m.sequences) 200 (omega (arith, l.sequences, length-append m.sequences (d ∷ []))))
+      and_from _ _ (is_below (length m.sequences) 200 (omega (arith, l.sequences, length-append m.sequences (d ∷ []))))
       (is_at_most (cell_count m + pair_count (length d.members)) 1000000 (omega (arith, l.cells, cells_sequence m d)))
 
 pub room_matrix : (m : Data) (d : MatrixDef) → is_within_limits m ≡ true → nat_lt (length m.matrices) 200 ≡ is_within_limits (with_matrix d m)
 room_matrix m d valid = same_bool (nat_lt (length m.matrices) 200) (is_within_limits (with_matrix d m)) there back where
   there : nat_lt (length m.matrices) 200 ≡ true → is_within_limits (with_matrix d m) ≡ true
   there h = let l = limits_of m valid in let few = below (length m.matrices) 200 h in
-      within (with_matrix d m) (record {
+      within_limits (with_matrix d m) (record {
         intervals = l.intervals;
         sequences = l.sequences;
         matrices = omega (arith, few, length-append m.matrices (d ∷ []));
@@ -115,7 +117,7 @@ pub room_state : (m : Data) (d : StateDef) → is_within_limits m ≡ true → n
 room_state m d valid = same_bool (nat_lt (length m.states) 200) (is_within_limits (with_state d m)) there back where
   there : nat_lt (length m.states) 200 ≡ true → is_within_limits (with_state d m) ≡ true
   there h = let l = limits_of m valid in let few = below (length m.states) 200 h in
-      within (with_state d m) (record {
+      within_limits (with_state d m) (record {
         intervals = l.intervals;
         sequences = l.sequences;
         matrices = l.matrices;
@@ -134,8 +136,8 @@ pub room_cumul : (m : Data) (d : CumulDef) → is_within_limits m ≡ true
 room_cumul m d valid = same_bool (nat_lt (length m.cumuls) 2000 && nat_le (node_total m + length d.parts) 100000) (is_within_limits (with_cumul d m)) there back where
   there : (nat_lt (length m.cumuls) 2000 && nat_le (node_total m + length d.parts) 100000) ≡ true → is_within_limits (with_cumul d m) ≡ true
   there h =
-      let p = both (nat_lt (length m.cumuls) 2000) (nat_le (node_total m + length d.parts) 100000) h in let l = limits_of m valid in let few = below (length m.cumuls) 2000 p.0 in let nodes = at_most (node_total m + length d.parts) 100000 p.1 in
-      within (with_cumul d m) (record {
+      let p = and_parts (nat_lt (length m.cumuls) 2000) (nat_le (node_total m + length d.parts) 100000) h in let l = limits_of m valid in let few = below (length m.cumuls) 2000 p.0 in let nodes = at_most (node_total m + length d.parts) 100000 p.1 in
+      within_limits (with_cumul d m) (record {
         intervals = l.intervals;
         sequences = l.sequences;
         matrices = l.matrices;
@@ -148,14 +150,14 @@ room_cumul m d valid = same_bool (nat_lt (length m.cumuls) 2000 && nat_le (node_
 
   back : is_within_limits (with_cumul d m) ≡ true → (nat_lt (length m.cumuls) 2000 && nat_le (node_total m + length d.parts) 100000) ≡ true
   back h = let l = limits_of (with_cumul d m) h in
-      joined _ _ (is_below (length m.cumuls) 2000 (omega (arith, l.cumuls, length-append m.cumuls (d ∷ []))))
+      and_from _ _ (is_below (length m.cumuls) 2000 (omega (arith, l.cumuls, length-append m.cumuls (d ∷ []))))
       (is_at_most (node_total m + length d.parts) 100000 (omega (arith, l.nodes, nodes_cumul m d)))
 
 -- a constraint, with what it writes
 
 constraint_there : (m : Data) (c : Constraint) → is_within_limits m ≡ true → length m.constraints < 20000 → node_total m + nodes_of c ≤ 100000 → is_within_limits (with_constraint c m) ≡ true
 constraint_there m c valid few nodes = let l = limits_of m valid in
-    within (with_constraint c m) (record {
+    within_limits (with_constraint c m) (record {
       intervals = l.intervals;
       sequences = l.sequences;
       matrices = l.matrices;
@@ -168,7 +170,7 @@ constraint_there m c valid few nodes = let l = limits_of m valid in
 
 pub constraint_back : (m : Data) (c : Constraint) → is_within_limits (with_constraint c m) ≡ true → is_within_limits m ≡ true
 constraint_back m c h = let l = limits_of (with_constraint c m) h in
-    within m (record {
+    within_limits m (record {
       intervals = l.intervals;
       sequences = l.sequences;
       matrices = l.matrices;
@@ -185,14 +187,14 @@ room_constraint : (m : Data) (c : Constraint) (k : ℕ) (last : Bool) → nodes_
 room_constraint m c k last is tests = same_bool ((nat_lt (length m.constraints) 20000 && is_within_limits m) && last) (is_within_limits (with_constraint c m)) there back where
   there : ((nat_lt (length m.constraints) 20000 && is_within_limits m) && last) ≡ true → is_within_limits (with_constraint c m) ≡ true
   there h =
-      let p = both (nat_lt (length m.constraints) 20000 && is_within_limits m) last h in let q = both (nat_lt (length m.constraints) 20000) (is_within_limits m) p.0 in
+      let p = and_parts (nat_lt (length m.constraints) 20000 && is_within_limits m) last h in let q = and_parts (nat_lt (length m.constraints) 20000) (is_within_limits m) p.0 in
       let nodes = at_most (node_total m + k) 100000 (sym (tests q.1) ∙ p.1) in
       constraint_there m c q.1 (below (length m.constraints) 20000 q.0) (omega (arith, nodes, is))
 
   back : is_within_limits (with_constraint c m) ≡ true → ((nat_lt (length m.constraints) 20000 && is_within_limits m) && last) ≡ true
   back h =
       let l = limits_of (with_constraint c m) h in let before = constraint_back m c h in
-      joined _ _ (joined _ _ (is_below (length m.constraints) 20000 (omega (arith, l.constraints, length-append m.constraints (c ∷ [])))) before)
+      and_from _ _ (and_from _ _ (is_below (length m.constraints) 20000 (omega (arith, l.constraints, length-append m.constraints (c ∷ [])))) before)
       (tests before ∙ is_at_most (node_total m + k) 100000 (omega (arith, l.nodes, nodes_constraint m c, is)))
 
 no_nodes : (m : Data) → is_within_limits m ≡ true → true ≡ nat_le (node_total m + 0) 100000

@@ -1,6 +1,7 @@
 -- The trees of a text are as the grammar has them: names are names of the language, and nodes have their operands.
 use Rattle.std.proofs.Common.{◌≡◌, ℕ, zero, suc, ◌+◌, Bool, true, false, if◌then◌else◌, List, [], ◌∷◌, take, drop, Option, Some, None, refl, sym, subst}
 use Rattle.std.specs.List.{list_all}
+use Rattle.std.proofs.lemmas.Bool.{and_parts, and_from}
 use Rattle.cpo_text.specs.Words.{Word, size_word}
 use Rattle.cpo_text.specs.Words.Word.{name, number, large, sign, quoted}
 use Rattle.cpo_text.specs.Tokens.{Token, IsPiece, IsAtFront, ArePieces, put, word_of, bounded, tokens_of, digits_value}
@@ -17,7 +18,6 @@ use Rattle.cpo_text.specs.declared.text.Form.TheVariants.{Tree as Parsed, Number
 use Rattle.cpo_text.specs.declared.text.Reading.{Reading}
 use Rattle.cpo_elab.specs.Shaped.{is_spelt, is_shaped, is_shaped_form, are_shaped}
 use Rattle.cpo_elab.specs.Laws.{TextsAreShaped}
-use Rattle.cpo_elab.proofs.Truth.{both, joined}
 use Rattle.cpo_elab.proofs.Operands.{grammar_operands}
 
 -- a word that is no name, or a name of the language
@@ -36,11 +36,11 @@ size_told (Some n) = refl
 
 name_told : (bs : List ℕ) → IsPiece piece.Name bs → is_told (name bs) ≡ true
 name_told [] h = absurd h
-name_told (c ∷ cs) h = joined _ _ h.0 h.1
+name_told (c ∷ cs) h = and_from _ _ h.0 h.1
 
 put_told : (p : Piece) (at : ℕ) (bs : List ℕ) (ts : List Token) → IsPiece p bs → list_all is_told (words_of ts) ≡ true → list_all is_told (words_of (put at (word_of p bs) ts)) ≡ true
-put_told piece.Name at bs ts here rest = joined (is_told (name bs)) _ (name_told bs here) rest
-put_told piece.Int at bs ts here rest = joined (is_told (size_word (bounded (digits_value bs)))) _ (size_told (bounded (digits_value bs))) rest
+put_told piece.Name at bs ts here rest = and_from (is_told (name bs)) _ (name_told bs here) rest
+put_told piece.Int at bs ts here rest = and_from (is_told (size_word (bounded (digits_value bs)))) _ (size_told (bounded (digits_value bs))) rest
 put_told piece.Sign at bs ts here rest = rest
 put_told piece.Quoted at bs ts here rest = rest
 put_told piece.Blank at bs ts here rest = rest
@@ -67,27 +67,27 @@ abbrev run_told : List Token → Bool
 run_told r = list_all is_told (words_of r)
 
 before_told : (t : Token) (rs : List (List Token)) → is_told t.word ≡ true → list_all run_told rs ≡ true → list_all run_told (before_runs t rs) ≡ true
-before_told t [] here rest = joined (run_told (t ∷ [])) true (joined (is_told t.word) true here refl) refl
+before_told t [] here rest = and_from (run_told (t ∷ [])) true (and_from (is_told t.word) true here refl) refl
 before_told t (r ∷ rs) here rest =
-    let parts = both (run_told r) (list_all run_told rs) rest in
-    joined (run_told (t ∷ r)) (list_all run_told rs) (joined (is_told t.word) (run_told r) here parts.0) parts.1
+    let parts = and_parts (run_told r) (list_all run_told rs) rest in
+    and_from (run_told (t ∷ r)) (list_all run_told rs) (and_from (is_told t.word) (run_told r) here parts.0) parts.1
 
 turn_told : (b : Bool) (t : Token) (rs : List (List Token)) → is_told t.word ≡ true → list_all run_told rs ≡ true → list_all run_told (if b then (t ∷ []) ∷ rs else before_runs t rs) ≡ true
-turn_told true t rs here rest = joined (run_told (t ∷ [])) _ (joined (is_told t.word) true here refl) rest
+turn_told true t rs here rest = and_from (run_told (t ∷ [])) _ (and_from (is_told t.word) true here refl) rest
 turn_told false t rs here rest = before_told t rs here rest
 
 runs_told : (ts : List Token) → list_all is_told (words_of ts) ≡ true → list_all run_told (runs ts) ≡ true
 runs_told [] all = refl
 runs_told (t ∷ ts) all =
-    let parts = both (is_told t.word) (list_all is_told (words_of ts)) all in
+    let parts = and_parts (is_told t.word) (list_all is_told (words_of ts)) all in
     turn_told (is_end t) t (runs ts) parts.0 (runs_told ts parts.1)
 
 told_first : (n : ℕ) (rs : List (List Token)) → list_all run_told rs ≡ true → list_all run_told (take n rs) ≡ true
 told_first zero rs all = refl
 told_first (suc n) [] all = refl
 told_first (suc n) (r ∷ rs) all =
-    let parts = both (run_told r) (list_all run_told rs) all in
-    joined (run_told r) (list_all run_told (take n rs)) parts.0 (told_first n rs parts.1)
+    let parts = and_parts (run_told r) (list_all run_told rs) all in
+    and_from (run_told r) (list_all run_told (take n rs)) parts.0 (told_first n rs parts.1)
 
 all_told : (rs : List (List Token)) → list_all run_told rs ≡ true → list_all run_told (told rs) ≡ true
 unfolding told
@@ -99,7 +99,7 @@ statement_told : (ws : List Word) (s : Statement) → IsStatement ws s → list_
 statement_told ws Empty is told = refl
 statement_told ws (Define n d) is told =
     let words : list_all is_told (spelling (Define n d)) ≡ true = subst (λ x. list_all is_told x ≡ true) is.spelt told in
-    joined (is_spelt n) true (both (is_spelt n) _ words).0 refl
+    and_from (is_spelt n) true (and_parts (is_spelt n) _ words).0 refl
 statement_told ws (Constrain (Between t a b z)) is told = refl
 statement_told ws (Constrain (Parts h a ns)) is told = refl
 statement_told ws (Constrain (NoOverlap p s)) is told = refl
@@ -121,8 +121,8 @@ readings_told [] [] are told = refl
 readings_told [] (x ∷ xs) are told = absurd are
 readings_told (r ∷ rs) [] are told = absurd are
 readings_told (r ∷ rs) (x ∷ xs) are told =
-    let parts = both (run_told r) (list_all run_told rs) told in
-    joined (is_shaped_form x.form) _ (form_told (words_of r) x.form are.1 parts.0) (readings_told rs xs are.2 parts.1)
+    let parts = and_parts (run_told r) (list_all run_told rs) told in
+    and_from (is_shaped_form x.form) _ (form_told (words_of r) x.form are.1 parts.0) (readings_told rs xs are.2 parts.1)
 
 pub texts_are_shaped : TextsAreShaped
 texts_are_shaped text tree read =

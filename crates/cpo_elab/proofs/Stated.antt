@@ -1,8 +1,9 @@
 -- A constraint that deserves no number leaves the model valid, and so does what it writes without a name.
-use Rattle.std.proofs.Common.{◌≡◌, ◌^◌, ℕ, ◌+◌, ℤ, pos, neg_ℤ, Bool, true, false, not, ◌&&◌, List, [], ◌∷◌, ◌++◌, length, Option, Some, None, nat_lt, int_le, refl, sym, ap, ◌∙◌, arith}
+use Rattle.std.proofs.Common.{◌≡◌, ◌^◌, ℕ, ◌+◌, ℤ, pos, neg_ℤ, true, false, not, ◌&&◌, List, [], ◌∷◌, ◌++◌, length, Option, Some, None, nat_lt, int_le, refl, ap, ◌∙◌, arith}
 use Rattle.std.specs.List.{list_all, list_any}
 use Rattle.std.proofs.lemmas.Bool.Decides.{nat_tests}
 use Rattle.std.proofs.lemmas.List.{length_push}
+use Rattle.std.proofs.lemmas.Bool.{and_parts, and_from, or_parts}
 use Rattle.sched_base.specs.declared.ids.Itv.{Itv}
 use Rattle.sched_base.specs.declared.ids.Cum.{Cum}
 use Rattle.sched_model.specs.Words.{passes_if_any}
@@ -10,9 +11,6 @@ use Rattle.sched_model.specs.Data.{Data, same, has, members_of, matrix_of, state
 use Rattle.sched_model.specs.Domain.{is_row}
 use Rattle.sched_model.specs.Valid.{IsValid, is_within_limits, is_constraint, is_itv, is_seq, is_member, is_window, is_small, is_amount, are_parts, are_distinct, fits_types}
 use Rattle.cpo_text.specs.declared.tree.Int.{Int}
-use Rattle.cpo_text.specs.declared.cumul.Cpart.{Cpart}
-use Rattle.cpo_text.specs.declared.cumul.Cpart.TheVariants as cpart
-use Rattle.cpo_text.specs.declared.cumul.Signed.{Signed}
 use Rattle.cpo_text.specs.declared.cumul.Cumul.{Cumul}
 use Rattle.cpo_text.specs.declared.tree.Hierarchy.{Hierarchy}
 use Rattle.cpo_text.specs.declared.tree.Hierarchy.TheVariants.{Span, Alternative, Synchronize}
@@ -30,15 +28,15 @@ use Rattle.cpo_text.specs.declared.tree.Moments.TheVariants as moments
 use Rattle.cpo_text.specs.declared.tree.Constrained.{Constrained}
 use Rattle.cpo_text.specs.declared.tree.Constrained.TheVariants.{Between, Parts, NoOverlap, Extreme, Ordered, Bounded, AlwaysIn, AlwaysEqual, AlwaysNoState, Holds}
 use Rattle.cpo_text.specs.declared.tree.Statement.TheVariants.{Constrain}
-use Rattle.cpo_elab.specs.declared.names.Sort.TheVariants.{Interval, Sequence, Cumulated, State}
-use Rattle.cpo_elab.specs.Named.{NameTest, itv_of, itvs_of, mat_of, seq_of, stf_of, some_in_cpart, some_in_cumul}
+use Rattle.cpo_elab.specs.declared.names.Sort.TheVariants.{Interval, Sequence, State}
+use Rattle.cpo_elab.specs.Named.{itv_of, itvs_of, mat_of, seq_of, stf_of, some_in_cumul}
 use Rattle.cpo_elab.specs.Numbers.{int_of, int_or_zero}
 use Rattle.cpo_elab.specs.Held.{some_moments, some_height, logic_in}
-use Rattle.cpo_elab.specs.Elaborated.{sequence_named, cumul_named, hierarchy_of, extreme_of, order_of, bound_of, window_of, unsigned_name, lone_name, named_itself, cumul_id, constraint_of, with_unnamed, with_listed, with_written}
+use Rattle.cpo_elab.specs.Elaborated.{sequence_named, cumul_named, hierarchy_of, extreme_of, order_of, bound_of, window_of, named_itself, cumul_id, constraint_of, with_unnamed, with_listed, with_written}
 use Rattle.cpo_elab.specs.Judged.{is_of_other_sort, is_no_member, is_reversed, is_outside, is_negative, is_large}
 use Rattle.cpo_elab.specs.Shaped.{has_operands}
-use Rattle.cpo_elab.proofs.Truth.{both, joined, all_three, neither, not_true}
-use Rattle.cpo_elab.proofs.Ids.{right_itv, right_itvs, right_seq, right_cum, right_stf}
+use Rattle.cpo_elab.proofs.Truth.{all_three, not_true}
+use Rattle.cpo_elab.proofs.Ids.{right_itv, right_itvs, right_seq, right_stf}
 use Rattle.cpo_elab.proofs.Amounts.{int_small, delay_small, ordered, spans, amount}
 use Rattle.cpo_elab.proofs.Functions.{parts_well_made}
 use Rattle.cpo_elab.proofs.Expressions.{expr_made}
@@ -47,6 +45,7 @@ use Rattle.cpo_elab.proofs.Growing.{all_four, all_five}
 use Rattle.cpo_elab.proofs.Kept.{limits_without, with_constraint_valid}
 use Rattle.cpo_elab.proofs.Defined.{list_valid, unnamed_valid}
 use Rattle.cpo_elab.proofs.Facts.{Facts}
+use Rattle.cpo_elab.specs.lemmas.Names.{right_cum, lone_right}
 
 -- what a constraint writes without a name
 
@@ -59,14 +58,14 @@ cumul_written m f None before right limits = unnamed_valid m f before (parts_wel
 
 list_written : (m : Data) (p : Over) (s : Option Spaced) → IsValid m → Facts m (Constrain (NoOverlap p s)) → is_within_limits (with_listed m p) ≡ true → IsValid (with_listed m p)
 list_written m (over.Named p) s before facts limits = before
-list_written m (over.Listed ns) s before facts limits = list_valid m ns before (neither (list_any (is_of_other_sort m Interval) ns) _ facts.uses).0 facts.once facts.members limits
+list_written m (over.Listed ns) s before facts limits = list_valid m ns before (or_parts (list_any (is_of_other_sort m Interval) ns) _ facts.uses).0 facts.once facts.members limits
 
 bounded_right : (m : Data) (f : Cumul) (b : Bound) (c : Int) → Facts m (Constrain (Bounded f b c)) → RightCumul m f
 bounded_right m f b c facts = (facts.uses, facts.ordered, facts.inside, facts.signs, facts.small)
 
 always_right : (m : Data) (f : Cumul) (w : Moments) (lo hi : Int) → Facts m (Constrain (AlwaysIn f w lo hi)) → RightCumul m f
 always_right m f w lo hi facts =
-    ((neither (some_in_cumul (is_of_other_sort m) f) _ facts.uses).0, (neither _ (some_moments is_reversed f) facts.ordered).1, (neither _ (some_moments is_outside f) facts.inside).1, facts.signs, facts.small)
+    ((or_parts (some_in_cumul (is_of_other_sort m) f) _ facts.uses).0, (or_parts _ (some_moments is_reversed f) facts.ordered).1, (or_parts _ (some_moments is_outside f) facts.inside).1, facts.signs, facts.small)
 
 pub written_valid : (m : Data) (c : Constrained) → IsValid m → Facts m (Constrain c) → IsValid (with_written m c)
 written_valid m (NoOverlap p s) before facts = list_written m p s before facts (limits_without (with_written m (NoOverlap p s)) (constraint_of m (NoOverlap p s)) facts.room)
@@ -96,26 +95,26 @@ pushed_there : {X : Type 0} (xs : List X) (x : X) → nat_lt (length xs) (length
 pushed_there xs x = ap (nat_lt (length xs)) (length_push xs x) ∙ next_there (length xs)
 
 overlap_made : (m : Data) (p : Over) (s : Option Spaced) → Facts m (Constrain (NoOverlap p s)) → is_constraint (with_listed m p) (constraint_of m (NoOverlap p s)) ≡ true
-overlap_made m (over.Named p) None facts = joined (is_seq m (seq_of m p)) true (right_seq m p (neither (is_of_other_sort m Sequence p) _ facts.uses).0) refl
+overlap_made m (over.Named p) None facts = and_from (is_seq m (seq_of m p)) true (right_seq m p (or_parts (is_of_other_sort m Sequence p) _ facts.uses).0) refl
 overlap_made m (over.Named p) (Some s) facts =
-    joined (is_seq m (seq_of m p)) (fits_types m (seq_of m p) (mat_of m s.matrix)) (right_seq m p (neither (is_of_other_sort m Sequence p) _ facts.uses).0) (not_true _ facts.fitting)
-overlap_made m (over.Listed ns) None facts = joined (nat_lt (length m.sequences) (length (m.sequences ++ sequence_named m None ns None ∷ []))) true (pushed_there m.sequences (sequence_named m None ns None)) refl
+    and_from (is_seq m (seq_of m p)) (fits_types m (seq_of m p) (mat_of m s.matrix)) (right_seq m p (or_parts (is_of_other_sort m Sequence p) _ facts.uses).0) (not_true _ facts.fitting)
+overlap_made m (over.Listed ns) None facts = and_from (nat_lt (length m.sequences) (length (m.sequences ++ sequence_named m None ns None ∷ []))) true (pushed_there m.sequences (sequence_named m None ns None)) refl
 overlap_made m (over.Listed ns) (Some s) facts = cc facts.fitting
 
 member_made : (m : Data) (p a : List ℕ) → is_of_other_sort m Sequence p ≡ false → is_no_member m p a ≡ false → is_member m (seq_of m p) (itv_of m a) ≡ true
-member_made m p a right joins = joined (is_seq m (seq_of m p)) (has (members_of m (seq_of m p)) (itv_of m a)) (right_seq m p right) (not_true _ joins)
+member_made m p a right joins = and_from (is_seq m (seq_of m p)) (has (members_of m (seq_of m p)) (itv_of m a)) (right_seq m p right) (not_true _ joins)
 
 extreme_made : (m : Data) (e : Place) (p a : List ℕ) → is_member m (seq_of m p) (itv_of m a) ≡ true → is_constraint m (extreme_of e (seq_of m p) (itv_of m a)) ≡ true
 extreme_made m First p a h = h
 extreme_made m Last p a h = h
 
 apart : (x y : Itv) → are_distinct (x ∷ y ∷ []) ≡ true → not (same x y) ≡ true
-apart x y h = (both (not (same x y)) true (both (not (same x y) && true) _ h).0).0
+apart x y h = (and_parts (not (same x y)) true (and_parts (not (same x y) && true) _ h).0).0
 
 ordered_made : (m : Data) (o : Order) (p a b : List ℕ) → Facts m (Constrain (Ordered o p a b)) → is_constraint m (order_of o (seq_of m p) (itv_of m a) (itv_of m b)) ≡ true
 ordered_made m o p a b facts =
-    let right = (neither (is_of_other_sort m Sequence p) _ facts.uses).0 in
-    let joins = neither (is_no_member m p a) (is_no_member m p b) facts.joins in
+    let right = (or_parts (is_of_other_sort m Sequence p) _ facts.uses).0 in
+    let joins = or_parts (is_no_member m p a) (is_no_member m p b) facts.joins in
     by o (all_three (is_member m (seq_of m p) (itv_of m a)) (is_member m (seq_of m p) (itv_of m b)) (not (same (itv_of m a) (itv_of m b)))
     (member_made m p a right joins.0) (member_made m p b right joins.1) (apart (itv_of m a) (itv_of m b) facts.once)) where
       by : (o : Order) → (is_member m (seq_of m p) (itv_of m a) && is_member m (seq_of m p) (itv_of m b) && not (same (itv_of m a) (itv_of m b))) ≡ true → is_constraint m (order_of o (seq_of m p) (itv_of m a) (itv_of m b)) ≡ true
@@ -124,28 +123,15 @@ ordered_made m o p a b facts =
 
 -- the function that a cumulative expression is, or becomes
 
-unsigned_right : (test : NameTest) (minus : Bool) (p : Cpart) (n : List ℕ) → unsigned_name minus p ≡ Some n → some_in_cpart test p ≡ false → test Cumulated n ≡ false
-unsigned_right test true p n is right = cc is
-unsigned_right test false (cpart.Named k) n is right = let same : k ≡ n = cc is in ap (test Cumulated) (sym same) ∙ right
-unsigned_right test false (cpart.Pulse u v h) n is right = cc is
-unsigned_right test false (cpart.PulseOf a h) n is right = cc is
-unsigned_right test false (cpart.Step u h) n is right = cc is
-unsigned_right test false (cpart.StepAtStart a h) n is right = cc is
-unsigned_right test false (cpart.StepAtEnd a h) n is right = cc is
-
-lone_right : (test : NameTest) (more : List Signed) (s : Signed) (n : List ℕ) → lone_name more s ≡ Some n → list_any (λ s. some_in_cpart test s.part) (s ∷ more) ≡ false → test Cumulated n ≡ false
-lone_right test [] s n is right = unsigned_right test s.minus s.part n is (neither (some_in_cpart test s.part) _ right).0
-lone_right test (t ∷ ts) s n is right = cc is
-
 function_there : (m : Data) (f : Cumul) (o : Option (List ℕ)) → named_itself f ≡ o → some_in_cumul (is_of_other_sort m) f ≡ false → nat_lt (cumul_id m o).0 (length (with_unnamed m f o).cumuls) ≡ true
 function_there m f (Some n) is right = right_cum m n (lone_right (is_of_other_sort m) f.more f.first n is right)
 function_there m f None is right = pushed_there m.cumuls (cumul_named m None f)
 
 above_least : (z : ℤ) → is_small z ≡ true → int_le (neg_ℤ (pos (2 ^ 62))) z ≡ true
-above_least z h = (both (int_le (neg_ℤ (pos (2 ^ 62))) z) _ h).0
+above_least z h = (and_parts (int_le (neg_ℤ (pos (2 ^ 62))) z) _ h).0
 
 below_greatest : (z : ℤ) → is_small z ≡ true → int_le z (pos (2 ^ 62)) ≡ true
-below_greatest z h = (both _ (int_le z (pos (2 ^ 62))) h).1
+below_greatest z h = (and_parts _ (int_le z (pos (2 ^ 62))) h).1
 
 bounded_made : (m n : Data) (f : Cum) (b : Bound) (c : Int) → nat_lt f.0 (length n.cumuls) ≡ true → is_constraint n (bound_of b f (int_of c)) ≡ true
 bounded_made m n f AtMost c there = all_five (nat_lt f.0 (length n.cumuls)) true true (is_small (int_of c)) _ there refl refl (int_small c) (above_least (int_of c) (int_small c))
@@ -157,8 +143,8 @@ extends_written m f None = extends_cumul (cumul_named m None f) m
 
 window_made : (m : Data) (w : Moments) (f : Cumul) (lo hi : Int) → Facts m (Constrain (AlwaysIn f w lo hi)) → is_window m (window_of m w) ≡ true
 window_made m (moments.From u v) f lo hi facts =
-    spans (int_of u) (int_of v) (neither (is_outside (int_of u, int_of v)) _ facts.inside).0 (neither (is_reversed (int_of u, int_of v)) _ facts.ordered).0
-window_made m (moments.During a) f lo hi facts = right_itv m a (neither (some_in_cumul (is_of_other_sort m) f) (is_of_other_sort m Interval a) facts.uses).1
+    spans (int_of u) (int_of v) (or_parts (is_outside (int_of u, int_of v)) _ facts.inside).0 (or_parts (is_reversed (int_of u, int_of v)) _ facts.ordered).0
+window_made m (moments.During a) f lo hi facts = right_itv m a (or_parts (some_in_cumul (is_of_other_sort m) f) (is_of_other_sort m Interval a) facts.uses).1
 
 always_made : (m : Data) (f : Cumul) (w : Moments) (lo hi : Int) → Facts m (Constrain (AlwaysIn f w lo hi)) → is_constraint (with_unnamed m f (named_itself f)) (constraint_of m (AlwaysIn f w lo hi)) ≡ true
 always_made m f w lo hi facts =
@@ -170,23 +156,23 @@ always_made m f w lo hi facts =
 
 constraint_made : (m : Data) (c : Constrained) → IsValid m → passes_if_any has_operands (logic_in (Constrain c)) ≡ true → Facts m (Constrain c) → is_constraint (with_written m c) (constraint_of m c) ≡ true
 constraint_made m (Between t a b z) before shaped facts =
-    let uses = neither (is_of_other_sort m Interval a) (is_of_other_sort m Interval b) facts.uses in
+    let uses = or_parts (is_of_other_sort m Interval a) (is_of_other_sort m Interval b) facts.uses in
     all_three (is_itv m (itv_of m a)) (is_itv m (itv_of m b)) (is_small (int_or_zero z)) (right_itv m a uses.0) (right_itv m b uses.1) (delay_small z)
 constraint_made m (Parts h a ns) before shaped facts =
-    let uses = neither (is_of_other_sort m Interval a) (list_any (is_of_other_sort m Interval) ns) facts.uses in
-    parts_made m h a ns (joined (is_itv m (itv_of m a)) (are_parts m (itvs_of m ns)) (right_itv m a uses.0) (joined (list_all (is_itv m) (itvs_of m ns)) (are_distinct (itvs_of m ns)) (right_itvs m ns uses.1) facts.once))
+    let uses = or_parts (is_of_other_sort m Interval a) (list_any (is_of_other_sort m Interval) ns) facts.uses in
+    parts_made m h a ns (and_from (is_itv m (itv_of m a)) (are_parts m (itvs_of m ns)) (right_itv m a uses.0) (and_from (list_all (is_itv m) (itvs_of m ns)) (are_distinct (itvs_of m ns)) (right_itvs m ns uses.1) facts.once))
 constraint_made m (NoOverlap p s) before shaped facts = overlap_made m p s facts
-constraint_made m (Extreme e p a) before shaped facts = extreme_made m e p a (member_made m p a (neither (is_of_other_sort m Sequence p) (is_of_other_sort m Interval a) facts.uses).0 facts.joins)
+constraint_made m (Extreme e p a) before shaped facts = extreme_made m e p a (member_made m p a (or_parts (is_of_other_sort m Sequence p) (is_of_other_sort m Interval a) facts.uses).0 facts.joins)
 constraint_made m (Ordered o p a b) before shaped facts = ordered_made m o p a b facts
 constraint_made m (Bounded f b c) before shaped facts = bounded_made m (with_unnamed m f (named_itself f)) (cumul_id m (named_itself f)) b c (function_there m f (named_itself f) refl facts.uses)
 constraint_made m (AlwaysIn f w lo hi) before shaped facts = always_made m f w lo hi facts
 constraint_made m (AlwaysEqual g a v aligned) before shaped facts =
-    let uses = neither (is_of_other_sort m State g) (is_of_other_sort m Interval a) facts.uses in
+    let uses = or_parts (is_of_other_sort m State g) (is_of_other_sort m Interval a) facts.uses in
     all_four (nat_lt (stf_of m g).0 (length m.states)) (is_itv m (itv_of m a)) (is_amount (int_of v)) (is_row (matrix_of m (state_matrix m (stf_of m g))) (int_of v))
     (right_stf m g uses.0) (right_itv m a uses.1) (amount (int_of v) facts.signs facts.small) (not_true _ facts.fitting)
 constraint_made m (AlwaysNoState g a) before shaped facts =
-    let uses = neither (is_of_other_sort m State g) (is_of_other_sort m Interval a) facts.uses in
-    joined (nat_lt (stf_of m g).0 (length m.states)) (is_itv m (itv_of m a)) (right_stf m g uses.0) (right_itv m a uses.1)
+    let uses = or_parts (is_of_other_sort m State g) (is_of_other_sort m Interval a) facts.uses in
+    and_from (nat_lt (stf_of m g).0 (length m.states)) (is_itv m (itv_of m a)) (right_stf m g uses.0) (right_itv m a uses.1)
 constraint_made m (Holds e) before shaped facts = expr_made m e facts.uses shaped facts.hull
 
 pub constrain_valid : (m : Data) (c : Constrained) → IsValid m → passes_if_any has_operands (logic_in (Constrain c)) ≡ true → Facts m (Constrain c) → IsValid (with_constraint (constraint_of m c) (with_written m c))

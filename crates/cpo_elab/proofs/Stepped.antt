@@ -1,7 +1,9 @@
 -- One statement after another.
-use Rattle.std.proofs.Common.{◌≡◌, ℕ, ◌+◌, ◌<◌, ◌≤◌, true, false, not, ◌&&◌, ◌||◌, List, length, drop, get_or, Option, Some, None, is_some, nat_lt, refl, sym, ap, subst, ◌∙◌, arith}
+use Rattle.std.proofs.Common.{◌≡◌, ℕ, ◌+◌, ◌<◌, ◌≤◌, true, false, not, ◌&&◌, ◌||◌, List, length, drop, get_or, None, nat_lt, sym, ap, subst, ◌∙◌, arith}
 use Rattle.std.proofs.lemmas.List.{at_drop_more}
 use Rattle.std.proofs.lemmas.Bool.Decides.{nat_tests}
+use Rattle.std.proofs.lemmas.Bool.{and_parts, or_parts}
+use Rattle.base_laws.specs.laws.Places.{none_if_not}
 use Rattle.sched_model.specs.Data.{Data, with_constraint, with_objective}
 use Rattle.sched_model.specs.Valid.{IsValid}
 use Rattle.cpo_text.specs.declared.expression.Logic.{Logic}
@@ -13,10 +15,9 @@ use Rattle.cpo_text.specs.declared.tree.Statement.TheVariants.{Define, Constrain
 use Rattle.cpo_text.specs.declared.text.Reading.{Reading}
 use Rattle.cpo_elab.specs.Named.{is_defined}
 use Rattle.cpo_elab.specs.Held.{some_amount, rows_in}
-use Rattle.cpo_elab.specs.Elaborated.{defined, constraint_of, with_written, objective_of, after}
+use Rattle.cpo_elab.specs.Elaborated.{defined, constraint_of, with_written, objective_of}
 use Rattle.cpo_elab.specs.Judged.{is_large, is_negative, is_wide, leaves_room, statement_limit, number_in}
 use Rattle.cpo_elab.specs.Shaped.{is_shaped, is_shaped_form, are_shaped}
-use Rattle.cpo_elab.proofs.Truth.{both, neither}
 use Rattle.cpo_elab.proofs.Clear.{clear}
 use Rattle.cpo_elab.proofs.Facts.{Facts, facts}
 use Rattle.cpo_elab.proofs.Valid.{valid_after, valid_written}
@@ -25,7 +26,7 @@ below : (n limit : ℕ) → nat_lt limit (n + 1) ≡ false → n < limit
 below n limit h = grind (arith, nat_tests)
 
 pub few : (m : Data) (n : ℕ) (s : Statement) → number_in m (n + 1) s ≡ None → n < statement_limit
-few m n s none = below n statement_limit (neither (nat_lt statement_limit (n + 1)) (is_wide s || not (leaves_room m s)) (clear m (n + 1) s none).room).0
+few m n s none = below n statement_limit (or_parts (nat_lt statement_limit (n + 1)) (is_wide s || not (leaves_room m s)) (clear m (n + 1) s none).room).0
 
 known : (m : Data) (k : ℕ) (s : Statement) → number_in m k s ≡ None → Facts m s
 known m k s none = facts m k s (clear m k s none)
@@ -65,10 +66,6 @@ can_write m k s c is before none = valid_written m k c before (subst (λ t. numb
 pub can_aim : (m : Data) (k : ℕ) (s : Statement) (sense : Sense) (e : Logic) → s ≡ Aim sense e → IsValid m → is_shaped s ≡ true → number_in m k s ≡ None → IsValid (with_objective (objective_of m sense e) m)
 can_aim m k s sense e is before shaped none = valid_after m k (Aim sense e) before (subst (λ t. is_shaped t ≡ true) is shaped) (subst (λ t. number_in m k t ≡ None) is none)
 
-none_if_not : {X : Type 0} (o : Option X) → is_some o ≡ false → o ≡ None
-none_if_not None h = refl
-none_if_not (Some x) h = cc
-
 pub first_aim : (m : Data) (k : ℕ) (s : Statement) (sense : Sense) (e : Logic) → s ≡ Aim sense e → number_in m k s ≡ None → m.objective ≡ None
 first_aim m k s sense e is none = let f : Facts m (Aim sense e) = known m k (Aim sense e) (subst (λ t. number_in m k t ≡ None) is none) in none_if_not m.objective f.single
 
@@ -76,7 +73,7 @@ first_aim m k s sense e is none = let f : Facts m (Aim sense e) = known m k (Aim
 
 split : (xs : List Reading) (i : ℕ) (x : Reading) → i < length xs → x ≡ get_or xs i x → are_shaped (drop i xs) ≡ true → (is_shaped_form x.form ≡ true) × (are_shaped (drop (i + 1) xs) ≡ true)
 split xs i x within at_i shaped =
-    both (is_shaped_form x.form) (are_shaped (drop (i + 1) xs))
+    and_parts (is_shaped_form x.form) (are_shaped (drop (i + 1) xs))
     (ap (λ y. is_shaped_form y.form && are_shaped (drop (i + 1) xs)) at_i ∙ sym (at_drop_more are_shaped xs i x within) ∙ shaped)
 
 pub next_shaped : (xs : List Reading) (i : ℕ) (x : Reading) → i < length xs → x ≡ get_or xs i x → are_shaped (drop i xs) ≡ true → is_shaped_form x.form ≡ true

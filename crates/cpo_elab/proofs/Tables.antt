@@ -15,8 +15,9 @@ use Rattle.sched_model.specs.Data.{Data}
 use Rattle.sched_model.specs.Whole.{data_of}
 use Rattle.sched_model.specs.Valid.{IsValid}
 use Rattle.cpo_elab.specs.Numbered.{is_named_sequence, is_named_cumul, parted, new_place, sequence_place, cumul_place, renumbered, named_first}
-use Rattle.cpo_elab.proofs.Parted.{place_yes, place_no, count_halves}
+use Rattle.cpo_elab.proofs.Parted.{count_halves}
 use Rattle.cpo_elab.proofs.Alike.{Agree, constraints_alike}
+use Rattle.cpo_elab.specs.lemmas.Parted.{place_yes, place_no}
 
 test_at : {X : Type 0} (p : X → Bool) (xs : List X) (i : ℕ) (x : X) → i < length xs → x ≡ get_or xs i x → passes p (slice_get xs i) ≡ p x
 test_at p xs i x within is = ap (passes p) (slice_get-get_or xs i x within) ∙ sym (ap p is)

@@ -6,7 +6,7 @@ use Rattle.cpo_text.specs.declared.text.Refusal.{Refusal}
 use Rattle.cpo_text.specs.declared.text.ReadFault.{ReadFault}
 use Rattle.cpo_text.specs.declared.text.ReadFault.TheVariants as fault
 use Rattle.cpo_text.specs.declared.text.Tree.{Tree}
-use Rattle.cpo_elab.specs.Answers.{Answer, refusal, judged}
+use Rattle.cpo_elab.specs.Answers.{Answer, judged}
 use Rattle.cpo_elab.specs.Answers.Answer.{Refused, Accepted}
 
 -- the refusal of a text that is too long or has a bad byte, or else the judgement of its statements

@@ -14,3 +14,4 @@ pub mod Shaped
 pub mod Laws
 pub mod ValidLaws
 pub mod Steps
+pub mod lemmas

@@ -1,7 +1,8 @@
 -- What is spelled as a statement is read as that statement.
-use Rattle.std.proofs.Common.{◌≡◌, ℕ, zero, suc, ◌<◌, ◌==◌, Bool, true, false, ◌&&◌, ◌||◌, not, List, [], ◌∷◌, ◌++◌, length, Option, Some, None, refl, sym, ap, subst, ◌∙◌, arith, append_assoc, length-append}
+use Rattle.std.proofs.Common.{◌≡◌, ℕ, zero, suc, ◌<◌, ◌==◌, Bool, true, false, ◌||◌, not, List, [], ◌∷◌, ◌++◌, length, Option, Some, None, refl, sym, ap, subst, ◌∙◌, arith, append_assoc, length-append}
 use Rattle.std.specs.Prelude.{codes}
 use Rattle.std.specs.List.{list_all}
+use Rattle.std.proofs.lemmas.Bool.{and_parts}
 use Rattle.cpo_text.specs.Words.{Word, size_word, commas, round}
 use Rattle.cpo_text.specs.Words.Word.{name, sign}
 use Rattle.cpo_text.specs.Spelling.{int_words, minus_words, int_items, to_words, range_words, name_words, ivarg_words, ivarg_sort, are_distinct}
@@ -70,10 +71,6 @@ ivarg_again (End x) rest free = rw (given_again x rest free) refl
 ivarg_again (Size x) rest free = rw (given_again x rest free) refl
 
 -- the list of arguments
-
-and_parts : (a b : Bool) → (a && b) ≡ true → (a ≡ true) × (b ≡ true)
-and_parts true b h = (refl, h)
-and_parts false b h = cc
 
 not_false : (b : Bool) → not b ≡ true → b ≡ false
 not_false true h = cc

@@ -34,9 +34,6 @@ sign_plain c is = record { letter = grind (arith, nat_tests); digit = grind (ari
 pub pair_plain : (a b : ℕ) → is_sign_pair a b ≡ true → IsPlain a
 pair_plain a b is = record { letter = grind (arith, nat_tests); digit = grind (arith, nat_tests); blank = grind (arith, nat_tests); quote = grind (arith, nat_tests) }
 
-pub pair_no_slash : (a b : ℕ) → is_sign_pair a b ≡ true → (a == 47) ≡ false
-pair_no_slash a b is = grind (arith, nat_tests)
-
 -- the bytes of a prefix pass the test
 pub prefix_passes : (p : ℕ → Bool) (bs : List ℕ) → list_all p (take (prefix_len p bs) bs) ≡ true
 prefix_passes p [] = refl

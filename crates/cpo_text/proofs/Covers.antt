@@ -1,14 +1,16 @@
 -- A piece at the front is no longer than the one that is computed, and is that one where it is as long.
-use Rattle.std.proofs.Common.{◌≡◌, ℕ, zero, suc, ◌+◌, ◌<◌, ◌≤◌, ◌==◌, Bool, true, false, ◌&&◌, List, [], ◌∷◌, ◌++◌, length, take, drop, Option, Some, None, refl, sym, ap, subst, ◌∙◌, arith, append_assoc, length-append}
+use Rattle.std.proofs.Common.{◌≡◌, ℕ, zero, suc, ◌+◌, ◌<◌, ◌≤◌, ◌==◌, Bool, true, false, List, [], ◌∷◌, ◌++◌, length, take, drop, Option, Some, None, refl, sym, ap, subst, ◌∙◌, arith, append_assoc, length-append}
 use Rattle.std.specs.List.{list_all, prefix_len}
 use Rattle.std.proofs.lemmas.Bool.Decides.{nat_tests}
 use Rattle.std.proofs.lemmas.List.{take-append-drop}
+use Rattle.std.proofs.lemmas.Bool.{and_parts}
 use Rattle.cpo_text.specs.declared.piece.Piece.{Piece}
 use Rattle.cpo_text.specs.declared.piece.Piece.TheVariants.{Name, Int, Sign, Quoted, Blank, Line, Block}
 use Rattle.cpo_text.specs.Tokens.{is_letter, is_digit, is_name_byte, is_blank, is_sign_byte, is_sign_pair, is_on_line, is_quotable, begins, has_close, IsPiece, IsAtFront, IsLongest, NonePiece}
 use Rattle.cpo_text.specs.Lexing.{slash_at, sign_at, piece_from, piece_at}
-use Rattle.cpo_text.proofs.Classes.{either, some_same, digit_no_letter, blank_no_letter, blank_no_digit, sign_plain, pair_plain, pair_no_slash, prefix_most}
+use Rattle.cpo_text.proofs.Classes.{either, some_same, digit_no_letter, blank_no_letter, blank_no_digit, sign_plain, pair_plain, prefix_most}
 use Rattle.cpo_text.proofs.Fronts.{IsFound, piece_found, quote_again, close_again}
+use Rattle.cpo_text.specs.lemmas.Slashes.{pair_no_slash}
 
 pub record Covers (bs : List ℕ) (p : Piece) (m : ℕ) : Type 0 where
   pub found : Piece × ℕ
@@ -106,10 +108,6 @@ line_covers (b ∷ d ∷ ds) (suc (suc m)) within piece =
     let inner : take m ds ≡ piece.0 = cc (piece.1) in
     let most = prefix_most is_on_line ds m (omega arith) (rw inner piece.2) in
     rw (first, second) (record { found = (Line, 2 + prefix_len is_on_line ds); is = line_is ds; most = omega arith; same = λ _. refl })
-
-and_parts : (a b : Bool) → (a && b) ≡ true → (a ≡ true) × (b ≡ true)
-and_parts true b h = (refl, h)
-and_parts false b h = cc
 
 name_covers : (bs : List ℕ) (m : ℕ) → m ≤ length bs → IsPiece Name (take m bs) → Covers bs Name m
 name_covers [] zero within piece = absurd piece

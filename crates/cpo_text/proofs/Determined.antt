@@ -14,11 +14,12 @@ use Rattle.cpo_text.specs.Statements.{statement_at}
 use Rattle.cpo_text.specs.Lexing.{pieces, rest, tokens_from}
 use Rattle.cpo_text.specs.Reads.{IsGrammatical, DeservesNumber, HasForm}
 use Rattle.cpo_text.specs.Laws.{PiecesAreDetermined, TokensAreDetermined, BadByteIsDetermined, EveryTextHasTokensOrBadByte, NotBoth, StatementsAreDetermined, GrammarIsDecided, ReadingsAreDetermined}
-use Rattle.cpo_text.proofs.Binds.{some_same, some_pair, both}
+use Rattle.cpo_text.proofs.Binds.{some_pair, both}
 use Rattle.cpo_text.proofs.Walks.{pieces_are, pieces_only, none_at_end}
 use Rattle.cpo_text.proofs.Spells.{statement_takes}
 use Rattle.cpo_text.proofs.Rereads.{statement_again}
 use Rattle.cpo_text.proofs.Answered.{has_tokens, has_bad_byte}
+use Rattle.cpo_text.specs.lemmas.Deserved.{same_number}
 
 pub pieces_determined : PiecesAreDetermined
 pieces_determined text ps qs r s a a' b b' =
@@ -100,15 +101,6 @@ grammar_decided ws = decided (statement_at (fuel_of ws) ws) refl
 not_some : (o : Option ℕ) (n : ℕ) → o ≡ Some n → o ≡ None → ⊥
 not_some o n a b = cc
 
-numbers : (ws : List Word) (n m : ℕ) → DeservesNumber ws n → DeservesNumber ws m → n ≡ m
-numbers ws n m (inl a) (inl b) = some_same n m (sym a ∙ b)
-numbers ws n m (inl a) (inr (b, _)) = absurd (not_some (early ws) n a b)
-numbers ws n m (inr (a, _)) (inl b) = absurd (not_some (early ws) m b a)
-numbers ws n m (inr (_, inl (a, _))) (inr (_, inl (b, _))) = a ∙ sym b
-numbers ws n m (inr (_, inl (_, out))) (inr (_, inr (_, is, _))) = absurd (out is)
-numbers ws n m (inr (_, inr (_, is, _))) (inr (_, inl (_, out))) = absurd (out is)
-numbers ws n m (inr (_, inr (a, _, _))) (inr (_, inr (b, _, _))) = a ∙ sym b
-
 -- words with a tree deserve no number
 no_number : (ws : List Word) (s : Statement) (n : ℕ) → HasForm ws (Parsed s) → DeservesNumber ws n → ⊥
 no_number ws s n h (inl a) = not_some (early ws) n a h.0
@@ -119,7 +111,7 @@ one_form : (ws : List Word) (a b : Form) → HasForm ws a → HasForm ws b → a
 one_form ws (Parsed s) (Parsed t) a b = ap Parsed (statements_determined ws s t a.1 b.1)
 one_form ws (Parsed s) (Number n) a b = absurd (no_number ws s n a b)
 one_form ws (Number n) (Parsed s) a b = absurd (no_number ws s n b a)
-one_form ws (Number n) (Number m) a b = ap Number (numbers ws n m a b)
+one_form ws (Number n) (Number m) a b = ap Number (same_number ws n m a b)
 
 same_reading : (x y : Reading) → x.at ≡ y.at → x.form ≡ y.form → x ≡ y
 same_reading x y a b = both (λ n (f : Form). let z : Reading = record { at = n; form = f } in z) a b

@@ -1,6 +1,8 @@
 -- The first run of some tokens, and a statement read at its beginning.
-use Rattle.std.proofs.Common.{◌≡◌, ℕ, ◌+◌, ◌*◌, ◌<◌, ◌≤◌, Bool, true, false, ◌||◌, cond, List, [], ◌∷◌, ◌++◌, length, Option, Some, None, refl, sym, ap, ◌∙◌, arith, append_assoc, length-append}
+use Rattle.std.proofs.Common.{◌≡◌, ℕ, ◌+◌, ◌*◌, ◌<◌, ◌≤◌, Bool, true, false, cond, List, [], ◌∷◌, ◌++◌, length, Option, Some, None, refl, sym, ap, ◌∙◌, arith, append_assoc, length-append}
 use Rattle.std.specs.Prelude.{codes}
+use Rattle.std.proofs.lemmas.Bool.{or_parts}
+use Rattle.std.specs.List.{list_any}
 use Rattle.cpo_text.specs.Words.{Word}
 use Rattle.cpo_text.specs.Words.Word.{sign}
 use Rattle.cpo_text.specs.Tokens.{Token}
@@ -10,10 +12,10 @@ use Rattle.cpo_text.specs.Spelling.{statement_body, spelling, IsStatement}
 use Rattle.cpo_text.specs.Statements.{statement_at}
 use Rattle.cpo_text.specs.Reads.{IsGrammatical}
 use Rattle.cpo_text.specs.declared.tree.Statement.{Statement}
-use Rattle.cpo_text.proofs.NoEnds.{ends, has_end}
-use Rattle.cpo_text.proofs.StatementEnds.{body_no_end}
 use Rattle.cpo_text.proofs.Spells.{statement_takes}
 use Rattle.cpo_text.proofs.Rereads.{statement_again}
+use Rattle.cpo_text.specs.lemmas.Free.{ends, IsFree}
+use Rattle.cpo_text.specs.lemmas.Bodies.{body_free}
 
 -- runs
 
@@ -60,14 +62,8 @@ joined_runs (t ∷ ts) = decided (is_end t) (joined_runs ts)
     decided true h = refl
     decided false h = ap (λ ws. t.word ∷ ws) h
 
--- a statement in front of some words
-
-or_parts : (a b : Bool) → (a || b) ≡ false → (a ≡ false) × (b ≡ false)
-or_parts false b h = (refl, h)
-or_parts true b h = cc
-
--- so a statement in front of some words is their first run
-first_words : (ts : List Token) (body rest : List Word) → has_end body ≡ false → words_of ts ≡ body ++ sign (codes ";") ∷ rest → words_of (first_run ts) ≡ body ++ sign (codes ";") ∷ []
+-- a statement in front of some words is their first run
+first_words : (ts : List Token) (body rest : List Word) → IsFree body → words_of ts ≡ body ++ sign (codes ";") ∷ rest → words_of (first_run ts) ≡ body ++ sign (codes ";") ∷ []
 first_words [] [] rest free h = cc
 first_words [] (w ∷ ws) rest free h = cc
 first_words (t ∷ ts) [] rest free h =
@@ -77,7 +73,7 @@ first_words (t ∷ ts) [] rest free h =
 first_words (t ∷ ts) (w ∷ ws) rest free h =
     let is : t.word ≡ w = cc in
     let more : words_of ts ≡ ws ++ sign (codes ";") ∷ rest = cc in
-    let parts = or_parts (ends w) (has_end ws) free in
+    let parts = or_parts (ends w) (list_any ends ws) free in
     let other : is_end t ≡ false = rw is parts.0 in
     let after : words_of (first_run ts) ≡ ws ++ sign (codes ";") ∷ [] = first_words ts ws rest parts.1 more in
     rw other (rw is (ap (λ xs. w ∷ xs) after))
@@ -85,7 +81,7 @@ first_words (t ∷ ts) (w ∷ ws) rest free h =
 pub read_statement : (f : ℕ) (ts : List Token) (s : Statement) (rest : List Word) → statement_at f (words_of ts) ≡ Some (s, rest) → IsStatement (words_of (first_run ts)) s
 read_statement f ts s rest h =
     let t = statement_takes f (words_of ts) s rest h in
-    record { formed = t.0; spelt = first_words ts (statement_body s) rest (body_no_end s) (t.1 ∙ append_assoc (statement_body s) (sign (codes ";") ∷ []) rest) }
+    record { formed = t.0; spelt = first_words ts (statement_body s) rest (body_free s) (t.1 ∙ append_assoc (statement_body s) (sign (codes ";") ∷ []) rest) }
 
 words_length : (ts : List Token) → length (words_of ts) ≡ length ts
 words_length [] = refl

@@ -4,11 +4,13 @@ use Rattle.std.specs.Prelude.{⊤}
 use Rattle.std.specs.List.{list_all, prefix_len}
 use Rattle.std.proofs.lemmas.List.Sums.{prefix_len-le-length}
 use Rattle.std.proofs.lemmas.Bool.Decides.{nat_tests}
+use Rattle.std.proofs.lemmas.Bool.{or_parts}
 use Rattle.cpo_text.specs.declared.piece.Piece.{Piece}
 use Rattle.cpo_text.specs.declared.piece.Piece.TheVariants.{Name, Int, Quoted, Blank, Line, Block}
 use Rattle.cpo_text.specs.Tokens.{is_letter, is_digit, is_name_byte, is_blank, is_sign_byte, is_sign_pair, is_on_line, is_quotable, begins, has_close, IsAtFront}
 use Rattle.cpo_text.specs.Lexing.{quote_len, close_len, slash_at, sign_at, piece_from, piece_at}
 use Rattle.cpo_text.proofs.Classes.{either, prefix_passes}
+use Rattle.cpo_text.specs.lemmas.Slashes.{no_comment, letter_no_slash, digit_no_slash, blank_no_slash}
 
 -- what is computed is a piece at the front, of one byte at least
 abbrev pub IsFound : List ℕ → Option (Piece × ℕ) → Type 0
@@ -68,10 +70,6 @@ and_false : (b : Bool) → (b && false) ≡ false
 and_false true = refl
 and_false false = refl
 
-or_parts : (a b : Bool) → (a || b) ≡ false → (a ≡ false) × (b ≡ false)
-or_parts false b h = (refl, h)
-or_parts true b h = cc
-
 -- no close begins at the last byte before a close either
 before_close : (b : ℕ) (bs inner : List ℕ) (n : ℕ) → take n bs ≡ inner ++ 42 ∷ 47 ∷ [] → begins 42 47 (b ∷ bs) ≡ false → begins 42 47 (b ∷ inner ++ 42 ∷ []) ≡ false
 before_close b [] [] n e h = and_false (b == 42)
@@ -114,41 +112,28 @@ close_again (b ∷ c ∷ cs) rest all =
 
 -- what is computed is at the front
 
-no_slash : (c : ℕ) (cs : List ℕ) → (c == 47) ≡ false → begins 47 42 (c ∷ cs) ≡ false
-no_slash c [] h = refl
-no_slash c (d ∷ ds) h = rw h refl
-
-letter_no_slash : (c : ℕ) → is_letter c ≡ true → (c == 47) ≡ false
-letter_no_slash c is = grind (arith, nat_tests)
-
-digit_no_slash : (c : ℕ) → is_digit c ≡ true → (c == 47) ≡ false
-digit_no_slash c is = grind (arith, nat_tests)
-
-blank_no_slash : (c : ℕ) → is_blank c ≡ true → (c == 47) ≡ false
-blank_no_slash c is = grind (arith, nat_tests)
-
 quote_no_slash : (c : ℕ) → (c == 34) ≡ true → (c == 47) ≡ false
 quote_no_slash c is = grind (arith, nat_tests)
 
 name_found : (c : ℕ) (cs : List ℕ) → is_letter c ≡ true → IsFound (c ∷ cs) (Some (Name, 1 + prefix_len is_name_byte cs))
 name_found c cs is =
     let size : 1 + prefix_len is_name_byte cs ≡ suc (prefix_len is_name_byte cs) = omega arith in
-    rw size ((omega (arith, prefix_len-le-length is_name_byte cs), (is, prefix_passes is_name_byte cs), no_slash c cs (letter_no_slash c is)), omega arith)
+    rw size ((omega (arith, prefix_len-le-length is_name_byte cs), (is, prefix_passes is_name_byte cs), no_comment c cs (letter_no_slash c is)), omega arith)
 
 int_found : (c : ℕ) (cs : List ℕ) → is_digit c ≡ true → IsFound (c ∷ cs) (Some (Int, 1 + prefix_len is_digit cs))
 int_found c cs is =
     let size : 1 + prefix_len is_digit cs ≡ suc (prefix_len is_digit cs) = omega arith in
-    rw size ((omega (arith, prefix_len-le-length is_digit cs), rw is (prefix_passes is_digit cs), no_slash c cs (digit_no_slash c is)), omega arith)
+    rw size ((omega (arith, prefix_len-le-length is_digit cs), rw is (prefix_passes is_digit cs), no_comment c cs (digit_no_slash c is)), omega arith)
 
 blank_found : (c : ℕ) (cs : List ℕ) → is_blank c ≡ true → IsFound (c ∷ cs) (Some (Blank, 1))
-blank_found c cs is = ((omega arith, is, no_slash c cs (blank_no_slash c is)), omega arith)
+blank_found c cs is = ((omega arith, is, no_comment c cs (blank_no_slash c is)), omega arith)
 
 quoted_found : (c : ℕ) (cs : List ℕ) (o : Option ℕ) → (c == 34) ≡ true → QuoteFound cs o → IsFound (c ∷ cs) (option_map (λ n. (Quoted, 1 + n)) o)
 quoted_found c cs None is h = tt
 quoted_found c cs (Some n) is h =
     let size : 1 + n ≡ suc n = omega arith in
     let head : c ≡ 34 = grind (arith, nat_tests) in
-    rw size ((let w = h.within in omega arith, (h.inner, rw head (ap (λ xs. 34 ∷ xs) h.is), h.all), no_slash c cs (quote_no_slash c is)), omega arith)
+    rw size ((let w = h.within in omega arith, (h.inner, rw head (ap (λ xs. 34 ∷ xs) h.is), h.all), no_comment c cs (quote_no_slash c is)), omega arith)
 
 block_found : (ds : List ℕ) (o : Option ℕ) → CloseFound ds o → IsFound (47 ∷ 42 ∷ ds) (option_map (λ n. (Block, 2 + n)) o)
 block_found ds None h = tt
@@ -174,8 +159,8 @@ sign_found : (c : ℕ) (cs : List ℕ) → (c == 47) ≡ false → IsFound (c �
 sign_found c [] other = either (IsFound (c ∷ [])) (is_sign_byte c) _ _ (λ is. ((omega arith, is, refl), omega arith)) (λ _. tt)
 sign_found c (d ∷ ds) other =
     either (IsFound (c ∷ d ∷ ds)) (is_sign_pair c d) _ _
-    (λ is. ((omega arith, is, no_slash c (d ∷ ds) other), omega arith))
-    (λ _. either (IsFound (c ∷ d ∷ ds)) (is_sign_byte c) _ _ (λ is. ((omega arith, is, no_slash c (d ∷ ds) other), omega arith)) (λ _. tt))
+    (λ is. ((omega arith, is, no_comment c (d ∷ ds) other), omega arith))
+    (λ _. either (IsFound (c ∷ d ∷ ds)) (is_sign_byte c) _ _ (λ is. ((omega arith, is, no_comment c (d ∷ ds) other), omega arith)) (λ _. tt))
 
 pub from_found : (c : ℕ) (cs : List ℕ) → IsFound (c ∷ cs) (piece_from c cs)
 from_found c cs =

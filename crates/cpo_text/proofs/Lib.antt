@@ -6,6 +6,7 @@ pub mod Fronts
 pub mod Covers
 pub mod Walks
 pub mod Steps
+pub mod Gaps
 pub mod Scans
 pub mod Binds
 pub mod Ones
@@ -18,8 +19,6 @@ pub mod Tables
 pub mod PartsTaken
 pub mod PartsAgain
 pub mod Surveyed
-pub mod NoEnds
-pub mod StatementEnds
 pub mod Firsts
 pub mod Forms
 pub mod Answered
@@ -41,4 +40,3 @@ pub mod Listing
 pub mod Listed
 pub mod Called
 pub mod Recalled
-pub mod CallEnds

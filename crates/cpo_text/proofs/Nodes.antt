@@ -105,9 +105,6 @@ pub and_second : (a b : Bool) → (a && b) ≡ true → b ≡ true
 and_second true b h = h
 and_second false b h = cc
 
-pub and_both : (a b : Bool) → a ≡ true → b ≡ true → (a && b) ≡ true
-and_both a b e f = rw (e, f) refl
-
 -- a level that is there is so high
 pub so_high : (n m : ℕ) (b : Bool) → b ≡ true → n ≤ m → at_least n (if_so b m) ≡ true
 so_high n m true h below = grind (arith, nat_tests)

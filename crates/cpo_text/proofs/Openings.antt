@@ -1,7 +1,6 @@
 -- Where the words of an expression begin, by its level.
-use Rattle.std.proofs.Common.{◌≡◌, ℕ, suc, ◌<◌, ◌≤◌, Bool, true, false, ◌&&◌, List, [], ◌∷◌, ◌++◌, length, map, Option, Some, None, refl, sym, ap, subst, ◌∙◌, arith, append-nil}
+use Rattle.std.proofs.Common.{◌≡◌, ℕ, suc, ◌<◌, ◌≤◌, Bool, true, false, ◌&&◌, List, [], ◌∷◌, ◌++◌, length, map, Option, Some, None, refl, sym, subst, ◌∙◌, arith, append-nil}
 use Rattle.std.specs.Prelude.{codes, bytes_eq, if◌then◌else◌}
-use Rattle.std.proofs.lemmas.Simd.{map-map}
 use Rattle.cpo_text.specs.Words.{Word, between}
 use Rattle.cpo_text.specs.Words.Word.{name, number, large, sign, quoted}
 use Rattle.cpo_text.specs.Expressions.{link_sign, joined, all_joined, sum_words, logic_step, logic_words, at_least, all_at_least, are_many, link_level, level_step, level}
@@ -12,6 +11,7 @@ use Rattle.cpo_text.specs.declared.expression.Logic.TheOpen.Logic-F.{Lit, Group,
 use Rattle.cpo_text.specs.declared.expression.Logic.TheFolds.{fold-roll-Logic, ind-Logic, map-Logic}
 use Rattle.cpo_text.proofs.Binds.{bytes_same}
 use Rattle.cpo_text.proofs.Nodes.{and_first, and_second, is_so, not_higher, looser}
+use Rattle.cpo_text.specs.lemmas.Folds.{composed}
 
 -- how tightly an expression may hold together that begins so
 abbrev pub front_level : List Word → Option ℕ
@@ -68,19 +68,6 @@ step_opens (Sum ps) n h = first_opens n 5 sum_words (let b = not_higher n 4 _ h 
 step_opens (Compare op p q) n h = front_append (logic_words p.0) _ n (p.1 n (looser n 4 (level p.0) (let b = not_higher n 3 _ h in omega arith) (and_first _ _ (is_so n 3 _ h))))
 step_opens (Not p) n h = looser n 3 (Some 3) (not_higher n 3 _ h) refl
 step_opens (Implies p q) n h = front_append (logic_words p.0) _ n (p.1 n (looser n 1 (level p.0) (let b = not_higher n 0 _ h in omega arith) (and_first _ _ (is_so n 0 _ h))))
-
-pub composed : (P : Logic → Type 0) (A : Type 0) (f : Logic → A) (y : Logic-F ((e : Logic) × P e)) → map-Logic Logic A f (map-Logic ((e : Logic) × P e) Logic (λ p. p.0) y) ≡ map-Logic ((e : Logic) × P e) A (λ p. f p.0) y
-composed P A f (Lit n) = refl
-composed P A f (Group p) = refl
-composed P A f (PresenceOf a) = refl
-composed P A f (Measured how a d) = refl
-composed P A f (Gathered g ps) = ap (λ (xs : List A). Gathered g xs) (map-map f (λ p. p.0) ps)
-composed P A f (Linked l ps) = ap (λ (xs : List A). Linked l xs) (map-map f (λ p. p.0) ps)
-composed P A f (Neg p) = refl
-composed P A f (Sum ps) = ap (λ (xs : List A). Sum xs) (map-map f (λ p. p.0) ps)
-composed P A f (Compare op p q) = refl
-composed P A f (Not p) = refl
-composed P A f (Implies p q) = refl
 
 pub words_open : (e : Logic) → Opens e
 words_open = ind-Logic Opens (λ x y is. subst (λ z. Opens (roll-Logic z)) is (λ n h.

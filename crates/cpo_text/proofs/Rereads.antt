@@ -36,9 +36,10 @@ use Rattle.cpo_text.proofs.Tables.{definition_name, definition_found, part_no_ca
 use Rattle.cpo_text.proofs.PartsAgain.{cumul_again, cumul_long, cumul_sign, cumul_begins, cumul_undefined, cumul_no_definition, bound_after, bound_no_equals, bounded_again, always_in_again}
 use Rattle.cpo_text.proofs.Recalled.{sequence_again, matrix_again, state_function_again, parts_again, no_overlap_again, extreme_again, ordered_again, always_equal_again, always_no_state_again}
 use Rattle.cpo_text.proofs.Nodes.{and_first, and_second, is_so}
-use Rattle.cpo_text.proofs.Openings.{front_between, front_sum, composed}
+use Rattle.cpo_text.proofs.Openings.{front_between, front_sum}
 use Rattle.cpo_text.proofs.Ends.{signs, ends}
 use Rattle.cpo_text.proofs.Owns.{again}
+use Rattle.cpo_text.specs.lemmas.Folds.{composed}
 
 -- how an expression begins, with no minus: with no name, or with one of its call words and a bracket
 abbrev pub front : List Word → Bool

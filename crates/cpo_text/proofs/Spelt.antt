@@ -1,7 +1,8 @@
 -- What is read as a statement is the spelling of that statement.
-use Rattle.std.proofs.Common.{◌≡◌, ℕ, zero, suc, ◌==◌, Bool, true, false, ◌&&◌, ◌||◌, not, cond, List, [], ◌∷◌, ◌++◌, length, map, Option, Some, None, refl, sym, ap, subst, ◌∙◌, append_assoc}
+use Rattle.std.proofs.Common.{◌≡◌, ℕ, zero, suc, ◌==◌, Bool, true, false, not, cond, List, [], ◌∷◌, ◌++◌, length, map, Option, Some, None, refl, sym, ap, subst, ◌∙◌, append_assoc}
 use Rattle.std.specs.Prelude.{codes}
 use Rattle.std.specs.List.{list_all}
+use Rattle.std.proofs.lemmas.Bool.{and_parts, or_parts, and_from}
 use Rattle.cpo_text.specs.Words.{Word, commas, round}
 use Rattle.cpo_text.specs.Words.Word.{name, sign}
 use Rattle.cpo_text.specs.Spelling.{int_words, int_items, name_words, ivarg_words, ivarg_sort, are_distinct, definition_words, temporal_word, constraint_words, statement_body, is_formed}
@@ -23,24 +24,13 @@ use Rattle.cpo_text.proofs.Takes.{behind_words, int_behind_takes, ivarg_takes}
 abbrev pub sorts : List Ivarg → List ℕ
 sorts args = map ivarg_sort args
 
-or_parts : (a b : Bool) → (a || b) ≡ false → (a ≡ false) × (b ≡ false)
-or_parts false b h = (refl, h)
-or_parts true b h = cc
-
-and_parts : (a b : Bool) → (a && b) ≡ true → (a ≡ true) × (b ≡ true)
-and_parts true b h = (refl, h)
-and_parts false b h = cc
-
-and_true : (a b : Bool) → a ≡ true → b ≡ true → (a && b) ≡ true
-and_true a b e f = rw (e, f) refl
-
 not_true : (b : Bool) → b ≡ false → not b ≡ true
 not_true b e = rw e refl
 
 -- a kind that none of the others has
 other_put : (n m : ℕ) (xs : List ℕ) → list_all (λ y. not (n == y)) xs ≡ true → (n == m) ≡ false → list_all (λ y. not (n == y)) (xs ++ m ∷ []) ≡ true
 other_put n m [] all new = rw new refl
-other_put n m (x ∷ xs) all new = let p = and_parts (not (n == x)) (list_all (λ y. not (n == y)) xs) all in and_true _ _ p.0 (other_put n m xs p.1 new)
+other_put n m (x ∷ xs) all new = let p = and_parts (not (n == x)) (list_all (λ y. not (n == y)) xs) all in and_from _ _ p.0 (other_put n m xs p.1 new)
 
 -- one more kind at the end
 pub distinct_put : (args : List Ivarg) (a : Ivarg) → are_distinct (sorts args) ≡ true → has_sort a args ≡ false → are_distinct (sorts (args ++ a ∷ [])) ≡ true
@@ -48,7 +38,7 @@ distinct_put [] a all new = refl
 distinct_put (b ∷ bs) a all new =
     let p = and_parts (list_all (λ y. not (ivarg_sort b == y)) (sorts bs)) (are_distinct (sorts bs)) all in
     let q = or_parts (ivarg_sort b == ivarg_sort a) (has_sort a bs) new in
-    and_true _ _ (subst (λ ys. list_all (λ y. not (ivarg_sort b == y)) ys ≡ true) (put_sorts bs a) (other_put (ivarg_sort b) (ivarg_sort a) (sorts bs) p.0 q.0)) (distinct_put bs a p.1 q.1)
+    and_from _ _ (subst (λ ys. list_all (λ y. not (ivarg_sort b == y)) ys ≡ true) (put_sorts bs a) (other_put (ivarg_sort b) (ivarg_sort a) (sorts bs) p.0 q.0)) (distinct_put bs a p.1 q.1)
   where
     put_sorts : (xs : List Ivarg) (x : Ivarg) → sorts xs ++ ivarg_sort x ∷ [] ≡ sorts (xs ++ x ∷ [])
     put_sorts [] x = refl

@@ -2,6 +2,7 @@
 use Rattle.std.proofs.Common.{◌≡◌, ℕ, zero, suc, Bool, true, false, ◌&&◌, cond, List, [], ◌∷◌, ◌++◌, length, map, Option, Some, None, refl, sym, ap, subst, ◌∙◌, arith, append_assoc, append-nil}
 use Rattle.std.specs.Prelude.{codes, bytes_eq}
 use Rattle.std.proofs.lemmas.Bool.Decides.{nat_tests}
+use Rattle.std.proofs.lemmas.Bool.{and_from}
 use Rattle.cpo_text.specs.Words.{Word, between, commas, round}
 use Rattle.cpo_text.specs.Words.Word.{name, number, large, sign, quoted}
 use Rattle.cpo_text.specs.Spelling.{int_words, int_items, name_words}
@@ -22,7 +23,7 @@ use Rattle.cpo_text.specs.declared.expression.Logic.{Logic}
 use Rattle.cpo_text.proofs.Binds.{both, bound_parts, need_parts, some_same, some_pair, bytes_same, behind_takes, name_takes}
 use Rattle.cpo_text.proofs.Takes.{behind_words, int_behind_takes}
 use Rattle.cpo_text.proofs.Nodes
-use Rattle.cpo_text.proofs.Nodes.{is_tight, all_tight, looser, so_high, and_both}
+use Rattle.cpo_text.proofs.Nodes.{is_tight, all_tight, looser, so_high}
 use Rattle.cpo_text.proofs.Took.{One, Many, Items, one_moved, prefix_took, pair_took, node_took, more_took, last_took, item_took}
 use Rattle.cpo_text.proofs.Openings.{plus_joined}
 
@@ -66,21 +67,21 @@ not_tight : (e : Logic) → is_tight 3 e ≡ true → is_tight 3 (negation e) �
 not_tight e h = subst (λ o. at_least 3 o ≡ true) (sym (Nodes.level_negation e)) (so_high 3 3 (is_tight 3 e) h (omega arith))
 
 implies_tight : (a b : Logic) → is_tight 1 a ≡ true → is_tight 0 b ≡ true → is_tight 0 (implies a b) ≡ true
-implies_tight a b h k = subst (λ o. at_least 0 o ≡ true) (sym (Nodes.level_implies a b)) (so_high 0 0 (is_tight 1 a && is_tight 0 b) (and_both _ _ h k) (omega arith))
+implies_tight a b h k = subst (λ o. at_least 0 o ≡ true) (sym (Nodes.level_implies a b)) (so_high 0 0 (is_tight 1 a && is_tight 0 b) (and_from _ _ h k) (omega arith))
 
 compare_tight : (op : Comparison) (a b : Logic) → is_tight 4 a ≡ true → is_tight 4 b ≡ true → is_tight 3 (compare op a b) ≡ true
-compare_tight op a b h k = subst (λ o. at_least 3 o ≡ true) (sym (Nodes.level_compare op a b)) (so_high 3 3 (is_tight 4 a && is_tight 4 b) (and_both _ _ h k) (omega arith))
+compare_tight op a b h k = subst (λ o. at_least 3 o ≡ true) (sym (Nodes.level_compare op a b)) (so_high 3 3 (is_tight 4 a && is_tight 4 b) (and_from _ _ h k) (omega arith))
 
 two : (x y : Logic) (ys : List Logic) → are_many (map level (x ∷ y ∷ ys)) ≡ true
 two x y ys = let n = length (map level ys) in grind (arith, nat_tests)
 
 linked_tight : (l : Link) (x y : Logic) (ys : List Logic) → all_tight (suc (link_level l)) (x ∷ y ∷ ys) ≡ true → is_tight (link_level l) (linked l (x ∷ y ∷ ys)) ≡ true
 linked_tight l x y ys h = subst (λ o. at_least (link_level l) o ≡ true) (sym (Nodes.level_linked l (x ∷ y ∷ ys)))
-    (so_high (link_level l) (link_level l) (are_many (map level (x ∷ y ∷ ys)) && all_tight (suc (link_level l)) (x ∷ y ∷ ys)) (and_both _ _ (two x y ys) h) (omega arith))
+    (so_high (link_level l) (link_level l) (are_many (map level (x ∷ y ∷ ys)) && all_tight (suc (link_level l)) (x ∷ y ∷ ys)) (and_from _ _ (two x y ys) h) (omega arith))
 
 total_tight : (x y : Logic) (ys : List Logic) → all_tight 5 (x ∷ y ∷ ys) ≡ true → is_tight 4 (total (x ∷ y ∷ ys)) ≡ true
 total_tight x y ys h = subst (λ o. at_least 4 o ≡ true) (sym (Nodes.level_total (x ∷ y ∷ ys)))
-    (so_high 4 4 (are_many (map level (x ∷ y ∷ ys)) && all_tight 5 (x ∷ y ∷ ys)) (and_both _ _ (two x y ys) h) (omega arith))
+    (so_high 4 4 (are_many (map level (x ∷ y ∷ ys)) && all_tight 5 (x ∷ y ∷ ys)) (and_from _ _ (two x y ys) h) (omega arith))
 
 -- words
 
@@ -172,7 +173,7 @@ gathers_some gather.Min x xs = let n = length (map level xs) in grind (arith, na
 gathers_some gather.Sum x xs = refl
 
 gathered_tight : (g : Gather) (es : List Logic) → gathers g (map level es) ≡ true → all_tight 0 es ≡ true → is_tight 7 (gathered g es) ≡ true
-gathered_tight g es some all = subst (λ o. at_least 7 o ≡ true) (sym (Nodes.level_gathered g es)) (so_high 7 7 (gathers g (map level es) && all_tight 0 es) (and_both _ _ some all) (omega arith))
+gathered_tight g es some all = subst (λ o. at_least 7 o ≡ true) (sym (Nodes.level_gathered g es)) (so_high 7 7 (gathers g (map level es) && all_tight 0 es) (and_from _ _ some all) (omega arith))
 
 none_took : (g : Gather) (ws : List Word) (es : List Logic) (rest : List Word) → gathered_none g ws ≡ Some (es, rest)
     → One 7 (name (gather_word g) ∷ sign (codes "(") ∷ sign (codes "[") ∷ sign (codes "]") ∷ ws) es rest

@@ -1,13 +1,14 @@
 -- What a reader of expressions takes is spelled so, and holds together as its level asks.
 use Rattle.std.proofs.Common.{◌≡◌, ℕ, ◌≤◌, true, List, [], ◌∷◌, ◌++◌, map, refl, sym, ap, subst, ◌∙◌, append_assoc}
 use Rattle.std.specs.Prelude.{codes}
+use Rattle.std.proofs.lemmas.Bool.{and_from}
 use Rattle.cpo_text.specs.Words.{Word, commas}
 use Rattle.cpo_text.specs.Words.Word.{sign}
 use Rattle.cpo_text.specs.Expressions.{logic_words, level}
 use Rattle.cpo_text.specs.Levels.{node, paired}
 use Rattle.cpo_text.specs.declared.expression.Logic.{Logic}
 use Rattle.cpo_text.proofs.Binds.{both}
-use Rattle.cpo_text.proofs.Nodes.{is_tight, all_tight, looser, and_both}
+use Rattle.cpo_text.proofs.Nodes.{is_tight, all_tight, looser}
 
 -- one expression
 pub record One (n : ℕ) (ws : List Word) (es : List Logic) (rest : List Word) : Type 0 where
@@ -66,7 +67,7 @@ node_took f words m n ws r a b es r2 rest below spell none tight one many same e
       tree = f (one.tree ∷ y ∷ ys);
       is = is;
       spelt = one.spelt ∙ ap (λ xs. logic_words one.tree ++ xs) spelt ∙ sym (append_assoc (logic_words one.tree) (words (y ∷ ys)) rest) ∙ ap (λ xs. xs ++ rest) (sym (spell one.tree y ys));
-      tight = tight one.tree y ys (and_both _ _ one.tight all);
+      tight = tight one.tree y ys (and_from _ _ one.tight all);
     }
 
 -- one operand more, behind its sign
@@ -78,7 +79,7 @@ more_took words g h s m n ws r a b es r2 r3 rest mapped tight spell front one ma
     subst (λ xs. Many n words ws xs rest) (ap (λ xs. xs ++ b) (sym (ap h one.is ∙ mapped one.tree)) ∙ same) (record {
       spelt = front ∙ ap (λ xs. sign s ∷ xs) (one.spelt ∙ ap (λ xs. logic_words one.tree ++ xs) (many.spelt ∙ ap (λ xs. words b ++ xs) end) ∙ sym (append_assoc (logic_words one.tree) (words b) rest))
           ∙ ap (λ xs. xs ++ rest) (sym (spell one.tree b one.tight));
-      tight = and_both _ _ (tight one.tree one.tight) many.tight;
+      tight = and_from _ _ (tight one.tree one.tight) many.tight;
     })
 
 -- expressions behind commas
@@ -95,7 +96,7 @@ last_took ws r a es rest one same end = record {
   others = [];
   are = sym same ∙ one.is;
   spelt = one.spelt ∙ ap (λ xs. logic_words one.tree ++ xs) end;
-  tight = and_both _ _ one.tight refl;
+  tight = and_from _ _ one.tight refl;
 }
 
 pub item_took : (ws r r2 : List Word) (a b es : List Logic) (r3 rest : List Word) → One 0 ws a r → r ≡ sign (codes ",") ∷ r2 → Items r2 b r3 → a ++ b ≡ es → r3 ≡ rest → Items ws es rest
@@ -107,5 +108,5 @@ item_took ws r r2 a b es r3 rest one mid more same end =
       are = sym same ∙ both (λ (xs ys : List Logic). xs ++ ys) one.is more.are;
       spelt = one.spelt ∙ ap (λ xs. logic_words one.tree ++ xs) (mid ∙ ap (λ xs. sign (codes ",") ∷ xs) (more.spelt ∙ ap (λ xs. later ++ xs) end))
           ∙ sym (append_assoc (logic_words one.tree) (sign (codes ",") ∷ later) rest);
-      tight = and_both _ _ one.tight more.tight;
+      tight = and_from _ _ one.tight more.tight;
     }

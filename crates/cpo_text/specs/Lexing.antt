@@ -38,6 +38,13 @@ unfoldable pub piece_at : List ℕ → Option (Piece × ℕ)
 piece_at [] = None
 piece_at (c ∷ cs) = piece_from c cs
 
+-- the length of the piece, where it is a blank or a comment
+abbrev pub gap_of : Option (Piece × ℕ) → Option ℕ
+gap_of (Some (Blank, n)) = Some n
+gap_of (Some (Line, n)) = Some n
+gap_of (Some (Block, n)) = Some n
+gap_of _ = None
+
 abbrev pub after : Option (Piece × ℕ) → (ℕ → List (Piece × ℕ)) → List (Piece × ℕ)
 after None more = []
 after (Some p) more = p ∷ more (p.1 - 1)

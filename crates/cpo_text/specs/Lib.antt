@@ -19,3 +19,4 @@ pub mod Gives
 pub mod Surveys
 pub mod Reads
 pub mod Laws
+pub mod lemmas

@@ -112,7 +112,7 @@ fn joint(place: Place<'_>) -> Option<(bool, Place<'_>)>
     match token.word {
         Word::Sign(bytes) => {
             let minus = joint_of(bytes)?;
-            Some((minus, rest))
+            Some((minus, rest.onto()))
         }
         _ => None,
     }
@@ -186,7 +186,7 @@ fn bound(place: Place<'_>) -> Option<(Bound, Place<'_>)>
     match token.word {
         Word::Sign(bytes) => {
             let bound = bound_of(bytes)?;
-            Some((bound, rest))
+            Some((bound, rest.onto()))
         }
         _ => None,
     }

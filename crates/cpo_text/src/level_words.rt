@@ -54,7 +54,7 @@ pub fn comparison(place: Place<'_>) -> Option<(Comparison, Place<'_>)>
     match token.word {
         Word::Sign(bytes) => {
             let comparison = comparison_of(bytes)?;
-            Some((comparison, rest))
+            Some((comparison, rest.onto()))
         }
         _ => None,
     }
@@ -105,6 +105,6 @@ pub fn plain(place: Place<'_>) -> Option<(Token<'_>, Place<'_>)>
     if is_sign(b"!", token.word) || is_sign(b"-", token.word) {
         None
     } else {
-        Some((token, rest))
+        Some((token, rest.onto()))
     }
 }

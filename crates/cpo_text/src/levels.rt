@@ -99,7 +99,7 @@ fn atom(alloc: Global, fuel: u32, place: Place<'_>) -> Result<(Logic, Place<'_>)
         return Err(Fault::Outside);
     }
     match place.next() {
-        Some((token, rest)) => atom_of(alloc, fuel, token.word, rest),
+        Some((token, rest)) => atom_of(alloc, fuel, token.word, rest.onto()),
         None => Err(Fault::Outside),
     }
 }

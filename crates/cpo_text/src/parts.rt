@@ -27,7 +27,7 @@ pub fn behind<'a>(sign: &[u8], place: Place<'a>) -> Option<Place<'a>>
 {
     let (token, rest) = place.next()?;
     if is_sign(sign, token.word) {
-        Some(rest)
+        Some(rest.onto())
     } else {
         None
     }
@@ -49,7 +49,7 @@ pub fn name(place: Place<'_>) -> Result<(&[u8], Place<'_>), Fault>
 {
     match place.next() {
         Some((token, rest)) => match token.word {
-            Word::Name(bytes) => Ok((bytes, rest)),
+            Word::Name(bytes) => Ok((bytes, rest.onto())),
             _ => Err(Fault::Outside),
         },
         None => Err(Fault::Outside),
@@ -63,7 +63,7 @@ pub fn next_name(place: Place<'_>) -> Option<(&[u8], Place<'_>)>
 {
     let (token, rest) = place.next()?;
     match token.word {
-        Word::Name(bytes) => Some((bytes, rest)),
+        Word::Name(bytes) => Some((bytes, rest.onto())),
         _ => None,
     }
 }
@@ -84,7 +84,7 @@ pub fn size(place: Place<'_>) -> Result<(Option<u64>, Place<'_>), Fault>
 {
     match place.next() {
         Some((token, rest)) => match token.word {
-            Word::Number(value) => Ok((value, rest)),
+            Word::Number(value) => Ok((value, rest.onto())),
             _ => Err(Fault::Outside),
         },
         None => Err(Fault::Outside),

@@ -1,7 +1,7 @@
 ghost use Rattle.std.specs.Prelude.{◌≡◌, ◌==◌, ◌||◌, length, IfSome, ◌≤◌};
 ghost use Rattle.std.specs.List.{prefix_len};
 ghost use Rattle.cpo_text.specs.Tokens.{is_letter, is_digit, is_name_byte, is_blank, is_sign_byte, is_sign_pair, is_on_line, is_comment, begins};
-ghost use Rattle.cpo_text.specs.Lexing.{quote_len, close_len, slash_at, sign_at, piece_from, piece_at};
+ghost use Rattle.cpo_text.specs.Lexing.{quote_len, close_len, slash_at, sign_at, piece_from, piece_at, gap_of};
 
 /// What a text is made of: tokens of four kinds, single blanks, and comments to the end of a line
 /// or up to a close.
@@ -218,5 +218,40 @@ pub fn piece_at(bytes: &[u8]) -> Option<(Piece, usize)>
             }
             piece_from(*first, rest)
         }
+    }
+}
+
+/// The length of a piece that is a blank or a comment.
+fn gap_of(piece: Option<(Piece, usize)>) -> Option<usize>
+    ensures { result ≡ gap_of piece }
+{
+    match piece {
+        Some((Piece::Blank | Piece::Line | Piece::Block, len)) => Some(len),
+        _ => None,
+    }
+}
+
+/// The length of the piece that begins with this byte, where it is a blank or a comment.
+#[tactic(auto, using(crate::proofs::Gaps::blank_gap, crate::proofs::Gaps::slash_gap, crate::proofs::Gaps::no_gap))]
+fn gap_from(first: u8, rest: &[u8]) -> Option<usize>
+    ensures { result ≡ gap_of (piece_from first rest.now) }
+{
+    if is_blank(first) {
+        Some(1)
+    } else if first == b'/' {
+        gap_of(slash_at(rest))
+    } else {
+        None
+    }
+}
+
+/// The length of the piece at the front, where that is a blank or a comment.
+#[tactic(auto, unfolding(crate::specs::Lexing::piece_at))]
+pub fn gap_at(bytes: &[u8]) -> Option<usize>
+    ensures { result ≡ gap_of (piece_at bytes.now) }
+{
+    match bytes {
+        [] => None,
+        [first, rest @ ..] => gap_from(*first, rest),
     }
 }

@@ -51,7 +51,7 @@ fn statements(alloc: Global, text: &[u8]) -> Result<List<Reading>, NoMemory>
     ensures { IfOk result (λ readings. AreReadings (told (runs (tokens_from 0 text.now))) readings) }
 {
     let mut readings = List::new(alloc);
-    let mut here = Place::start(text);
+    let mut here = Place::start(text).onto();
     while let Some((token, _)) = here.next() {
         if readings.len() >= TOLD_LIMIT {
             return Ok(readings);
@@ -61,7 +61,7 @@ fn statements(alloc: Global, text: &[u8]) -> Result<List<Reading>, NoMemory>
             at: token.at as u64,
             form,
         })?;
-        here = behind;
+        here = behind.onto();
     }
     Ok(readings)
 }

@@ -1,18 +1,10 @@
 -- Lists of distinct numbers below a bound.
 use Rattle.std.proofs.Common.{◌≡◌, ℕ, ◌<◌, ◌≤◌, Bool, true, false, ◌||◌, List, [], ◌∷◌, ◌++◌, Some, length, nat_eq, refl, sym, ap, ◌∙◌, arith}
-use Rattle.std.proofs.lemmas.Bool.{eq-eqb, eqb-true, eqb-false}
+use Rattle.std.proofs.lemmas.Bool.{eq-eqb, eqb-true, eqb-false, or_parts, or_right}
 use Rattle.std.proofs.lemmas.Map.Steps.{length-le_from_distinct_below}
 use Rattle.std.specs.List.{IsDistinct, AllByRecursion, list_any}
 use Rattle.iqueue.specs.Queue.{AreDistinctBelow, is_in}
 use Rattle.iqueue.specs.Links.{newest}
-
-or_false : (a b : Bool) → (a || b) ≡ false → (a ≡ false) × (b ≡ false)
-or_false true b h = cc
-or_false false b h = (refl, h)
-
-or_true : (a b : Bool) → b ≡ true → (a || b) ≡ true
-or_true true b h = refl
-or_true false b h = h
 
 test_no : (a b : ℕ) → (a ≡ b → ⊥) → nat_eq a b ≡ false
 test_no a b other = decided (nat_eq a b) refl
@@ -22,7 +14,7 @@ test_no a b other = decided (nat_eq a b) refl
     decided false is = is
 
 pub apart : (k j : ℕ) (js : List ℕ) → is_in k (j ∷ js) ≡ false → (k ≡ j → ⊥) × (is_in k js ≡ false)
-apart k j js absent = let r = or_false (nat_eq k j) (is_in k js) absent in (eqb-false k j r.0, r.1)
+apart k j js absent = let r = or_parts (nat_eq k j) (is_in k js) absent in (eqb-false k j r.0, r.1)
 
 pub in_head : (k : ℕ) (js : List ℕ) → is_in k (k ∷ js) ≡ true
 in_head k js = rw (eq-eqb k k refl) refl
@@ -32,7 +24,7 @@ in_tail j k ks other = rw (test_no j k other) refl
 
 pub in_end : (k : ℕ) (ks : List ℕ) → is_in k (ks ++ k ∷ []) ≡ true
 in_end k [] = in_head k []
-in_end k (a ∷ ks) = or_true (nat_eq k a) (is_in k (ks ++ k ∷ [])) (in_end k ks)
+in_end k (a ∷ ks) = or_right (nat_eq k a) (is_in k (ks ++ k ∷ [])) (in_end k ks)
 
 pub in_front : (j k : ℕ) (ks : List ℕ) → (j ≡ k → ⊥) → is_in j (ks ++ k ∷ []) ≡ is_in j ks
 in_front j k [] other = in_tail j k [] other
@@ -41,7 +33,7 @@ in_front j k (a ∷ ks) other = ap (λ t. nat_eq j a || t) (in_front j k ks othe
 pub newest_in : (l : ℕ) (ks : List ℕ) → newest ks ≡ Some l → is_in l ks ≡ true
 newest_in l [] is = cc
 newest_in l (a ∷ []) is = let same : a ≡ l = cc in rw same (in_head l [])
-newest_in l (a ∷ b ∷ ks) is = or_true (nat_eq l a) (is_in l (b ∷ ks)) (newest_in l (b ∷ ks) is)
+newest_in l (a ∷ b ∷ ks) is = or_right (nat_eq l a) (is_in l (b ∷ ks)) (newest_in l (b ∷ ks) is)
 
 pub newest_end : (k : ℕ) (ks : List ℕ) → newest (ks ++ k ∷ []) ≡ Some k
 newest_end k [] = refl
@@ -57,7 +49,7 @@ distinct_end n k (a ∷ ks) are below absent =
 -- no more than the bound
 unlike : (k : ℕ) (ks : List ℕ) → is_in k ks ≡ false → AllByRecursion (λ j. nat_eq k j ≡ false) ks
 unlike k [] absent = tt
-unlike k (j ∷ js) absent = let r = or_false (nat_eq k j) (is_in k js) absent in (r.0, unlike k js r.1)
+unlike k (j ∷ js) absent = let r = or_parts (nat_eq k j) (is_in k js) absent in (r.0, unlike k js r.1)
 
 distinct_std : (n : ℕ) (ks : List ℕ) → AreDistinctBelow n ks → IsDistinct nat_eq ks
 unfolding IsDistinct

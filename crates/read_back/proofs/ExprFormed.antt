@@ -3,6 +3,7 @@ use Rattle.std.proofs.Common.{◌≡◌, ◌∙◌, ℕ, suc, ℤ, pos, negsuc, 
 use Rattle.std.specs.List.{list_all}
 use Rattle.std.proofs.lemmas.Simd.{map-map}
 use Rattle.std.proofs.lemmas.Bool.Decides.{nat_tests}
+use Rattle.std.proofs.lemmas.Bool.{and_parts, and_from}
 use Rattle.sched_model.specs.declared.types.Expr.{Expr}
 use Rattle.sched_model.specs.declared.types.Expr.TheOpen.{Expr-F, Expr-F as expr}
 use Rattle.sched_model.specs.declared.types.Expr.TheFolds.{map-Expr}
@@ -20,7 +21,6 @@ use Rattle.cpo_text.specs.declared.expression.Logic.TheFolds.{fold-roll-Logic, m
 use Rattle.cpo_text.specs.declared.expression.Logic.TheViews.{roll-Logic}
 use Rattle.read_back.specs.Trees.{Told, plain, composed, negated, wholes, operands, summed, comparison_tree, told_step, told}
 use Rattle.read_back.specs.Written.{written_step, is_written_expr}
-use Rattle.read_back.proofs.Truth.{both, joined}
 use Rattle.read_back.proofs.ExprFolds.{Known, folded, by_levels, is_tree, is_written_tree}
 
 -- how tightly each way of telling an expression holds together
@@ -75,14 +75,14 @@ record Rows (ts : List Told) : Type 0 where
 each : (m : Data) (ps : List (Part m)) → list_all (λ b. b) (map (λ p. is_tree m p.0) ps) ≡ true → list_all (λ b. b) (map (λ p. is_written_tree p.0) ps) ≡ true → Rows (tolds m ps)
 each m [] h w = record { wholes_formed = refl; operands_formed = λ n few. refl; laters_formed = refl }
 each m (p ∷ ps) h w =
-    let tree = both (is_tree m p.0) _ h in
-    let written = both (is_written_tree p.0) _ w in
+    let tree = and_parts (is_tree m p.0) _ h in
+    let written = and_parts (is_written_tree p.0) _ w in
     let first = p.1 tree.0 written.0 in
     let rest = each m ps tree.1 written.1 in
     record {
-      wholes_formed = joined _ _ first.whole rest.wholes_formed;
-      operands_formed = λ n few. joined _ _ (weaker n 7 few (level (told m p.0).operand) first.operand) (rest.operands_formed n few);
-      laters_formed = joined _ _ first.later rest.laters_formed;
+      wholes_formed = and_from _ _ first.whole rest.wholes_formed;
+      operands_formed = λ n few. and_from _ _ (weaker n 7 few (level (told m p.0).operand) first.operand) (rest.operands_formed n few);
+      laters_formed = and_from _ _ first.later rest.laters_formed;
     }
 
 two_or_more : (n : ℕ) → nat_le 2 (suc (suc n)) ≡ true
@@ -103,12 +103,12 @@ sum_formed : (m : Data) (ps : List (Part m)) → list_all (λ b. b) (map (λ p. 
 sum_formed m [] h w = composed_formed _ 7 (out (Gathered gather.Sum []))
 sum_formed m (p ∷ []) h w = composed_formed _ 7 (out (Gathered gather.Sum ((told m p.0).whole ∷ [])) ∙ so _ 7 (each m (p ∷ []) h w).wholes_formed)
 sum_formed m (p ∷ q ∷ ps) h w =
-    let tree = both (is_tree m p.0) _ h in
-    let written = both (is_written_tree p.0) _ w in
+    let tree = and_parts (is_tree m p.0) _ h in
+    let written = and_parts (is_written_tree p.0) _ w in
     let first = weaker 5 7 refl (level (told m p.0).operand) (p.1 tree.0 written.0).operand in
     let rest = (each m (q ∷ ps) tree.1 written.1).laters_formed in
     let terms : List Logic = (told m p.0).operand ∷ map (λ t. t.later) (tolds m (q ∷ ps)) in
-    composed_formed _ 4 (out (Sum terms) ∙ so _ 4 (joined (are_many (map level terms)) (all_at_least 5 (map level terms)) (two_or_more _) (joined _ _ first rest)))
+    composed_formed _ 4 (out (Sum terms) ∙ so _ 4 (and_from (are_many (map level terms)) (all_at_least 5 (map level terms)) (two_or_more _) (and_from _ _ first rest)))
 
 link_few : (l : Link) → nat_le (suc (link_level l)) 7 ≡ true
 link_few link.Times = refl
@@ -118,10 +118,10 @@ link_few link.Or = refl
 linked_formed : (m : Data) (l : Link) (ps : List (Part m)) → (not (is_empty (map (λ p. is_tree m p.0) ps)) && list_all (λ b. b) (map (λ p. is_tree m p.0) ps)) ≡ true
     → (are_many (map (λ p. is_written_tree p.0) ps) && list_all (λ b. b) (map (λ p. is_written_tree p.0) ps)) ≡ true → Formed (composed (roll-Logic (Linked l (operands (tolds m ps)))))
 linked_formed m l ps h w =
-    let written = both (are_many (map (λ p. is_written_tree p.0) ps)) _ w in
-    let rows = each m ps (both _ _ h).1 written.1 in
+    let written = and_parts (are_many (map (λ p. is_written_tree p.0) ps)) _ w in
+    let rows = each m ps (and_parts _ _ h).1 written.1 in
     let levels : map level (operands (tolds m ps)) ≡ map (λ p. level (told m p.0).operand) ps = ap (map level) (map-map (λ t. t.operand) (λ p. told m p.0) ps) ∙ map-map level (λ p. (told m p.0).operand) ps in
-    composed_formed _ (link_level l) (out (Linked l (operands (tolds m ps))) ∙ so _ (link_level l) (joined _ _
+    composed_formed _ (link_level l) (out (Linked l (operands (tolds m ps))) ∙ so _ (link_level l) (and_from _ _
     (ap are_many levels ∙ many_of (λ p. is_written_tree p.0) (λ p. level (told m p.0).operand) ps written.0)
     (rows.operands_formed (suc (link_level l)) (link_few l))))
 
@@ -129,9 +129,9 @@ linked_formed m l ps h w =
 some_formed : (m : Data) (ps : List (Part m)) → (not (is_empty (map (λ p. is_tree m p.0) ps)) && list_all (λ b. b) (map (λ p. is_tree m p.0) ps)) ≡ true
     → list_all (λ b. b) (map (λ p. is_written_tree p.0) ps) ≡ true → (nat_le 1 (length (map level (wholes (tolds m ps)))) && all_at_least 0 (map level (wholes (tolds m ps)))) ≡ true
 some_formed m ps h w =
-    let tree = both (not (is_empty (map (λ p. is_tree m p.0) ps))) _ h in
+    let tree = and_parts (not (is_empty (map (λ p. is_tree m p.0) ps))) _ h in
     let levels : map level (wholes (tolds m ps)) ≡ map (λ p. level (told m p.0).whole) ps = ap (map level) (map-map (λ t. t.whole) (λ p. told m p.0) ps) ∙ map-map level (λ p. (told m p.0).whole) ps in
-    joined _ _ (ap (λ ls. nat_le 1 (length ls)) levels ∙ some_of (λ p. is_tree m p.0) (λ p. level (told m p.0).whole) ps tree.0) (each m ps tree.1 w).wholes_formed
+    and_from _ _ (ap (λ ls. nat_le 1 (length ls)) levels ∙ some_of (λ p. is_tree m p.0) (λ p. level (told m p.0).whole) ps tree.0) (each m ps tree.1 w).wholes_formed
 
 literal_formed : (m : Data) (z : ℤ) → Formed (told_step m (expr.Lit z))
 literal_formed m (pos n) = plain_formed _ (out (Lit _))
@@ -154,20 +154,20 @@ step m (expr.Product ps) h w = linked_formed m link.Times ps h w
 step m (expr.Max ps) h w = plain_formed _ (out (Gathered gather.Max (wholes (tolds m ps))) ∙ so _ 7 (some_formed m ps h w))
 step m (expr.Min ps) h w = plain_formed _ (out (Gathered gather.Min (wholes (tolds m ps))) ∙ so _ 7 (some_formed m ps h w))
 step m (expr.Compare o p q) h w =
-    let tree = both (is_tree m p.0) (is_tree m q.0) h in
-    let written = both (is_written_tree p.0) (is_written_tree q.0) w in
-    composed_formed _ 3 (out (Compare (comparison_tree o) (told m p.0).operand (told m q.0).operand) ∙ so _ 3 (joined _ _ (at_operand m p tree.0 written.0 4 refl) (at_operand m q tree.1 written.1 4 refl)))
+    let tree = and_parts (is_tree m p.0) (is_tree m q.0) h in
+    let written = and_parts (is_written_tree p.0) (is_written_tree q.0) w in
+    composed_formed _ 3 (out (Compare (comparison_tree o) (told m p.0).operand (told m q.0).operand) ∙ so _ 3 (and_from _ _ (at_operand m p tree.0 written.0 4 refl) (at_operand m q tree.1 written.1 4 refl)))
 step m (expr.Not p) h w = composed_formed _ 3 (out (Not (told m p.0).operand) ∙ so _ 3 (at_operand m p h w 3 refl))
 step m (expr.And ps) h w = linked_formed m link.And ps h w
 step m (expr.Or ps) h w = linked_formed m link.Or ps h w
 step m (expr.Implies p q) h w =
-    let tree = both (is_tree m p.0) (is_tree m q.0) h in
-    let written = both (is_written_tree p.0) (is_written_tree q.0) w in
-    composed_formed _ 0 (out (Implies (told m p.0).operand (told m q.0).operand) ∙ so _ 0 (joined _ _ (at_operand m p tree.0 written.0 1 refl) (at_operand m q tree.1 written.1 0 refl)))
+    let tree = and_parts (is_tree m p.0) (is_tree m q.0) h in
+    let written = and_parts (is_written_tree p.0) (is_written_tree q.0) w in
+    composed_formed _ 0 (out (Implies (told m p.0).operand (told m q.0).operand) ∙ so _ 0 (and_from _ _ (at_operand m p tree.0 written.0 1 refl) (at_operand m q tree.1 written.1 0 refl)))
 
 tree_formed : (m : Data) (e : Expr) → Forms m e
 tree_formed m = by_levels (Forms m) (λ y h w. subst Formed (sym (folded (Forms m) Told (told_step m) y))
     (step m y (sym (folded (Forms m) Bool (expr_step m) y) ∙ h) (sym (folded (Forms m) Bool written_step y) ∙ w)))
 
 pub expressions_are_formed : (m : Data) (e : Expr) → is_expr m e ≡ true → is_written_expr e ≡ true → at_least 0 (level (told m e).whole) ≡ true
-expressions_are_formed m e h w = (tree_formed m e (both (is_tree m e) _ h).0 (both (is_written_tree e) _ w).0).whole
+expressions_are_formed m e h w = (tree_formed m e (and_parts (is_tree m e) _ h).0 (and_parts (is_written_tree e) _ w).0).whole

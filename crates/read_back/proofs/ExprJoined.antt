@@ -1,6 +1,7 @@
 -- Texts whose ends are known say the words of all, one behind the other: in brackets, in lists and in calls.
 use Rattle.std.proofs.Common.{◌≡◌, ◌∙◌, ℕ, ℤ, pos, negsuc, suc, true, ◌||◌, nat_le, List, [], ◌∷◌, ◌++◌, codes, refl, ap, append_assoc, append-nil, subst}
 use Rattle.std.specs.Fmt.{decimal, signed_decimal}
+use Rattle.std.proofs.lemmas.Bool.{or_right}
 use Rattle.sched_model.specs.Bounds.{is_small}
 use Rattle.cpo_text.specs.Words.{Word, Word as word, between, square, round, call}
 use Rattle.sched_model.specs.Words.{is_empty}
@@ -9,7 +10,6 @@ use Rattle.cpo_text.specs.Parts.{int_words}
 use Rattle.sched_text.specs.Pieces as pieces
 use Rattle.read_back.specs.Trees.{int_tree}
 use Rattle.read_back.specs.Says.{Says, Chunk, Chunk as chunk, chunk_bytes, chunk_words, is_sign, is_chunk}
-use Rattle.read_back.proofs.Truth.{either_right}
 use Rattle.read_back.proofs.Numbers.{small_literal}
 use Rattle.read_back.proofs.Joined.{meet, says_joined, nothing, a_chunk}
 use Rattle.read_back.proofs.Edges.{Edge, Edge.{Free, Signs, Words}, meets, fits_front, fits_back, begins, ends, begins_more, ends_more, seam}
@@ -116,7 +116,7 @@ pub none_join : (a b : Edge) → MayJoin a b [] []
 none_join a b = record { says = nothing; first = refl; last = refl }
 
 pub some_join : {a b : Edge} {t : List ℕ} {w : List Word} → Joins a b t w → MayJoin a b t w
-some_join x = record { says = x.says; first = either_right _ _ x.first; last = either_right _ _ x.last }
+some_join x = record { says = x.says; first = or_right _ _ x.first; last = or_right _ _ x.last }
 
 -- something, and then what may be empty
 pub join_may : {a b c : Edge} {t u : List ℕ} {v w : List Word} → meets b c ≡ true → Joins a b t v → MayJoin c b u w → Joins a b (t ++ u) (v ++ w)

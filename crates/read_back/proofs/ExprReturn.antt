@@ -1,6 +1,7 @@
 -- The tree of an expression means that expression in each model with the same intervals.
 use Rattle.std.proofs.Common.{◌≡◌, ◌∙◌, ℤ, pos, negsuc, Bool, true, not, ◌&&◌, List, [], ◌∷◌, map, Some, int_le, refl, sym, ap, ap₂, subst}
 use Rattle.std.specs.List.{list_all}
+use Rattle.std.proofs.lemmas.Bool.{and_parts}
 use Rattle.sched_base.specs.declared.ids.Itv.{Itv}
 use Rattle.sched_model.specs.declared.types.CompareOp.{CompareOp}
 use Rattle.sched_model.specs.declared.types.CompareOp.TheVariants as op
@@ -29,7 +30,6 @@ use Rattle.cpo_elab.specs.Elaborated.{measure_of, link_of, compare_of, expr_of}
 use Rattle.sched_text.specs.Pieces.{interval_name}
 use Rattle.read_back.specs.Trees.{int_tree, Told, composed, wholes, operands, summed, comparison_tree, measured, told_step, told}
 use Rattle.read_back.specs.Written.{written_step, is_written_expr}
-use Rattle.read_back.proofs.Truth.{both}
 use Rattle.read_back.proofs.Names.{itv_back}
 use Rattle.read_back.proofs.ExprFolds.{Known, made, folded, by_levels, Thrice, of_plain, of_composed, of_negated, is_tree, is_written_tree}
 use Rattle.read_back.proofs.Numbers.{size_back, int_back, small_literal}
@@ -65,8 +65,8 @@ record Rows (n : Data) (es : List Expr) (ts : List Told) : Type 0 where
 each : (m n : Data) (ps : List (Part m n)) → list_all (λ b. b) (map (λ p. is_tree m p.0) ps) ≡ true → list_all (λ b. b) (map (λ p. is_written_tree p.0) ps) ≡ true → Rows n (exprs m n ps) (tolds m n ps)
 each m n [] h w = record { wholes_mean = refl; operands_mean = refl; laters_mean = refl }
 each m n (p ∷ ps) h w =
-    let tree = both (is_tree m p.0) _ h in
-    let written = both (is_written_tree p.0) _ w in
+    let tree = and_parts (is_tree m p.0) _ h in
+    let written = and_parts (is_written_tree p.0) _ w in
     let first = p.1 tree.0 written.0 in
     let rest = each m n ps tree.1 written.1 in
     record { wholes_mean = λ i. first.whole i ∷ rest.wholes_mean i; operands_mean = λ i. first.operand i ∷ rest.operands_mean i; laters_mean = λ i. first.later i ∷ rest.laters_mean i }
@@ -77,15 +77,15 @@ sum_of m n [] h w = of_composed _ (group n _) _ (out n (Gathered gather.Sum []))
 sum_of m n (p ∷ []) h w =
     of_composed _ (group n _) _ (out n (Gathered gather.Sum ((told m p.0).whole ∷ [])) ∙ ap (λ es. roll-Expr (expr.Sum es)) (each m n (p ∷ []) h w).wholes_mean)
 sum_of m n (p ∷ q ∷ ps) h w =
-    let tree = both (is_tree m p.0) _ h in
-    let written = both (is_written_tree p.0) _ w in
+    let tree = and_parts (is_tree m p.0) _ h in
+    let written = and_parts (is_written_tree p.0) _ w in
     let first = (p.1 tree.0 written.0).operand in
     let rest = (each m n (q ∷ ps) tree.1 written.1).laters_mean in
     of_composed _ (group n _) _ (out n (Sum ((told m p.0).operand ∷ map (λ t. t.later) (tolds m n (q ∷ ps)))) ∙ (λ i. roll-Expr (expr.Sum (first i ∷ rest i))))
 
 measured_back : (m n : Data) → IsValid m → n.intervals ≡ m.intervals → (how : Measure) (x : Itv) (d : ℤ) → (is_itv m x && is_small d) ≡ true → Thrice (Means n (measure_of how x d)) (measured m how x d)
 measured_back m n valid same how x d h =
-    let parts = both (is_itv m x) (is_small d) h in
+    let parts = and_parts (is_itv m x) (is_small d) h in
     of_plain _ _ (out n (Measured how (interval_name m x) (Some (int_tree d))) ∙ ap₂ (measure_of how) (itv_back m n same valid x parts.0) (int_back d parts.1))
 
 literal_back : (m n : Data) (z : ℤ) → is_small z ≡ true → int_le (pos 0) z ≡ true → Thrice (Means n (roll-Expr (expr.Lit z))) (told_step m (expr.Lit z))
@@ -96,7 +96,7 @@ linked_back : (m n : Data) (l : Link) (ps : List (Part m n)) → (not (is_empty 
     → (are_many (map (λ p. is_written_tree p.0) ps) && list_all (λ b. b) (map (λ p. is_written_tree p.0) ps)) ≡ true
     → Thrice (Means n (link_of l (exprs m n ps))) (composed (roll-Logic (Linked l (operands (tolds m n ps)))))
 linked_back m n l ps h w =
-    of_composed _ (group n _) _ (out n (Linked l (operands (tolds m n ps))) ∙ ap (link_of l) (each m n ps (both _ _ h).1 (both _ _ w).1).operands_mean)
+    of_composed _ (group n _) _ (out n (Linked l (operands (tolds m n ps))) ∙ ap (link_of l) (each m n ps (and_parts _ _ h).1 (and_parts _ _ w).1).operands_mean)
 
 compared : (o : CompareOp) → compare_of (comparison_tree o) ≡ o
 compared op.Eq = refl
@@ -117,11 +117,11 @@ level m n valid same (expr.PresenceOf x) h w = of_plain _ _ (out n (PresenceOf (
 level m n valid same (expr.Neg p) h w = of_negated _ (group n _) _ (out n (Neg (told m p.0).operand) ∙ ap (λ e. roll-Expr (expr.Neg e)) (p.1 h w).operand)
 level m n valid same (expr.Sum ps) h w = sum_of m n ps h w
 level m n valid same (expr.Product ps) h w = linked_back m n link.Times ps h w
-level m n valid same (expr.Max ps) h w = of_plain _ _ (out n (Gathered gather.Max (wholes (tolds m n ps))) ∙ ap (λ es. roll-Expr (expr.Max es)) (each m n ps (both _ _ h).1 w).wholes_mean)
-level m n valid same (expr.Min ps) h w = of_plain _ _ (out n (Gathered gather.Min (wholes (tolds m n ps))) ∙ ap (λ es. roll-Expr (expr.Min es)) (each m n ps (both _ _ h).1 w).wholes_mean)
+level m n valid same (expr.Max ps) h w = of_plain _ _ (out n (Gathered gather.Max (wholes (tolds m n ps))) ∙ ap (λ es. roll-Expr (expr.Max es)) (each m n ps (and_parts _ _ h).1 w).wholes_mean)
+level m n valid same (expr.Min ps) h w = of_plain _ _ (out n (Gathered gather.Min (wholes (tolds m n ps))) ∙ ap (λ es. roll-Expr (expr.Min es)) (each m n ps (and_parts _ _ h).1 w).wholes_mean)
 level m n valid same (expr.Compare o p q) h w =
-    let tree = both (is_tree m p.0) (is_tree m q.0) h in
-    let written = both (is_written_tree p.0) (is_written_tree q.0) w in
+    let tree = and_parts (is_tree m p.0) (is_tree m q.0) h in
+    let written = and_parts (is_written_tree p.0) (is_written_tree q.0) w in
     let first = (p.1 tree.0 written.0).operand in
     let second = (q.1 tree.1 written.1).operand in
     of_composed _ (group n _) _ (out n (Compare (comparison_tree o) (told m p.0).operand (told m q.0).operand) ∙ (λ i. roll-Expr (expr.Compare (compared o i) (first i) (second i))))
@@ -129,8 +129,8 @@ level m n valid same (expr.Not p) h w = of_composed _ (group n _) _ (out n (Not 
 level m n valid same (expr.And ps) h w = linked_back m n link.And ps h w
 level m n valid same (expr.Or ps) h w = linked_back m n link.Or ps h w
 level m n valid same (expr.Implies p q) h w =
-    let tree = both (is_tree m p.0) (is_tree m q.0) h in
-    let written = both (is_written_tree p.0) (is_written_tree q.0) w in
+    let tree = and_parts (is_tree m p.0) (is_tree m q.0) h in
+    let written = and_parts (is_written_tree p.0) (is_written_tree q.0) w in
     let first = (p.1 tree.0 written.0).operand in
     let second = (q.1 tree.1 written.1).operand in
     of_composed _ (group n _) _ (out n (Implies (told m p.0).operand (told m q.0).operand) ∙ (λ i. roll-Expr (expr.Implies (first i) (second i))))
@@ -140,4 +140,4 @@ tree_returns m n valid same = by_levels (Back m n) (λ y h w. subst (Thrice (Mea
     (level m n valid same y (sym (folded (Back m n) Bool (expr_step m) y) ∙ h) (sym (folded (Back m n) Bool written_step y) ∙ w)))
 
 pub expressions_return : (m n : Data) (e : Expr) → IsValid m → n.intervals ≡ m.intervals → is_expr m e ≡ true → is_written_expr e ≡ true → expr_of n (told m e).whole ≡ e
-expressions_return m n e valid same h w = (tree_returns m n valid same e (both (is_tree m e) _ h).0 (both (is_written_tree e) _ w).0).whole
+expressions_return m n e valid same h w = (tree_returns m n valid same e (and_parts (is_tree m e) _ h).0 (and_parts (is_written_tree e) _ w).0).whole

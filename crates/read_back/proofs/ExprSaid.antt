@@ -2,6 +2,7 @@
 use Rattle.std.proofs.Common.{◌≡◌, ◌∙◌, ℕ, ℤ, pos, negsuc, Bool, true, false, not, ◌&&◌, if◌then◌else◌, int_le, List, [], ◌∷◌, ◌++◌, codes, map, flat_map, Some, refl, sym, ap, subst, subst₂}
 use Rattle.std.specs.List.{list_all}
 use Rattle.std.specs.Fmt.{signed_decimal}
+use Rattle.std.proofs.lemmas.Bool.{and_parts}
 use Rattle.sched_base.specs.declared.ids.Itv.{Itv}
 use Rattle.sched_model.specs.declared.types.CompareOp.{CompareOp}
 use Rattle.sched_model.specs.declared.types.CompareOp.TheVariants as op
@@ -35,7 +36,6 @@ use Rattle.read_back.specs.Trees.{int_tree, Told, plain, composed, negated, whol
 use Rattle.read_back.specs.Written.{IsWritten, written_step, is_written_expr}
 use Rattle.read_back.specs.Says as says
 use Rattle.read_back.specs.Says.{Says, Chunk as chunk, is_chunk}
-use Rattle.read_back.proofs.Truth.{both}
 use Rattle.read_back.proofs.ExprFolds.{Known, folded, by_levels, is_tree, is_written_tree}
 use Rattle.read_back.proofs.Spelt.{interval_told, are_told}
 use Rattle.read_back.proofs.Edges.{Edge.{Free, Signs, Words}}
@@ -100,8 +100,8 @@ record Rows (ss : List Shown) (ts : List Told) : Type 0 where
 each : (m : Data) (ps : List (Part m)) → list_all (λ b. b) (map (λ p. is_tree m p.0) ps) ≡ true → list_all (λ b. b) (map (λ p. is_written_tree p.0) ps) ≡ true → Rows (showns m ps) (tolds m ps)
 each m [] h w = record { all_wholes = tt; all_operands = tt; all_laters = none_join Free Signs }
 each m (p ∷ ps) h w =
-    let tree = both (is_tree m p.0) _ h in
-    let written = both (is_written_tree p.0) _ w in
+    let tree = and_parts (is_tree m p.0) _ h in
+    let written = and_parts (is_written_tree p.0) _ w in
     let first = p.1 tree.0 written.0 in
     let rest = each m ps tree.1 written.1 in
     record { all_wholes = (first.whole, rest.all_wholes); all_operands = (first.operand, rest.all_operands); all_laters = some_join (join_may refl first.later rest.all_laters) }
@@ -116,8 +116,8 @@ sum_spoken : (m : Data) (ps : List (Part m)) → list_all (λ b. b) (map (λ p. 
 sum_spoken m [] h w = composed_spoken _ _ _ (out (Gathered gather.Sum [])) (listed_spoken gather.Sum refl [] [] tt)
 sum_spoken m (p ∷ []) h w = composed_spoken _ _ _ (out (Gathered gather.Sum ((told m p.0).whole ∷ []))) (listed_spoken gather.Sum refl ((shown m p.0).whole ∷ []) ((told m p.0).whole ∷ []) (each m (p ∷ []) h w).all_wholes)
 sum_spoken m (p ∷ q ∷ ps) h w =
-    let tree = both (is_tree m p.0) _ h in
-    let written = both (is_written_tree p.0) _ w in
+    let tree = and_parts (is_tree m p.0) _ h in
+    let written = and_parts (is_written_tree p.0) _ w in
     composed_spoken _ _ _ (out (Sum ((told m p.0).operand ∷ map (λ t. t.later) (tolds m (q ∷ ps))))) (join_may refl (p.1 tree.0 written.0).operand (each m (q ∷ ps) tree.1 written.1).all_laters)
 
 link_is_sign : (l : Link) → says.is_sign (link_sign l) ≡ true
@@ -130,17 +130,17 @@ linked_spoken : (m : Data) (l : Link) (ps : List (Part m)) → (not (is_empty (m
     → Spoken (text.composed (pieces.between (link_sign l) (text.operands (showns m ps)))) (composed (roll-Logic (Linked l (operands (tolds m ps)))))
 linked_spoken m l [] h w = cc
 linked_spoken m l (p ∷ ps) h w =
-    composed_spoken _ _ _ (out (Linked l (operands (tolds m (p ∷ ps))))) (between_join (link_sign l) (link_is_sign l) _ _ _ _ (each m (p ∷ ps) h (both _ _ w).1).all_operands)
+    composed_spoken _ _ _ (out (Linked l (operands (tolds m (p ∷ ps))))) (between_join (link_sign l) (link_is_sign l) _ _ _ _ (each m (p ∷ ps) h (and_parts _ _ w).1).all_operands)
 
 some_spoken : (m : Data) (g : Gather) → is_chunk (chunk.name (gather_word g)) ≡ true → (ps : List (Part m)) → (not (is_empty (map (λ p. is_tree m p.0) ps)) && list_all (λ b. b) (map (λ p. is_tree m p.0) ps)) ≡ true
     → list_all (λ b. b) (map (λ p. is_written_tree p.0) ps) ≡ true
     → Spoken (text.plain (pieces.call (gather_word g) (pieces.listed (text.wholes (showns m ps)) ∷ []))) (plain (roll-Logic (Gathered g (wholes (tolds m ps)))))
-some_spoken m g is ps h w = plain_spoken _ _ _ _ (out (Gathered g (wholes (tolds m ps)))) refl (listed_spoken g is (text.wholes (showns m ps)) (wholes (tolds m ps)) (each m ps (both _ _ h).1 w).all_wholes)
+some_spoken m g is ps h w = plain_spoken _ _ _ _ (out (Gathered g (wholes (tolds m ps)))) refl (listed_spoken g is (text.wholes (showns m ps)) (wholes (tolds m ps)) (each m ps (and_parts _ _ h).1 w).all_wholes)
 
 measured_spoken : (m : Data) → IsValid m → IsWritten m → (how : Measure) → is_chunk (chunk.name (measure_word how)) ≡ true → (x : Itv) (d : ℤ) → (is_itv m x && is_small d) ≡ true
     → Spoken (text.plain (pieces.call (measure_word how) (interval_name m x ∷ signed_decimal d ∷ []))) (measured m how x d)
 measured_spoken m valid written how is x d h =
-    let parts = both (is_itv m x) (is_small d) h in
+    let parts = and_parts (is_itv m x) (is_small d) h in
     plain_spoken _ _ _ _ (out (Measured how (interval_name m x) (Some (int_tree d)))) refl
     (loose_back Signs (call_join (measure_word how) is (interval_name m x) (signed_decimal d ∷ []) (name_words (interval_name m x)) (int_words (int_tree d) ∷ []) (said_name (interval_name m x) (interval_told m x (are_told m valid written) parts.0), (said_int d parts.1, tt))))
 
@@ -171,15 +171,15 @@ step m valid written (expr.Product ps) h w = linked_spoken m link.Times ps h w
 step m valid written (expr.Max ps) h w = some_spoken m gather.Max refl ps h w
 step m valid written (expr.Min ps) h w = some_spoken m gather.Min refl ps h w
 step m valid written (expr.Compare o p q) h w =
-    let tree = both (is_tree m p.0) (is_tree m q.0) h in
-    let parts = both (is_written_tree p.0) (is_written_tree q.0) w in
+    let tree = and_parts (is_tree m p.0) (is_tree m q.0) h in
+    let parts = and_parts (is_written_tree p.0) (is_written_tree q.0) w in
     composed_spoken _ _ _ (out (Compare (comparison_tree o) (told m p.0).operand (told m q.0).operand)) (join_three refl refl (p.1 tree.0 parts.0).operand (comparison_said o) (q.1 tree.1 parts.1).operand)
 step m valid written (expr.Not p) h w = composed_spoken _ _ _ (out (Not (told m p.0).operand)) (join refl (said_sign Signs Words (codes "!") refl refl refl) (p.1 h w).operand)
 step m valid written (expr.And ps) h w = linked_spoken m link.And ps h w
 step m valid written (expr.Or ps) h w = linked_spoken m link.Or ps h w
 step m valid written (expr.Implies p q) h w =
-    let tree = both (is_tree m p.0) (is_tree m q.0) h in
-    let parts = both (is_written_tree p.0) (is_written_tree q.0) w in
+    let tree = and_parts (is_tree m p.0) (is_tree m q.0) h in
+    let parts = and_parts (is_written_tree p.0) (is_written_tree q.0) w in
     composed_spoken _ _ _ (out (Implies (told m p.0).operand (told m q.0).operand)) (join_three refl refl (p.1 tree.0 parts.0).operand (said_sign Words Words (codes "=>") refl refl refl) (q.1 tree.1 parts.1).operand)
 
 tree_spoken : (m : Data) → IsValid m → IsWritten m → (e : Expr) → Speaks m e
@@ -187,7 +187,7 @@ tree_spoken m valid written = by_levels (Speaks m) (λ y h w. subst₂ Spoken (s
     (step m valid written y (sym (folded (Speaks m) Bool (expr_step m) y) ∙ h) (sym (folded (Speaks m) Bool written_step y) ∙ w)))
 
 expression_joins : (m : Data) (e : Expr) → IsValid m → IsWritten m → is_expr m e ≡ true → is_written_expr e ≡ true → Joins Signs Signs (shown m e).whole (logic_words (told m e).whole)
-expression_joins m e valid written h w = (tree_spoken m valid written e (both (is_tree m e) _ h).0 (both (is_written_tree e) _ w).0).whole
+expression_joins m e valid written h w = (tree_spoken m valid written e (and_parts (is_tree m e) _ h).0 (and_parts (is_written_tree e) _ w).0).whole
 
 pub expressions_are_said : (m : Data) (e : Expr) → IsValid m → IsWritten m → is_expr m e ≡ true → is_written_expr e ≡ true → Says (shown m e).whole (logic_words (told m e).whole)
 expressions_are_said m e valid written h w = (expression_joins m e valid written h w).says

@@ -3,10 +3,11 @@ use Rattle.std.proofs.Common.{◌≡◌, ◌∙◌, ℕ, Bool, true, List, [], �
 use Rattle.std.specs.Prelude.{IsTrue, nat_le}
 use Rattle.std.specs.Fmt.{decimal}
 use Rattle.std.proofs.lemmas.Grind.{flat_map-append}
+use Rattle.std.proofs.lemmas.Bool.{and_parts, and_from}
+use Rattle.base_laws.specs.laws.Items.{all_append}
 use Rattle.cpo_text.specs.Words.{Word, Word as word}
 use Rattle.cpo_text.specs.Tokens.{literal_limit}
 use Rattle.read_back.specs.Says.{Says, Chunk, Chunk as chunk, chunk_bytes, chunk_words, is_chunk, is_apart, are_apart}
-use Rattle.read_back.proofs.Truth.{both, joined, all_append}
 
 -- the last of some chunks may stand beside the first of others
 abbrev pub meet : List Chunk → List Chunk → Bool
@@ -18,10 +19,10 @@ meet (c ∷ b ∷ cs) ds = meet (b ∷ cs) ds
 pub apart_joined : (cs ds : List Chunk) → are_apart cs ≡ true → are_apart ds ≡ true → meet cs ds ≡ true → are_apart (cs ++ ds) ≡ true
 apart_joined [] ds first second seam = second
 apart_joined (c ∷ []) [] first second seam = refl
-apart_joined (c ∷ []) (d ∷ ds) first second seam = joined (is_apart c d) (are_apart (d ∷ ds)) seam second
+apart_joined (c ∷ []) (d ∷ ds) first second seam = and_from (is_apart c d) (are_apart (d ∷ ds)) seam second
 apart_joined (c ∷ b ∷ cs) ds first second seam =
-    let parts = both (is_apart c b) (are_apart (b ∷ cs)) first in
-    joined (is_apart c b) (are_apart (b ∷ cs ++ ds)) parts.0 (apart_joined (b ∷ cs) ds parts.1 second seam)
+    let parts = and_parts (is_apart c b) (are_apart (b ∷ cs)) first in
+    and_from (is_apart c b) (are_apart (b ∷ cs ++ ds)) parts.0 (apart_joined (b ∷ cs) ds parts.1 second seam)
 
 abbrev pub says_joined : {t u : List ℕ} {v w : List Word} → (x : Says t v) → (y : Says u w) → meet x.chunks y.chunks ≡ true → Says (t ++ u) (v ++ w)
 says_joined x y seam = record {
@@ -38,7 +39,7 @@ abbrev pub nothing : Says [] []
 nothing = record { chunks = []; spelt = refl; said = refl; are = refl; apart = refl }
 
 abbrev pub a_chunk : (c : Chunk) → is_chunk c ≡ true → Says (chunk_bytes c) (chunk_words c)
-a_chunk c is = record { chunks = c ∷ []; spelt = sym (append-nil (chunk_bytes c)); said = sym (append-nil (chunk_words c)); are = joined (is_chunk c) true is refl; apart = refl }
+a_chunk c is = record { chunks = c ∷ []; spelt = sym (append-nil (chunk_bytes c)); said = sym (append-nil (chunk_words c)); are = and_from (is_chunk c) true is refl; apart = refl }
 
 pub a_name : (n : List ℕ) → IsTrue (is_chunk (chunk.name n)) → Says n (word.name n ∷ [])
 a_name n is = a_chunk (chunk.name n) is

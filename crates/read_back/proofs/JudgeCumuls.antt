@@ -3,6 +3,8 @@ use Rattle.std.proofs.Common.{◌≡◌, ℕ, true, false, not, List, [], ◌∷
 use Rattle.std.specs.List.{filter, list_all, cons_option}
 use Rattle.std.proofs.lemmas.List.{append_assoc, append-nil}
 use Rattle.std.proofs.lemmas.List.Elements.{filter_map-append}
+use Rattle.std.proofs.lemmas.Bool.{or_from}
+use Rattle.base_laws.specs.laws.Kept.{names_kept}
 use Rattle.sched_model.specs.declared.types.SequenceDef.{SequenceDef}
 use Rattle.sched_model.specs.declared.types.CumulDef.{CumulDef}
 use Rattle.sched_model.specs.Words.{is_empty}
@@ -15,11 +17,10 @@ use Rattle.cpo_elab.specs.Judged.{is_outside, is_reversed}
 use Rattle.cpo_elab.specs.Numbered.{is_named_sequence, is_named_cumul, parted}
 use Rattle.read_back.specs.Trees.{cumul_tree, parts_tree}
 use Rattle.read_back.proofs.Items.{item}
-use Rattle.read_back.proofs.Truth.{nor}
 use Rattle.read_back.proofs.JudgeFrame.{StepBy}
 use Rattle.read_back.proofs.JudgeLimits.{made, Fronts, front_none, front_all, made_within}
 use Rattle.read_back.proofs.JudgeFresh.{Next, next_fresh, next_short, in_fourth}
-use Rattle.read_back.proofs.JudgeNamed.{filter_push, filter_skip, named_front, names_kept}
+use Rattle.read_back.proofs.JudgeNamed.{filter_push, filter_skip, named_front}
 use Rattle.read_back.proofs.JudgeParts.{parts_back, clean_parts}
 
 abbrev pub at_cumuls : Data → List CumulDef → Data
@@ -66,11 +67,11 @@ cumul_made m v seqs cums some front back d (Some name) is named =
         fresh = next_fresh m n name v next;
         names = λ test blind. clean.names test blind;
         joins = refl;
-        ordered = nor (some_moments is_reversed (parts_tree m d.parts)) false clean.ordered refl;
+        ordered = or_from (some_moments is_reversed (parts_tree m d.parts)) false clean.ordered refl;
         signs = clean.signs;
         fitting = refl;
         once = refl;
-        narrow = nor (nat_lt 64 (length name)) _ (next_short m n name v next) (nor (some_moments is_outside (parts_tree m d.parts)) _ clean.inside (nor (some_height is_large (parts_tree m d.parts)) false clean.small refl));
+        narrow = or_from (nat_lt 64 (length name)) _ (next_short m n name v next) (or_from (some_moments is_outside (parts_tree m d.parts)) _ clean.inside (or_from (some_height is_large (parts_tree m d.parts)) false clean.small refl));
         room = ap is_within_limits made_it ∙ made_within m m.intervals m.matrices g (filter is_named_cumul (front ++ d ∷ [])) [] [] v.limits fronts;
         single = refl;
         hull = refl;

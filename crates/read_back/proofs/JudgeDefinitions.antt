@@ -3,6 +3,9 @@ use Rattle.std.proofs.Common.{◌≡◌, ◌*◌, ℤ, pos, Bool, true, false, L
 use Rattle.std.specs.List.{list_all, list_any}
 use Rattle.std.proofs.lemmas.List.{map-append}
 use Rattle.std.proofs.lemmas.Int.{ints}
+use Rattle.std.proofs.lemmas.Bool.{and_from, or_from, not_from_true}
+use Rattle.base_laws.specs.laws.Truth.{four_true}
+use Rattle.base_laws.specs.laws.Numbers.{at_most}
 use Rattle.sched_model.specs.declared.types.IntervalDef.{IntervalDef}
 use Rattle.sched_model.specs.declared.types.MatrixDef.{MatrixDef}
 use Rattle.sched_model.specs.Data.{Data}
@@ -14,7 +17,7 @@ use Rattle.cpo_elab.specs.Held.{some_range, some_in_rows}
 use Rattle.cpo_elab.specs.Elaborated.{plain_interval, with_ivargs, interval_of, matrix_named, after}
 use Rattle.cpo_elab.specs.Judged.{is_negative, is_reversed, is_outside, is_large}
 use Rattle.read_back.specs.Trees.{optional_args, range_tree, interval_tree, matrix_tree}
-use Rattle.read_back.proofs.Truth.{four, joined, nor, not_true, not_below, at_most, same_number}
+use Rattle.read_back.proofs.Truth.{not_below, same_number}
 use Rattle.read_back.proofs.JudgeNumbers.{span_back, span_inside, span_ordered, amount_sign, amount_size, row_trees, rows_back, row_number, rows_square, rows_pass}
 use Rattle.read_back.proofs.JudgeFrame.{Clean}
 use Rattle.read_back.proofs.JudgeLimits.{made, Fronts, front_none, front_all, front_to, made_within}
@@ -27,7 +30,7 @@ abbrev ranges : IntervalDef → List Ivarg
 ranges d = ivarg.Start (range_tree d.start_lo d.start_hi) ∷ ivarg.End (range_tree d.end_lo d.end_hi) ∷ ivarg.Size (range_tree d.size_lo d.size_hi) ∷ []
 
 past_optional : (p : Ivarg → Bool) (b : Bool) (args : List Ivarg) → p ivarg.Optional ≡ false → list_any p args ≡ false → list_any p (optional_args b ++ args) ≡ false
-past_optional p true args first rest = nor (p ivarg.Optional) _ first rest
+past_optional p true args first rest = or_from (p ivarg.Optional) _ first rest
 past_optional p false args first rest = rest
 
 record Spans (d : IntervalDef) : Type 0 where
@@ -38,14 +41,14 @@ record Spans (d : IntervalDef) : Type 0 where
 
 spans : (d : IntervalDef) → is_interval_def d ≡ true → Spans d
 spans d h =
-    let parts = four (is_span_of_moments d.start_lo d.start_hi) (is_span_of_moments d.end_lo d.end_hi) (is_span_of_moments d.size_lo d.size_hi) (int_le (pos 0) d.size_lo) h in
+    let parts = four_true (is_span_of_moments d.start_lo d.start_hi) (is_span_of_moments d.end_lo d.end_hi) (is_span_of_moments d.size_lo d.size_hi) (int_le (pos 0) d.size_lo) h in
     record { starts = parts.0; ends = parts.1; sizes = parts.2; sign = parts.3 }
 
 ranges_pass : (test : ℤ × ℤ → Bool) → ((lo hi : ℤ) → is_span_of_moments lo hi ≡ true → test (lo, hi) ≡ false) → (d : IntervalDef) → Spans d → some_range test (optional_args d.optional ++ ranges d) ≡ false
 ranges_pass test weak d s = past_optional _ d.optional (ranges d) refl
-    (nor (test (range_of (range_tree d.start_lo d.start_hi))) _ (ap test (span_back d.start_lo d.start_hi s.starts) ∙ weak d.start_lo d.start_hi s.starts)
-    (nor (test (range_of (range_tree d.end_lo d.end_hi))) _ (ap test (span_back d.end_lo d.end_hi s.ends) ∙ weak d.end_lo d.end_hi s.ends)
-    (nor (test (range_of (range_tree d.size_lo d.size_hi))) false (ap test (span_back d.size_lo d.size_hi s.sizes) ∙ weak d.size_lo d.size_hi s.sizes) refl)))
+    (or_from (test (range_of (range_tree d.start_lo d.start_hi))) _ (ap test (span_back d.start_lo d.start_hi s.starts) ∙ weak d.start_lo d.start_hi s.starts)
+    (or_from (test (range_of (range_tree d.end_lo d.end_hi))) _ (ap test (span_back d.end_lo d.end_hi s.ends) ∙ weak d.end_lo d.end_hi s.ends)
+    (or_from (test (range_of (range_tree d.size_lo d.size_hi))) false (ap test (span_back d.size_lo d.size_hi s.sizes) ∙ weak d.size_lo d.size_hi s.sizes) refl)))
 
 not_negative : (z : ℤ) → int_le (pos 0) z ≡ true → is_negative z ≡ false
 not_negative z h = grind (arith, ints)
@@ -92,12 +95,12 @@ interval_step m v front back d is =
         fresh = next_fresh m (at_intervals front) d.name v next;
         names = λ test blind. refl;
         joins = refl;
-        ordered = nor (some_range is_reversed (optional_args d.optional ++ ranges d)) false (ranges_pass is_reversed span_ordered d s) refl;
-        signs = nor (list_any _ (optional_args d.optional ++ ranges d)) false (past_optional _ d.optional (ranges d) refl
-            (nor (is_negative (range_of (range_tree d.size_lo d.size_hi)).0) false (ap (λ r. is_negative r.0) (span_back d.size_lo d.size_hi s.sizes) ∙ not_negative d.size_lo s.sign) refl)) refl;
+        ordered = or_from (some_range is_reversed (optional_args d.optional ++ ranges d)) false (ranges_pass is_reversed span_ordered d s) refl;
+        signs = or_from (list_any _ (optional_args d.optional ++ ranges d)) false (past_optional _ d.optional (ranges d) refl
+            (or_from (is_negative (range_of (range_tree d.size_lo d.size_hi)).0) false (ap (λ r. is_negative r.0) (span_back d.size_lo d.size_hi s.sizes) ∙ not_negative d.size_lo s.sign) refl)) refl;
         fitting = refl;
         once = refl;
-        narrow = nor (nat_lt 64 (length d.name)) _ (next_short m (at_intervals front) d.name v next) (nor (some_range is_outside (optional_args d.optional ++ ranges d)) false (ranges_pass is_outside span_inside d s) refl);
+        narrow = or_from (nat_lt 64 (length d.name)) _ (next_short m (at_intervals front) d.name v next) (or_from (some_range is_outside (optional_args d.optional ++ ranges d)) false (ranges_pass is_outside span_inside d s) refl);
         room = ap is_within_limits made_it ∙ made_within m (front ++ d ∷ []) [] [] [] [] [] v.limits fronts;
         single = refl;
         hull = refl;
@@ -131,7 +134,7 @@ record Square (d : MatrixDef) : Type 0 where
 
 square : (d : MatrixDef) → is_matrix_def d ≡ true → Square d
 square d h =
-    let parts = four (nat_le 1 d.size) (nat_le d.size 200) (nat_eq (length d.cells) (d.size * d.size)) (list_all is_amount d.cells) h in
+    let parts = four_true (nat_le 1 d.size) (nat_le d.size 200) (nat_eq (length d.cells) (d.size * d.size)) (list_all is_amount d.cells) h in
     record { some = parts.0; few = parts.1; number = same_number (length d.cells) (d.size * d.size) parts.2; amounts = parts.3 }
 
 matrix_back : (d : MatrixDef) → Square d → matrix_named d.name (row_trees d.size d.size d.cells) ≡ d
@@ -155,11 +158,11 @@ matrix_step m v front back d is =
         joins = refl;
         ordered = refl;
         signs = rows_pass is_negative amount_sign d.size d.size d.cells s.amounts;
-        fitting = not_true _ (joined (nat_le 1 (length rows)) (list_all (λ row. nat_eq (length row) (length rows)) rows) (ap (nat_le 1) number ∙ s.some)
+        fitting = not_from_true _ (and_from (nat_le 1 (length rows)) (list_all (λ row. nat_eq (length row) (length rows)) rows) (ap (nat_le 1) number ∙ s.some)
             (ap (λ n. list_all (λ row. nat_eq (length row) n) rows) number ∙ rows_square d.size d.size d.cells s.number));
         once = refl;
-        narrow = nor (nat_lt 64 (length d.name)) _ (next_short m (at_matrices m front) d.name v next)
-            (nor (some_in_rows is_large rows) (nat_lt 200 (length rows)) (rows_pass is_large amount_size d.size d.size d.cells s.amounts) (ap (nat_lt 200) number ∙ not_below d.size 200 (at_most d.size 200 s.few)));
+        narrow = or_from (nat_lt 64 (length d.name)) _ (next_short m (at_matrices m front) d.name v next)
+            (or_from (some_in_rows is_large rows) (nat_lt 200 (length rows)) (rows_pass is_large amount_size d.size d.size d.cells s.amounts) (ap (nat_lt 200) number ∙ not_below d.size 200 (at_most d.size 200 s.few)));
         room = ap is_within_limits made_it ∙ made_within m m.intervals (front ++ d ∷ []) [] [] [] [] v.limits fronts;
         single = refl;
         hull = refl;

@@ -2,6 +2,7 @@
 use Rattle.std.proofs.Common.{◌≡◌, ℕ, ◌+◌, ◌≤◌, true, false, not, List, [], ◌∷◌, ◌++◌, map, filter_map, length, nat_lt, Option, Some, None, refl, sym, ap, subst, ◌∙◌, arith}
 use Rattle.std.specs.List.{cons_option}
 use Rattle.std.proofs.lemmas.List.{append_assoc, append-nil}
+use Rattle.std.proofs.lemmas.Bool.{or_from, not_from_true}
 use Rattle.sched_model.specs.Data.{Data}
 use Rattle.sched_model.specs.Valid.{are_distinct}
 use Rattle.cpo_text.specs.declared.tree.Statement.{Statement}
@@ -14,7 +15,7 @@ use Rattle.cpo_elab.specs.Numbered.{named_first}
 use Rattle.cpo_elab.specs.Judged.{is_unknown, is_of_other_sort, defines_again, lacks_member, has_reversed, has_negative, misfits, is_wide, leaves_room, statement_limit, aims_again, has_no_hull, has_crowded, number_in}
 use Rattle.cpo_elab.specs.Answers.{judged, refused_or, number_at, after_form}
 use Rattle.cpo_elab.specs.Answers.Answer.{Accepted}
-use Rattle.read_back.proofs.Truth.{nor, not_true, not_below}
+use Rattle.read_back.proofs.Truth.{not_below}
 use Rattle.read_back.proofs.JudgeNames.{Blind, blind_unknown, blind_sort}
 use Rattle.read_back.proofs.NoNumber.{no_number}
 
@@ -37,12 +38,12 @@ passed : (n : Data) (k : ℕ) (s : Statement) → k ≤ statement_limit → Clea
 passed n k s few clean = no_number n k s (record {
   again = clean.fresh;
   unknown = clean.names (is_unknown n) (blind_unknown n);
-  wrong = nor (some_name (is_of_other_sort n) s) (lacks_member n s) (clean.names (is_of_other_sort n) (blind_sort n)) clean.joins;
+  wrong = or_from (some_name (is_of_other_sort n) s) (lacks_member n s) (clean.names (is_of_other_sort n) (blind_sort n)) clean.joins;
   reversed = clean.ordered;
   negative = clean.signs;
   misfit = clean.fitting;
-  twice = not_true _ clean.once;
-  limit = nor (nat_lt statement_limit k) _ (not_below k statement_limit few) (nor (is_wide s) (not (leaves_room n s)) clean.narrow (not_true _ clean.room));
+  twice = not_from_true _ clean.once;
+  limit = or_from (nat_lt statement_limit k) _ (not_below k statement_limit few) (or_from (is_wide s) (not (leaves_room n s)) clean.narrow (not_from_true _ clean.room));
   aimed = clean.single;
   hull = clean.hull;
   crowded = clean.sparse;

@@ -3,12 +3,14 @@ use Rattle.std.proofs.Common.{◌≡◌, ℕ, suc, true, false, List, [], ◌∷
 use Rattle.std.specs.List.{list_all}
 use Rattle.std.proofs.lemmas.List.{append_assoc, append-nil}
 use Rattle.std.proofs.lemmas.Bool.Decides.{nat_tests}
+use Rattle.std.proofs.lemmas.Bool.{and_parts}
+use Rattle.base_laws.specs.laws.Truth.{three_true}
 use Rattle.sched_model.specs.Data.{Data}
 use Rattle.sched_model.specs.Valid as valid
 use Rattle.sched_model.specs.Valid.{IsValid, all_names, is_name}
 use Rattle.cpo_elab.specs.Named.{is_defined}
 use Rattle.read_back.proofs.Names.{AreApart, names_apart}
-use Rattle.read_back.proofs.Truth.{both, each, all_from}
+use Rattle.read_back.proofs.Truth.{all_from}
 use Rattle.read_back.proofs.JudgeNames.{none_before, not_defined}
 
 pub record Next (n m : Data) (name : List ℕ) : Type 0 where
@@ -20,13 +22,13 @@ next_fresh m n name v next = not_defined n name (none_before (all_names n) next.
 
 short_name : (name : List ℕ) → is_name name ≡ true → nat_lt 64 (length name) ≡ false
 short_name [] h = cc
-short_name (c ∷ cs) h = fits (length cs) (each (valid.is_letter c) (list_all valid.is_name_byte cs) (nat_lt (length cs) 64) h).2 where
+short_name (c ∷ cs) h = fits (length cs) (three_true (valid.is_letter c) (list_all valid.is_name_byte cs) (nat_lt (length cs) 64) h).2 where
   fits : (n : ℕ) → nat_lt n 64 ≡ true → nat_lt 64 (suc n) ≡ false
   fits n h = grind (arith, nat_tests)
 
 pub next_short : (m n : Data) (name : List ℕ) → IsValid m → Next n m name → nat_lt 64 (length name) ≡ false
 next_short m n name v next =
-    let names = (both (list_all is_name (all_names m)) _ v.names).0 in
+    let names = (and_parts (list_all is_name (all_names m)) _ v.names).0 in
     short_name name (all_from is_name (all_names n) next.later name (subst (λ ns. list_all is_name ns ≡ true) next.are names))
 
 -- lists of five parts

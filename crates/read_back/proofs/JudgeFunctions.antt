@@ -2,6 +2,7 @@
 use Rattle.std.proofs.Common.{◌≡◌, ◌^◌, ℕ, ℤ, pos, Bool, true, false, not, if◌then◌else◌, ◌||◌, List, [], ◌∷◌, ◌++◌, length, slice_get, Some, None, option_map, unwrap_or, int_le, refl, sym, ap, subst, ◌∙◌}
 use Rattle.std.specs.Ordering.{int_eq}
 use Rattle.std.proofs.lemmas.Bool.Decides.{Decides-int_eq}
+use Rattle.std.proofs.lemmas.Bool.{or_from}
 use Rattle.sched_base.specs.declared.ids.Itv.{Itv}
 use Rattle.sched_base.specs.declared.ids.Cum.{Cum}
 use Rattle.sched_model.specs.declared.types.SequenceDef.{SequenceDef}
@@ -13,6 +14,7 @@ use Rattle.sched_model.specs.declared.types.Constraint.TheVariants as constraint
 use Rattle.sched_model.specs.Words.{is_empty}
 use Rattle.sched_model.specs.Data.{Data}
 use Rattle.sched_model.specs.Valid.{IsValid, is_cumul_def, is_itv, is_small, is_span_of_moments, is_window}
+use Rattle.sched_model.specs.laws.Small.{moment_small}
 use Rattle.cpo_text.specs.declared.cumul.Cumul.{Cumul}
 use Rattle.cpo_text.specs.declared.tree.Bound.TheVariants as bound
 use Rattle.cpo_text.specs.declared.tree.Constrained.TheVariants as constrained
@@ -26,9 +28,9 @@ use Rattle.sched_text.specs.Pieces.{interval_name}
 use Rattle.sched_text.specs.Canonical.{least_level}
 use Rattle.read_back.specs.Trees.{int_tree, by_name, parts_tree, named_or_parts, function_tree, within_tree, constraint_tree}
 use Rattle.read_back.specs.Written.{is_one_bound}
-use Rattle.read_back.proofs.Numbers.{int_back, span, moment_small}
+use Rattle.read_back.proofs.Numbers.{int_back, span}
 use Rattle.read_back.proofs.Names.{itv_back}
-use Rattle.read_back.proofs.Truth.{nor, the_other}
+use Rattle.read_back.proofs.Truth.{the_other}
 use Rattle.read_back.proofs.JudgeNumbers.{is_ordered, span_inside, span_ordered}
 use Rattle.read_back.proofs.JudgeLimits.{Front}
 use Rattle.read_back.proofs.JudgeParts.{parts_back, no_name, CleanCumul, clean_parts, clean_name}
@@ -53,7 +55,7 @@ at_most_stays m s c f k g later lo hi here fn small least =
     leaves m (mid m s c f) (constrained.Bounded g bound.AtMost (int_tree hi)) (constraint.CumulIn k window.Always lo hi) s later f here.valid (record {
       names = fn.clean.names;
       joins = refl;
-      ordered = nor (some_moments is_reversed g) false fn.clean.ordered refl;
+      ordered = or_from (some_moments is_reversed g) false fn.clean.ordered refl;
       signs = fn.clean.signs;
       fitting = refl;
       once = refl;
@@ -72,7 +74,7 @@ at_least_stays m s c f k g later lo hi here fn small greatest =
     leaves m (mid m s c f) (constrained.Bounded g bound.AtLeast (int_tree lo)) (constraint.CumulIn k window.Always lo hi) s later f here.valid (record {
       names = fn.clean.names;
       joins = refl;
-      ordered = nor (some_moments is_reversed g) false fn.clean.ordered refl;
+      ordered = or_from (some_moments is_reversed g) false fn.clean.ordered refl;
       signs = fn.clean.signs;
       fitting = refl;
       once = refl;
@@ -99,15 +101,15 @@ moments_stays m s c f k g later u w lo hi here fn ends low high order =
     let least = int_back lo low in
     let greatest = int_back hi high in
     leaves m (mid m s c f) (within_tree m g (window.Moments u w) lo hi) (constraint.CumulIn k (window.Moments u w) lo hi) s later f here.valid (record {
-      names = λ test blind. nor (some_in_cumul test g) false (fn.clean.names test blind) refl;
+      names = λ test blind. or_from (some_in_cumul test g) false (fn.clean.names test blind) refl;
       joins = refl;
-      ordered = nor (is_reversed (int_of (int_tree u), int_of (int_tree w)) || some_moments is_reversed g) _
-          (nor (is_reversed (int_of (int_tree u), int_of (int_tree w))) (some_moments is_reversed g) ((λ i. is_reversed (from i, to i)) ∙ span_ordered u w ends) fn.clean.ordered)
+      ordered = or_from (is_reversed (int_of (int_tree u), int_of (int_tree w)) || some_moments is_reversed g) _
+          (or_from (is_reversed (int_of (int_tree u), int_of (int_tree w))) (some_moments is_reversed g) ((λ i. is_reversed (from i, to i)) ∙ span_ordered u w ends) fn.clean.ordered)
           ((λ i. is_reversed (least i, greatest i)) ∙ is_ordered lo hi order);
       signs = fn.clean.signs;
       fitting = refl;
       once = refl;
-      inside = nor (is_outside (int_of (int_tree u), int_of (int_tree w))) (some_moments is_outside g) ((λ i. is_outside (from i, to i)) ∙ span_inside u w ends) fn.clean.inside;
+      inside = or_from (is_outside (int_of (int_tree u), int_of (int_tree w))) (some_moments is_outside g) ((λ i. is_outside (from i, to i)) ∙ span_inside u w ends) fn.clean.inside;
       small = fn.clean.small;
       few = refl;
       hull = refl;
@@ -122,9 +124,9 @@ during_stays m s c f k g later x lo hi here fn there low high order =
     let greatest = int_back hi high in
     let interval = itv_back m (mid m s c f) refl here.valid x there in
     leaves m (mid m s c f) (within_tree m g (window.During x) lo hi) (constraint.CumulIn k (window.During x) lo hi) s later f here.valid (record {
-      names = λ test blind. nor (some_in_cumul test g) (test Interval (interval_name m x)) (fn.clean.names test blind) (interval_passes m s c f here.valid x there test blind);
+      names = λ test blind. or_from (some_in_cumul test g) (test Interval (interval_name m x)) (fn.clean.names test blind) (interval_passes m s c f here.valid x there test blind);
       joins = refl;
-      ordered = nor (some_moments is_reversed g) _ fn.clean.ordered ((λ i. is_reversed (least i, greatest i)) ∙ is_ordered lo hi order);
+      ordered = or_from (some_moments is_reversed g) _ fn.clean.ordered ((λ i. is_reversed (least i, greatest i)) ∙ is_ordered lo hi order);
       signs = fn.clean.signs;
       fitting = refl;
       once = refl;

@@ -4,10 +4,13 @@ use Rattle.std.specs.List.{filter, count_by, list_all}
 use Rattle.std.proofs.lemmas.List.{append_assoc, append-nil, length-append, length_push}
 use Rattle.std.proofs.lemmas.List.Sums.{length-filter}
 use Rattle.std.proofs.lemmas.Bool.Decides.{nat_tests}
+use Rattle.std.proofs.lemmas.Bool.{not-true}
+use Rattle.base_laws.specs.laws.Places.{at_left}
+use Rattle.base_laws.specs.laws.Items.{all_at}
 use Rattle.cpo_elab.specs.Numbered.{parted}
 use Rattle.read_back.specs.Written.{places, from_place}
-use Rattle.read_back.proofs.Items.{all_at, kept_pass, at_left}
-use Rattle.read_back.proofs.Truth.{all_from, fails}
+use Rattle.read_back.proofs.Items.{kept_pass}
+use Rattle.read_back.proofs.Truth.{all_from}
 use Rattle.read_back.proofs.JudgeLimits.{Front}
 
 abbrev pub named : {X : Type 0} → (X → Bool) → List X → List X
@@ -39,7 +42,7 @@ none_left {X} p all us parts left = by left.rest left.split left.are where
 -- what is at a place
 
 in_front : {X : Type 0} (p : X → Bool) (xs ys : List X) (i : ℕ) (x : X) → slice_get (xs ++ ys) i ≡ Some x → list_all (λ x. not (p x)) ys ≡ true → p x ≡ true → slice_get xs i ≡ Some x
-in_front p [] ys i x at all holds = let no = fails (p x) (all_at (λ x. not (p x)) ys i x all at) in let none : false ≡ true = sym no ∙ holds in cc
+in_front p [] ys i x at all holds = let no = not-true (p x) (all_at (λ x. not (p x)) ys i x all at) in let none : false ≡ true = sym no ∙ holds in cc
 in_front p (y ∷ xs) ys zero x at all holds = at
 in_front p (y ∷ xs) ys (suc i) x at all holds = in_front p xs ys i x at all holds
 
@@ -110,7 +113,7 @@ used {X} p all i uses us parts h left = by left.rest left.split (sym (ap (λ b. 
       record {
         def = d;
         at = (λ k. slice_get (sym whole k) (sym place k)) ∙ at_end (named p all ++ us) rest d;
-        fails = fails (p d) (all_from (λ x. not (p x)) us rest d (ap (list_all (λ x. not (p x))) split ∙ kept_pass (λ x. not (p x)) all));
+        fails = not-true (p d) (all_from (λ x. not (p x)) us rest d (ap (list_all (λ x. not (p x))) split ∙ kept_pass (λ x. not (p x)) all));
         place = place;
         more = record { rest = rest; is = append_assoc (named p all ++ us) (d ∷ []) rest ∙ whole };
         left = record {

@@ -4,6 +4,7 @@ use Rattle.std.specs.List.{sum_by}
 use Rattle.std.specs.Option.{option_to_list}
 use Rattle.std.proofs.lemmas.List.{length-append, append_assoc, append-nil}
 use Rattle.std.proofs.lemmas.List.Sums.{sum_by-append}
+use Rattle.base_laws.specs.laws.Numbers.{is_at_most}
 use Rattle.sched_model.specs.declared.types.IntervalDef.{IntervalDef}
 use Rattle.sched_model.specs.declared.types.MatrixDef.{MatrixDef}
 use Rattle.sched_model.specs.declared.types.SequenceDef.{SequenceDef}
@@ -12,8 +13,8 @@ use Rattle.sched_model.specs.declared.types.StateDef.{StateDef}
 use Rattle.sched_model.specs.declared.types.Constraint.{Constraint}
 use Rattle.sched_model.specs.declared.types.Objective.{Objective}
 use Rattle.sched_model.specs.Data.{Data}
-use Rattle.sched_model.specs.Valid.{pair_count, nodes_of, node_count, cell_count, node_total, is_within_limits}
-use Rattle.read_back.proofs.Truth.{both, joined, at_most, is_at_most}
+use Rattle.sched_model.specs.Valid.{pair_count, nodes_of, node_count, node_total, is_within_limits}
+use Rattle.sched_model.specs.laws.Limits.{limits_of, within_limits}
 
 -- a model without an objective
 abbrev pub made : List IntervalDef → List MatrixDef → List SequenceDef → List CumulDef → List StateDef → List Constraint → Data
@@ -38,52 +39,6 @@ front_length xs ys front = omega (arith, length-append xs front.rest, ap length 
 front_sum : {X : Type 0} (f : X → ℕ) (xs ys : List X) → Front xs ys → sum_by f xs ≤ sum_by f ys
 front_sum f xs ys front = omega (arith, sum_by-append f xs front.rest, ap (sum_by f) front.is)
 
-pub record Limits (m : Data) : Type 0 where
-  pub intervals : length m.intervals ≤ 2000
-  pub sequences : length m.sequences ≤ 200
-  pub matrices : length m.matrices ≤ 200
-  pub cumuls : length m.cumuls ≤ 2000
-  pub states : length m.states ≤ 200
-  pub constraints : length m.constraints ≤ 20000
-  pub cells : cell_count m ≤ 1000000
-  pub nodes : node_total m ≤ 100000
-
-pub limits_of : (m : Data) → is_within_limits m ≡ true → Limits m
-limits_of m h =
-    let a = nat_le (length m.intervals) 2000 in
-    let b = nat_le (length m.sequences) 200 in
-    let c = nat_le (length m.matrices) 200 in
-    let d = nat_le (length m.cumuls) 2000 in
-    let e = nat_le (length m.states) 200 in
-    let f = nat_le (length m.constraints) 20000 in
-    let g = nat_le (cell_count m) 1000000 in
-    let t = nat_le (node_total m) 100000 in
-    let p7 = both (a && b && c && d && e && f && g) t h in
-    let p6 = both (a && b && c && d && e && f) g p7.0 in
-    let p5 = both (a && b && c && d && e) f p6.0 in
-    let p4 = both (a && b && c && d) e p5.0 in
-    let p3 = both (a && b && c) d p4.0 in
-    let p2 = both (a && b) c p3.0 in
-    let p1 = both a b p2.0 in
-    record {
-      intervals = at_most (length m.intervals) 2000 p1.0;
-      sequences = at_most (length m.sequences) 200 p1.1;
-      matrices = at_most (length m.matrices) 200 p2.1;
-      cumuls = at_most (length m.cumuls) 2000 p3.1;
-      states = at_most (length m.states) 200 p4.1;
-      constraints = at_most (length m.constraints) 20000 p5.1;
-      cells = at_most (cell_count m) 1000000 p6.1;
-      nodes = at_most (node_total m) 100000 p7.1;
-    }
-
-within : (m : Data) → Limits m → is_within_limits m ≡ true
-within m l =
-    joined _ _ (joined _ _ (joined _ _ (joined _ _ (joined _ _ (joined _ _ (joined _ _
-    (is_at_most (length m.intervals) 2000 l.intervals) (is_at_most (length m.sequences) 200 l.sequences))
-    (is_at_most (length m.matrices) 200 l.matrices)) (is_at_most (length m.cumuls) 2000 l.cumuls))
-    (is_at_most (length m.states) 200 l.states)) (is_at_most (length m.constraints) 20000 l.constraints))
-    (is_at_most (cell_count m) 1000000 l.cells)) (is_at_most (node_total m) 100000 l.nodes)
-
 abbrev pub Fronts : Data → Data → Type 0
 Fronts n m = Front n.intervals m.intervals × Front n.matrices m.matrices × Front n.sequences m.sequences × Front n.cumuls m.cumuls × Front n.states m.states × Front n.constraints m.constraints
 
@@ -100,7 +55,7 @@ made_within m a b c d e f valid fronts =
     let pairs = front_sum (λ (d : SequenceDef). pair_count (length d.members)) c m.sequences fronts.2 in
     let parts = front_sum (λ (f : CumulDef). length f.parts) d m.cumuls fronts.3 in
     let nodes = front_sum nodes_of f m.constraints fronts.5 in
-    within (made a b c d e f) (record {
+    within_limits (made a b c d e f) (record {
       intervals = omega (arith, few_a, l.intervals);
       sequences = omega (arith, few_c, l.sequences);
       matrices = omega (arith, few_b, l.matrices);

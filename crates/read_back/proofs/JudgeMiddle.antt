@@ -2,6 +2,7 @@
 use Rattle.std.proofs.Common.{◌≡◌, ℕ, true, false, List, [], ◌∷◌, ◌++◌, filter_map, length, slice_get, Option, Some, None, is_some, option_and_then, unwrap_or, nat_le, refl, sym, ap, subst, ◌∙◌}
 use Rattle.std.proofs.lemmas.List.Elements.{filter_map-append}
 use Rattle.std.proofs.lemmas.Option.{unwrap_or-slice_get}
+use Rattle.std.proofs.lemmas.Bool.{and_from, or_from}
 use Rattle.sched_base.specs.declared.ids.Seq.{Seq}
 use Rattle.sched_model.specs.declared.types.SequenceDef.{SequenceDef}
 use Rattle.sched_model.specs.declared.types.CumulDef.{CumulDef}
@@ -19,7 +20,6 @@ use Rattle.cpo_elab.specs.Judged.{lacks_member, has_reversed, has_negative, misf
 use Rattle.cpo_elab.specs.Numbered.{is_named_sequence}
 use Rattle.read_back.specs.Trees.{sequence_name}
 use Rattle.read_back.proofs.Names.{AreApart, apart_left, placed, apart}
-use Rattle.read_back.proofs.Truth.{joined, nor}
 use Rattle.read_back.proofs.JudgeNames.{Blind}
 use Rattle.read_back.proofs.JudgeFrame.{Clean}
 use Rattle.read_back.proofs.JudgeLimits.{made, Front, Fronts, front_all, made_within}
@@ -111,8 +111,8 @@ clean_tests n t tests room = record {
   signs = tests.signs;
   fitting = tests.fitting;
   once = tests.once;
-  narrow = nor (some_bound is_outside (Constrain t)) _ tests.inside (nor (some_amount is_large (Constrain t)) false tests.small refl);
-  room = joined (nat_le (length (members_in (Constrain t))) 500) _ tests.few room;
+  narrow = or_from (some_bound is_outside (Constrain t)) _ tests.inside (or_from (some_amount is_large (Constrain t)) false tests.small refl);
+  room = and_from (nat_le (length (members_in (Constrain t))) 500) _ tests.few room;
   single = refl;
   hull = tests.hull;
   sparse = tests.sparse;

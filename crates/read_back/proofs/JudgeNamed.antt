@@ -1,11 +1,11 @@
 -- The items of a list that have a name are a front part of it, where they stand before the others.
-use Rattle.std.proofs.Common.{◌≡◌, Bool, true, false, not, List, [], ◌∷◌, ◌++◌, filter_map, Option, Some, None, is_some, refl, sym, ap, ◌∙◌}
-use Rattle.std.specs.List.{filter, cons_option}
+use Rattle.std.proofs.Common.{◌≡◌, Bool, true, false, not, List, [], ◌∷◌, ◌++◌, sym, ap, ◌∙◌}
+use Rattle.std.specs.List.{filter}
 use Rattle.std.proofs.lemmas.List.{append_assoc, append-nil}
 use Rattle.std.proofs.lemmas.List.Elements.{filter-append}
+use Rattle.base_laws.specs.laws.Kept.{filter_yes, filter_no}
 use Rattle.cpo_elab.specs.Numbered.{parted}
 use Rattle.read_back.proofs.JudgeLimits.{Front}
-use Rattle.read_back.proofs.Items.{filter_yes, filter_no}
 
 pub filter_push : {X : Type 0} (p : X → Bool) (xs : List X) (x : X) → p x ≡ true → filter p (xs ++ x ∷ []) ≡ filter p xs ++ x ∷ []
 filter_push p xs x holds = filter-append p xs (x ∷ []) ∙ ap (λ l. filter p xs ++ l) (filter_yes p x [] holds)
@@ -20,12 +20,3 @@ named_front p xs front back parts is = record {
   is = sym (append_assoc (filter p front) (filter p back) (filter (λ x. not (p x)) xs))
       ∙ ap (λ l. l ++ filter (λ x. not (p x)) xs) (sym (filter-append p front back) ∙ ap (filter p) is) ∙ parts;
 }
-
-named_more : {X Y : Type 0} (h : X → Option Y) (x : X) (xs : List X) (o : Option Y) → h x ≡ o → filter_map h (filter (λ y. is_some (h y)) xs) ≡ filter_map h xs
-    → filter_map h (filter (λ y. is_some (h y)) (x ∷ xs)) ≡ filter_map h (x ∷ xs)
-named_more h x xs None is rest = ap (filter_map h) (filter_no (λ y. is_some (h y)) x xs (ap is_some is)) ∙ rest ∙ sym (ap (λ o. cons_option o (filter_map h xs)) is)
-named_more h x xs (Some n) is rest = ap (filter_map h) (filter_yes (λ y. is_some (h y)) x xs (ap is_some is)) ∙ ap (cons_option (h x)) rest
-
-pub names_kept : {X Y : Type 0} (h : X → Option Y) (xs : List X) → filter_map h (filter (λ y. is_some (h y)) xs) ≡ filter_map h xs
-names_kept h [] = refl
-names_kept h (x ∷ xs) = named_more h x xs (h x) refl (names_kept h xs)

@@ -3,15 +3,17 @@ use Rattle.std.proofs.Common.{◌≡◌, ℕ, zero, suc, ◌*◌, ℤ, pos, Bool
 use Rattle.std.specs.List.{list_all}
 use Rattle.std.proofs.lemmas.Int.{ints}
 use Rattle.std.proofs.lemmas.List.{length-map, length-take, length-drop, take-append-drop}
+use Rattle.std.proofs.lemmas.Bool.{and_parts, and_from, or_from, not_from_true}
 use Rattle.sched_model.specs.Valid.{is_moment, is_span_of_moments, is_amount}
+use Rattle.sched_model.specs.laws.Small.{moment_small, amount_small}
 use Rattle.cpo_text.specs.declared.tree.Int.{Int}
 use Rattle.cpo_elab.specs.Numbers.{int_of, range_of}
 use Rattle.cpo_elab.specs.Elaborated.{types_in}
 use Rattle.cpo_elab.specs.Judged.{is_outside, is_reversed, is_negative, is_large}
 use Rattle.cpo_elab.specs.Held.{some_int, some_in_rows}
 use Rattle.read_back.specs.Trees.{int_tree, range_tree, cell_rows}
-use Rattle.read_back.proofs.Truth.{both, joined, nor, not_true, all_take, all_drop, is_same}
-use Rattle.read_back.proofs.Numbers.{size_back, int_back, moment_small, amount_small, span, type_amount, type_literal}
+use Rattle.read_back.proofs.Truth.{all_take, all_drop, is_same}
+use Rattle.read_back.proofs.Numbers.{size_back, int_back, span, type_amount, type_literal}
 
 -- amounts and ranges
 
@@ -32,7 +34,7 @@ span_back lo hi h =
     λ i. (from i, to i)
 
 pub span_inside : (lo hi : ℤ) → is_span_of_moments lo hi ≡ true → is_outside (lo, hi) ≡ false
-span_inside lo hi h = let parts = span lo hi h in nor (not (is_moment lo)) (not (is_moment hi)) (not_true (is_moment lo) parts.0) (not_true (is_moment hi) parts.1)
+span_inside lo hi h = let parts = span lo hi h in or_from (not (is_moment lo)) (not (is_moment hi)) (not_from_true (is_moment lo) parts.0) (not_from_true (is_moment hi) parts.1)
 
 pub span_ordered : (lo hi : ℤ) → is_span_of_moments lo hi ≡ true → is_reversed (lo, hi) ≡ false
 span_ordered lo hi h = is_ordered lo hi (span lo hi h).2
@@ -45,7 +47,7 @@ type_trees ts = map (λ t. int_tree (pos t)) ts
 pub types_back : (ts : List ℕ) → list_all (λ t. nat_le t 1000000) ts ≡ true → types_in (type_trees ts) ≡ ts
 types_back [] all = refl
 types_back (t ∷ ts) all =
-    let parts = both (nat_le t 1000000) _ all in
+    let parts = and_parts (nat_le t 1000000) _ all in
     let first = size_back t (type_literal t parts.0) in
     let rest = types_back ts parts.1 in
     λ i. first i ∷ rest i
@@ -53,16 +55,16 @@ types_back (t ∷ ts) all =
 pub types_pass : (test : ℤ → Bool) → ((z : ℤ) → is_amount z ≡ true → test z ≡ false) → (ts : List ℕ) → list_all (λ t. nat_le t 1000000) ts ≡ true → some_int test (type_trees ts) ≡ false
 types_pass test weak [] all = refl
 types_pass test weak (t ∷ ts) all =
-    let parts = both (nat_le t 1000000) _ all in
+    let parts = and_parts (nat_le t 1000000) _ all in
     let small = type_amount t parts.0 in
-    nor (test (int_of (int_tree (pos t)))) _ (ap test (int_back (pos t) (amount_small (pos t) small)) ∙ weak (pos t) small) (types_pass test weak ts parts.1)
+    or_from (test (int_of (int_tree (pos t)))) _ (ap test (int_back (pos t) (amount_small (pos t) small)) ∙ weak (pos t) small) (types_pass test weak ts parts.1)
 
 -- rows of cells
 
 cells_back : (zs : List ℤ) → list_all is_amount zs ≡ true → map int_of (map int_tree zs) ≡ zs
 cells_back [] all = refl
 cells_back (z ∷ zs) all =
-    let parts = both (is_amount z) _ all in
+    let parts = and_parts (is_amount z) _ all in
     let first = int_back z (amount_small z parts.0) in
     let rest = cells_back zs parts.1 in
     λ i. first i ∷ rest i
@@ -70,8 +72,8 @@ cells_back (z ∷ zs) all =
 cells_pass : (test : ℤ → Bool) → ((z : ℤ) → is_amount z ≡ true → test z ≡ false) → (zs : List ℤ) → list_all is_amount zs ≡ true → some_int test (map int_tree zs) ≡ false
 cells_pass test weak [] all = refl
 cells_pass test weak (z ∷ zs) all =
-    let parts = both (is_amount z) _ all in
-    nor (test (int_of (int_tree z))) _ (ap test (int_back z (amount_small z parts.0)) ∙ weak z parts.0) (cells_pass test weak zs parts.1)
+    let parts = and_parts (is_amount z) _ all in
+    or_from (test (int_of (int_tree z))) _ (ap test (int_back z (amount_small z parts.0)) ∙ weak z parts.0) (cells_pass test weak zs parts.1)
 
 abbrev pub row_trees : ℕ → ℕ → List ℤ → List (List Int)
 row_trees k n zs = map (map int_tree) (cell_rows k n zs)
@@ -102,9 +104,9 @@ row_size k n zs h = length-map (take n zs) int_tree ∙ taken k n zs h where
 pub rows_square : (k n : ℕ) (zs : List ℤ) → length zs ≡ k * n → list_all (λ row. nat_eq (length row) n) (row_trees k n zs) ≡ true
 rows_square zero n zs size = refl
 rows_square (suc k) n zs size =
-    joined _ _ (is_same (length (map int_tree (take n zs))) n (row_size k n zs size)) (rows_square k n (drop n zs) (left_over k n zs size))
+    and_from _ _ (is_same (length (map int_tree (take n zs))) n (row_size k n zs size)) (rows_square k n (drop n zs) (left_over k n zs size))
 
 pub rows_pass : (test : ℤ → Bool) → ((z : ℤ) → is_amount z ≡ true → test z ≡ false) → (k n : ℕ) (zs : List ℤ) → list_all is_amount zs ≡ true → some_in_rows test (row_trees k n zs) ≡ false
 rows_pass test weak zero n zs all = refl
 rows_pass test weak (suc k) n zs all =
-    nor (some_int test (map int_tree (take n zs))) _ (cells_pass test weak (take n zs) (all_take is_amount n zs all)) (rows_pass test weak k n (drop n zs) (all_drop is_amount n zs all))
+    or_from (some_int test (map int_tree (take n zs))) _ (cells_pass test weak (take n zs) (all_take is_amount n zs all)) (rows_pass test weak k n (drop n zs) (all_drop is_amount n zs all))

@@ -1,5 +1,7 @@
 -- The statement of a constraint on members of a sequence that has a name passes each test, and adds the constraint.
 use Rattle.std.proofs.Common.{◌≡◌, true, false, not, ◌&&◌, List, [], ◌∷◌, ◌++◌, Some, refl, ap, ◌∙◌}
+use Rattle.std.proofs.lemmas.Bool.{and_parts, and_from, or_from, not_from_true}
+use Rattle.base_laws.specs.laws.Truth.{three_true}
 use Rattle.sched_base.specs.declared.ids.Itv.{Itv}
 use Rattle.sched_base.specs.declared.ids.Seq.{Seq}
 use Rattle.sched_model.specs.declared.types.SequenceDef.{SequenceDef}
@@ -22,7 +24,6 @@ use Rattle.read_back.specs.Trees.{sequence_name}
 use Rattle.read_back.specs.Written.{is_named_at}
 use Rattle.read_back.proofs.Members.{member_is}
 use Rattle.read_back.proofs.Names.{itv_back}
-use Rattle.read_back.proofs.Truth.{both, each, joined, nor, not_true}
 use Rattle.read_back.proofs.JudgeMiddle.{mid, Middle, named_seq, seq_back, name_is, Leaves, leaves}
 use Rattle.read_back.proofs.JudgePlain.{Place, Stays, interval_passes}
 
@@ -48,7 +49,7 @@ member m s c f v middle p x named it =
       number = ap (number_of n Sequence) is ∙ b.number;
       sequence = sequence;
       interval = interval;
-      joins = (λ i. not (has (members_of n (sequence i)) (interval i))) ∙ ap (λ (d : SequenceDef). not (has d.members x)) b.same ∙ not_true (has (members_of m p) x) (both (is_seq m p) (has (members_of m p) x) it).1;
+      joins = (λ i. not (has (members_of n (sequence i)) (interval i))) ∙ ap (λ (d : SequenceDef). not (has d.members x)) b.same ∙ not_from_true (has (members_of m p) x) (and_parts (is_seq m p) (has (members_of m p) x) it).1;
     }
 
 extreme_stays : (m : Data) (s : List SequenceDef) (c : List CumulDef) (f : List Constraint) (e : Extreme) (p : Seq) (x : Itv) → Place m s c f (extreme_of e p x) → is_named_at m p ≡ true → is_member m p x ≡ true
@@ -58,7 +59,7 @@ extreme_stays m s c f e p x here named it =
     let v = here.valid in
     let k = member m s c f v here.middle p x named it in
     leaves m n (constrained.Extreme e (sequence_name m p) (interval_name m x)) (extreme_of e p x) s c f v (record {
-      names = λ test blind. nor (test Sequence (sequence_name m p)) (test Interval (interval_name m x)) (blind Sequence (sequence_name m p) p.0 k.number) (interval_passes m s c f v x k.there test blind);
+      names = λ test blind. or_from (test Sequence (sequence_name m p)) (test Interval (interval_name m x)) (blind Sequence (sequence_name m p) p.0 k.number) (interval_passes m s c f v x k.there test blind);
       joins = k.joins;
       ordered = refl;
       signs = refl;
@@ -78,7 +79,7 @@ pub last_stays : (m : Data) (s : List SequenceDef) (c : List CumulDef) (f : List
 last_stays m s c f p x here named it = extreme_stays m s c f extreme.Last p x here named it
 
 two_apart : (x y : Itv) → not (same x y) ≡ true → are_distinct (x ∷ y ∷ []) ≡ true
-two_apart x y h = joined (not (same x y) && true) true (joined (not (same x y)) true h refl) refl
+two_apart x y h = and_from (not (same x y) && true) true (and_from (not (same x y)) true h refl) refl
 
 order_stays : (m : Data) (s : List SequenceDef) (c : List CumulDef) (f : List Constraint) (o : Order) (p : Seq) (x y : Itv) → Place m s c f (order_of o p x y) → is_named_at m p ≡ true
     → (is_member m p x && is_member m p y && not (same x y)) ≡ true
@@ -86,13 +87,13 @@ order_stays : (m : Data) (s : List SequenceDef) (c : List CumulDef) (f : List Co
 order_stays m s c f o p x y here named it =
     let n = mid m s c f in
     let v = here.valid in
-    let parts = each (is_member m p x) (is_member m p y) (not (same x y)) it in
+    let parts = three_true (is_member m p x) (is_member m p y) (not (same x y)) it in
     let k = member m s c f v here.middle p x named parts.0 in
     let l = member m s c f v here.middle p y named parts.1 in
     leaves m n (constrained.Ordered o (sequence_name m p) (interval_name m x) (interval_name m y)) (order_of o p x y) s c f v (record {
-      names = λ test blind. nor (test Sequence (sequence_name m p)) _ (blind Sequence (sequence_name m p) p.0 k.number)
-          (nor (test Interval (interval_name m x)) (test Interval (interval_name m y)) (interval_passes m s c f v x k.there test blind) (interval_passes m s c f v y l.there test blind));
-      joins = nor (is_no_member n (sequence_name m p) (interval_name m x)) (is_no_member n (sequence_name m p) (interval_name m y)) k.joins l.joins;
+      names = λ test blind. or_from (test Sequence (sequence_name m p)) _ (blind Sequence (sequence_name m p) p.0 k.number)
+          (or_from (test Interval (interval_name m x)) (test Interval (interval_name m y)) (interval_passes m s c f v x k.there test blind) (interval_passes m s c f v y l.there test blind));
+      joins = or_from (is_no_member n (sequence_name m p) (interval_name m x)) (is_no_member n (sequence_name m p) (interval_name m y)) k.joins l.joins;
       ordered = refl;
       signs = refl;
       fitting = refl;

@@ -2,6 +2,7 @@
 use Rattle.std.proofs.Common.{◌≡◌, Bool, true, false, not, ◌&&◌, ◌||◌, List, [], ◌∷◌, ◌++◌, length, slice_get, Option, Some, None, is_some, option_map, unwrap_or, nat_lt, nat_le, refl, sym, ap, subst, ◌∙◌}
 use Rattle.std.specs.List.{list_all, list_any}
 use Rattle.std.proofs.lemmas.List.{length-map}
+use Rattle.std.proofs.lemmas.Bool.{and_parts, or_from, not_from_true, not-true}
 use Rattle.sched_base.specs.declared.ids.Seq.{Seq}
 use Rattle.sched_base.specs.declared.ids.Mat.{Mat}
 use Rattle.sched_model.specs.declared.types.MatrixDef.{MatrixDef}
@@ -20,7 +21,6 @@ use Rattle.read_back.specs.Trees.{over_tree, named_or_listed, spaced_tree, const
 use Rattle.read_back.proofs.Members.{Listing}
 use Rattle.read_back.proofs.Names.{number_mat, mat_back, itvs_back}
 use Rattle.read_back.proofs.JudgeNames.{itvs_pass}
-use Rattle.read_back.proofs.Truth.{both, nor, not_true, fails}
 use Rattle.read_back.proofs.JudgeLimits.{Front}
 use Rattle.read_back.proofs.JudgeMiddle.{mid, NamedSeq, seq_back, sequence_at, Leaves, leaves}
 use Rattle.read_back.proofs.JudgePlain.{Place, Stays}
@@ -49,9 +49,9 @@ named_stays m s c f p q None direct here fits flag =
     let n = mid m s c f in
     let v = here.valid in
     let b = seq_back m s c f v here.middle p q in
-    let off = sym (fails direct flag) in
+    let off = sym (not-true direct flag) in
     leaves m n (constrained.NoOverlap (over.Named q.name) None) (constraint.NoOverlap p None direct) s c f v (record {
-      names = λ test blind. nor (test Sequence q.name) false (blind Sequence q.name p.0 b.number) refl;
+      names = λ test blind. or_from (test Sequence q.name) false (blind Sequence q.name p.0 b.number) refl;
       joins = refl;
       ordered = refl;
       signs = refl;
@@ -67,14 +67,14 @@ named_stays m s c f p q (Some x) direct here fits flag =
     let n = mid m s c f in
     let v = here.valid in
     let b = seq_back m s c f v here.middle p q in
-    let there = (both (is_mat m x) _ fits).0 in
+    let there = (and_parts (is_mat m x) _ fits).0 in
     let matrix = mat_back m n refl v x there in
     leaves m n (constrained.NoOverlap (over.Named q.name) (Some (spaced_tree m direct x.0))) (constraint.NoOverlap p (Some x) direct) s c f v (record {
-      names = λ test blind. nor (test Sequence q.name) (test Matrix (matrix_name m x)) (blind Sequence q.name p.0 b.number) (blind Matrix (matrix_name m x) x.0 (number_mat m n refl v x there));
+      names = λ test blind. or_from (test Sequence q.name) (test Matrix (matrix_name m x)) (blind Sequence q.name p.0 b.number) (blind Matrix (matrix_name m x) x.0 (number_mat m n refl v x there));
       joins = refl;
       ordered = refl;
       signs = refl;
-      fitting = not_true _ ((λ i. fits_types n (b.back i) (matrix i)) ∙ same_fits m n p x refl b.same ∙ fits);
+      fitting = not_from_true _ ((λ i. fits_types n (b.back i) (matrix i)) ∙ same_fits m n p x refl b.same ∙ fits);
       once = refl;
       inside = refl;
       small = refl;
@@ -101,9 +101,9 @@ listed_stays m s c f p d None direct here at unnamed untyped l place more fits f
     let members = itvs_back m n refl v d.members l.there in
     let no_name = sym unnamed in
     let no_types = sym untyped in
-    let off = sym (fails direct flag) in
+    let off = sym (not-true direct flag) in
     leaves m n (constrained.NoOverlap (over.Listed ns) None) (constraint.NoOverlap p None direct) (s ++ d ∷ []) c f v (record {
-      names = λ test blind. nor (list_any (test Interval) ns) false (itvs_pass m n refl v test blind d.members l.there) refl;
+      names = λ test blind. or_from (list_any (test Interval) ns) false (itvs_pass m n refl v test blind d.members l.there) refl;
       joins = refl;
       ordered = refl;
       signs = refl;
@@ -117,7 +117,7 @@ listed_stays m s c f p d None direct here at unnamed untyped l place more fits f
     }) (λ i. mid m (s ++ record { name = no_name i; members = members i; types = no_types i } ∷ []) c f)
     (λ i. constraint.NoOverlap (record { 0 = place i }) None (off i)) more here.middle.cumuls here.front
 listed_stays m s c f p d (Some x) direct here at unnamed untyped l place more fits flag =
-    let types = (both (is_mat m x) _ fits).1 in
+    let types = (and_parts (is_mat m x) _ fits).1 in
     let none : false ≡ true = sym (ap (λ (d : SequenceDef). passes (λ ts. passes (λ (d : MatrixDef). list_all (λ t. nat_lt t d.size) ts) (matrix_of m (Some x))) d.types) (sequence_at m p d at)
     ∙ ap (passes (λ ts. passes (λ (d : MatrixDef). list_all (λ t. nat_lt t d.size) ts) (matrix_of m (Some x)))) untyped) ∙ types in
     cc

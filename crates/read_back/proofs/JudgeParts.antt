@@ -2,12 +2,14 @@
 use Rattle.std.proofs.Common.{◌≡◌, ℕ, ℤ, Bool, true, false, not, ◌&&◌, if◌then◌else◌, List, [], ◌∷◌, ◌++◌, map, flat_map, Some, None, int_le, refl, ap, ◌∙◌, arith}
 use Rattle.std.specs.List.{list_all}
 use Rattle.std.proofs.lemmas.Int.{ints}
+use Rattle.std.proofs.lemmas.Bool.{and_parts, and_from, or_from}
 use Rattle.sched_model.specs.declared.types.Part.{Part}
 use Rattle.sched_model.specs.declared.types.Shape.{Shape}
 use Rattle.sched_model.specs.declared.types.Shape.TheVariants.{Pulse, Step, PulseOf, StepAtStart, StepAtEnd}
 use Rattle.sched_model.specs.Words.{passes, is_empty}
 use Rattle.sched_model.specs.Data.{Data}
 use Rattle.sched_model.specs.Valid.{IsValid, is_shape, is_itv, is_moment, is_span_of_moments, is_amount}
+use Rattle.sched_model.specs.laws.Small.{moment_small, amount_small}
 use Rattle.cpo_text.specs.declared.cumul.Cumul.{Cumul}
 use Rattle.cpo_elab.specs.declared.names.Sort.TheVariants.{Interval, Cumulated}
 use Rattle.cpo_elab.specs.Named.{NameTest, number_of, some_in_cpart, some_in_cumul}
@@ -17,9 +19,9 @@ use Rattle.cpo_elab.specs.Elaborated.{turned, plain_parts, parts_signed, parts_i
 use Rattle.cpo_elab.specs.Judged.{is_reversed, is_outside, is_negative, is_large}
 use Rattle.sched_text.specs.Pieces.{interval_name}
 use Rattle.read_back.specs.Trees.{int_tree, shape_tree, part_tree, parts_tree, by_name}
-use Rattle.read_back.proofs.Numbers.{int_back, span, moment_small, amount_small}
+use Rattle.read_back.proofs.Numbers.{int_back, span}
 use Rattle.read_back.proofs.Names.{itv_back, number_itv}
-use Rattle.read_back.proofs.Truth.{both, joined, nor, none_of_map}
+use Rattle.read_back.proofs.Truth.{none_of_map}
 use Rattle.read_back.proofs.JudgeNumbers.{amount_sign, amount_size, span_inside, span_ordered}
 use Rattle.read_back.proofs.JudgeNames.{Blind}
 
@@ -33,29 +35,29 @@ moment_back u it = int_back u (moment_small u it)
 
 plain_back : (m n : Data) → n.intervals ≡ m.intervals → IsValid m → (s : Shape) → is_shape m s ≡ true → plain_parts n (shape_tree m s) ≡ record { minus = false; shape = s } ∷ []
 plain_back m n same v (Pulse u v' h) it =
-    let parts = both (is_span_of_moments u v') (is_amount h) it in
+    let parts = and_parts (is_span_of_moments u v') (is_amount h) it in
     let ends = span u v' parts.0 in
     let from = moment_back u ends.0 in
     let to = moment_back v' ends.1 in
     let height = amount_back h parts.1 in
     λ i. record { minus = false; shape = Pulse (from i) (to i) (height i) } ∷ []
 plain_back m n same v (Step u h) it =
-    let parts = both (is_moment u) (is_amount h) it in
+    let parts = and_parts (is_moment u) (is_amount h) it in
     let from = moment_back u parts.0 in
     let height = amount_back h parts.1 in
     λ i. record { minus = false; shape = Step (from i) (height i) } ∷ []
 plain_back m n same v (PulseOf x h) it =
-    let parts = both (is_itv m x) (is_amount h) it in
+    let parts = and_parts (is_itv m x) (is_amount h) it in
     let interval = itv_back m n same v x parts.0 in
     let height = amount_back h parts.1 in
     λ i. record { minus = false; shape = PulseOf (interval i) (height i) } ∷ []
 plain_back m n same v (StepAtStart x h) it =
-    let parts = both (is_itv m x) (is_amount h) it in
+    let parts = and_parts (is_itv m x) (is_amount h) it in
     let interval = itv_back m n same v x parts.0 in
     let height = amount_back h parts.1 in
     λ i. record { minus = false; shape = StepAtStart (interval i) (height i) } ∷ []
 plain_back m n same v (StepAtEnd x h) it =
-    let parts = both (is_itv m x) (is_amount h) it in
+    let parts = and_parts (is_itv m x) (is_amount h) it in
     let interval = itv_back m n same v x parts.0 in
     let height = amount_back h parts.1 in
     λ i. record { minus = false; shape = StepAtEnd (interval i) (height i) } ∷ []
@@ -75,7 +77,7 @@ part_back m n same v p it =
 list_back : (m n : Data) → n.intervals ≡ m.intervals → IsValid m → (ps : List Part) → list_all (is_part m) ps ≡ true → flat_map (parts_signed n) (map (part_tree m) ps) ≡ ps
 list_back m n same v [] all = refl
 list_back m n same v (p ∷ ps) all =
-    let parts = both (is_part m p) _ all in
+    let parts = and_parts (is_part m p) _ all in
     let first = part_back m n same v p parts.0 in
     let rest = list_back m n same v ps parts.1 in
     λ i. first i ++ rest i
@@ -111,24 +113,24 @@ pub record CleanCumul (n : Data) (f : Cumul) : Type 0 where
 names_pass : (m n : Data) → n.intervals ≡ m.intervals → IsValid m → (test : NameTest) → Blind n test → (s : Shape) → is_shape m s ≡ true → some_in_cpart test (shape_tree m s) ≡ false
 names_pass m n same v test blind (Pulse u v' h) it = refl
 names_pass m n same v test blind (Step u h) it = refl
-names_pass m n same v test blind (PulseOf x h) it = blind Interval (interval_name m x) x.0 (number_itv m n same v x (both (is_itv m x) (is_amount h) it).0)
-names_pass m n same v test blind (StepAtStart x h) it = blind Interval (interval_name m x) x.0 (number_itv m n same v x (both (is_itv m x) (is_amount h) it).0)
-names_pass m n same v test blind (StepAtEnd x h) it = blind Interval (interval_name m x) x.0 (number_itv m n same v x (both (is_itv m x) (is_amount h) it).0)
+names_pass m n same v test blind (PulseOf x h) it = blind Interval (interval_name m x) x.0 (number_itv m n same v x (and_parts (is_itv m x) (is_amount h) it).0)
+names_pass m n same v test blind (StepAtStart x h) it = blind Interval (interval_name m x) x.0 (number_itv m n same v x (and_parts (is_itv m x) (is_amount h) it).0)
+names_pass m n same v test blind (StepAtEnd x h) it = blind Interval (interval_name m x) x.0 (number_itv m n same v x (and_parts (is_itv m x) (is_amount h) it).0)
 
 with_itself : (u : ℤ) → is_moment u ≡ true → is_span_of_moments u u ≡ true
-with_itself u it = joined (is_moment u && is_moment u) (int_le u u) (joined (is_moment u) (is_moment u) it it) (at_itself u) where
+with_itself u it = and_from (is_moment u && is_moment u) (int_le u u) (and_from (is_moment u) (is_moment u) it it) (at_itself u) where
   at_itself : (u : ℤ) → int_le u u ≡ true
   at_itself u = grind (arith, ints)
 
 moments_pass : (test : ℤ × ℤ → Bool) → ((lo hi : ℤ) → is_span_of_moments lo hi ≡ true → test (lo, hi) ≡ false) → (m : Data) (s : Shape) → is_shape m s ≡ true → passes test (cpart_moments (shape_tree m s)) ≡ false
 moments_pass test weak m (Pulse u v h) it =
-    let parts = both (is_span_of_moments u v) (is_amount h) it in
+    let parts = and_parts (is_span_of_moments u v) (is_amount h) it in
     let ends = span u v parts.0 in
     let from = moment_back u ends.0 in
     let to = moment_back v ends.1 in
     (λ i. test (from i, to i)) ∙ weak u v parts.0
 moments_pass test weak m (Step u h) it =
-    let moment = (both (is_moment u) (is_amount h) it).0 in
+    let moment = (and_parts (is_moment u) (is_amount h) it).0 in
     let from = moment_back u moment in
     (λ i. test (from i, from i)) ∙ weak u u (with_itself u moment)
 moments_pass test weak m (PulseOf x h) it = refl
@@ -136,11 +138,11 @@ moments_pass test weak m (StepAtStart x h) it = refl
 moments_pass test weak m (StepAtEnd x h) it = refl
 
 heights_pass : (test : ℤ → Bool) → ((z : ℤ) → is_amount z ≡ true → test z ≡ false) → (m : Data) (s : Shape) → is_shape m s ≡ true → passes test (cpart_height (shape_tree m s)) ≡ false
-heights_pass test weak m (Pulse u v h) it = let here = (both (is_span_of_moments u v) (is_amount h) it).1 in ap test (amount_back h here) ∙ weak h here
-heights_pass test weak m (Step u h) it = let here = (both (is_moment u) (is_amount h) it).1 in ap test (amount_back h here) ∙ weak h here
-heights_pass test weak m (PulseOf x h) it = let here = (both (is_itv m x) (is_amount h) it).1 in ap test (amount_back h here) ∙ weak h here
-heights_pass test weak m (StepAtStart x h) it = let here = (both (is_itv m x) (is_amount h) it).1 in ap test (amount_back h here) ∙ weak h here
-heights_pass test weak m (StepAtEnd x h) it = let here = (both (is_itv m x) (is_amount h) it).1 in ap test (amount_back h here) ∙ weak h here
+heights_pass test weak m (Pulse u v h) it = let here = (and_parts (is_span_of_moments u v) (is_amount h) it).1 in ap test (amount_back h here) ∙ weak h here
+heights_pass test weak m (Step u h) it = let here = (and_parts (is_moment u) (is_amount h) it).1 in ap test (amount_back h here) ∙ weak h here
+heights_pass test weak m (PulseOf x h) it = let here = (and_parts (is_itv m x) (is_amount h) it).1 in ap test (amount_back h here) ∙ weak h here
+heights_pass test weak m (StepAtStart x h) it = let here = (and_parts (is_itv m x) (is_amount h) it).1 in ap test (amount_back h here) ∙ weak h here
+heights_pass test weak m (StepAtEnd x h) it = let here = (and_parts (is_itv m x) (is_amount h) it).1 in ap test (amount_back h here) ∙ weak h here
 
 pub clean_parts : (m n : Data) → n.intervals ≡ m.intervals → IsValid m → (ps : List Part) → not (is_empty ps) ≡ true → list_all (is_part m) ps ≡ true → CleanCumul n (parts_tree m ps)
 clean_parts m n same v [] some all = cc
@@ -154,7 +156,7 @@ clean_parts m n same v (p ∷ ps) some all = record {
 
 pub clean_name : (n : Data) (name : List ℕ) (i : ℕ) → number_of n Cumulated name ≡ Some i → CleanCumul n (by_name name)
 clean_name n name i is = record {
-  names = λ test blind. nor (test Cumulated name) false (blind Cumulated name i is) refl;
+  names = λ test blind. or_from (test Cumulated name) false (blind Cumulated name i is) refl;
   ordered = refl;
   inside = refl;
   signs = refl;

@@ -1,6 +1,8 @@
 -- The statement of a constraint between intervals, of an expression or on a state passes each test, and adds the constraint.
 use Rattle.std.proofs.Common.{◌≡◌, ℤ, Bool, true, false, not, ◌&&◌, List, [], ◌∷◌, ◌++◌, length, Option, Some, None, is_some, is_none, nat_lt, refl, ap, ◌∙◌}
 use Rattle.std.specs.List.{list_all}
+use Rattle.std.proofs.lemmas.Bool.{and_parts, or_from, not_from_true, not-true}
+use Rattle.base_laws.specs.laws.Truth.{three_true, four_true}
 use Rattle.sched_base.specs.declared.ids.Itv.{Itv}
 use Rattle.sched_base.specs.declared.ids.Stf.{Stf}
 use Rattle.sched_model.specs.declared.types.SequenceDef.{SequenceDef}
@@ -15,6 +17,7 @@ use Rattle.sched_model.specs.Domain.{is_row}
 use Rattle.sched_model.specs.Hull.{hull_of}
 use Rattle.sched_model.specs.Valid.{IsValid, is_expr, expr_step, is_itv, is_small, is_amount, are_parts, are_distinct}
 use Rattle.sched_model.specs.declared.types.Expr.TheFolds.{fold-Expr}
+use Rattle.sched_model.specs.laws.Small.{amount_small}
 use Rattle.cpo_text.specs.declared.tree.Hierarchy.{Hierarchy}
 use Rattle.cpo_text.specs.declared.tree.Hierarchy.TheVariants as hierarchy
 use Rattle.cpo_text.specs.declared.tree.Constrained.TheVariants as constrained
@@ -27,9 +30,8 @@ use Rattle.sched_text.specs.Pieces.{interval_name, interval_names, state_name}
 use Rattle.read_back.specs.Trees.{temporal_tree, logic_tree, constraint_tree}
 use Rattle.read_back.specs.Written.{is_written_expr, written_step, factor}
 use Rattle.read_back.specs.Laws.{ExpressionsReturn, FactorsReturn, ExpressionsNameIntervals}
-use Rattle.read_back.proofs.Numbers.{int_back, amount_small}
+use Rattle.read_back.proofs.Numbers.{int_back}
 use Rattle.read_back.proofs.Names.{number_itv, number_stf, itv_back, itvs_back, stf_back}
-use Rattle.read_back.proofs.Truth.{both, each, four, nor, not_true, fails}
 use Rattle.read_back.proofs.JudgeNumbers.{amount_sign, amount_size}
 use Rattle.read_back.proofs.JudgeNames.{Blind, itvs_pass}
 use Rattle.read_back.proofs.JudgeLimits.{Front}
@@ -65,13 +67,13 @@ temporal_stays m s c f from to equal x y z here it =
     let n = mid m s c f in
     let con = constraint.Temporal from to equal x y z in
     let v = here.valid in
-    let parts = each (is_itv m x) (is_itv m y) (is_small z) it in
+    let parts = three_true (is_itv m x) (is_itv m y) (is_small z) it in
     let points = points_back from to equal in
     let first = itv_back m n refl v x parts.0 in
     let second = itv_back m n refl v y parts.1 in
     let delay = int_back z parts.2 in
     leaves m n (constraint_tree m con) con s c f v (record {
-      names = λ test blind. nor (test Interval (interval_name m x)) (test Interval (interval_name m y)) (interval_passes m s c f v x parts.0 test blind) (interval_passes m s c f v y parts.1 test blind);
+      names = λ test blind. or_from (test Interval (interval_name m x)) (test Interval (interval_name m y)) (interval_passes m s c f v x parts.0 test blind) (interval_passes m s c f v y parts.1 test blind);
       joins = refl;
       ordered = refl;
       signs = refl;
@@ -89,12 +91,12 @@ hierarchy_stays : (m : Data) (s : List SequenceDef) (c : List CumulDef) (f : Lis
 hierarchy_stays m s c f h x xs here it =
     let n = mid m s c f in
     let v = here.valid in
-    let parts = both (is_itv m x) (are_parts m xs) it in
-    let all = both (list_all (is_itv m) xs) (are_distinct xs) parts.1 in
+    let parts = and_parts (is_itv m x) (are_parts m xs) it in
+    let all = and_parts (list_all (is_itv m) xs) (are_distinct xs) parts.1 in
     let first = itv_back m n refl v x parts.0 in
     let rest = itvs_back m n refl v xs all.0 in
     leaves m n (constrained.Parts h (interval_name m x) (interval_names m xs)) (hierarchy_of h x xs) s c f v (record {
-      names = λ test blind. nor (test Interval (interval_name m x)) _ (interval_passes m s c f v x parts.0 test blind) (itvs_pass m n refl v test blind xs all.0);
+      names = λ test blind. or_from (test Interval (interval_name m x)) _ (interval_passes m s c f v x parts.0 test blind) (itvs_pass m n refl v test blind xs all.0);
       joins = refl;
       ordered = refl;
       signs = refl;
@@ -125,13 +127,13 @@ none_some (Some x) h = refl
 pub hull_there : ExpressionsReturn → (m : Data) (s : List SequenceDef) (c : List CumulDef) (f : List Constraint) → IsValid m → (e : Expr) → is_expr m e ≡ true → is_written_expr e ≡ true
     → is_none (hull_of (mid m s c f) (expr_of (mid m s c f) (logic_tree m e))) ≡ false
 hull_there return m s c f v e it written =
-    ap (λ x. is_none (hull_of (mid m s c f) x)) (return m (mid m s c f) e v refl it written) ∙ none_some (hull_of m e) (both (fold-Expr Bool (expr_step m) e) (is_some (hull_of m e)) it).1
+    ap (λ x. is_none (hull_of (mid m s c f) x)) (return m (mid m s c f) e v refl it written) ∙ none_some (hull_of m e) (and_parts (fold-Expr Bool (expr_step m) e) (is_some (hull_of m e)) it).1
 
 pub names_there : ExpressionsNameIntervals → (m : Data) (s : List SequenceDef) (c : List CumulDef) (f : List Constraint) → IsValid m → (e : Expr) → is_expr m e ≡ true → (test : NameTest) → Blind (mid m s c f) test → some_in_logic test (logic_tree m e) ≡ false
 names_there name m s c f v e it test blind = name m e test it (λ x there. interval_passes m s c f v x there test blind)
 
 pub sparse_there : FactorsReturn → (m : Data) (e : Expr) → is_written_expr e ≡ true → is_crowded (factor_of (logic_tree m e)) ≡ false
-sparse_there factors m e written = ap is_crowded (factors m e) ∙ fails (is_crowded (factor e)) (both (fold-Expr Bool written_step e) (not (is_crowded (factor e))) written).1
+sparse_there factors m e written = ap is_crowded (factors m e) ∙ not-true (is_crowded (factor e)) (and_parts (fold-Expr Bool written_step e) (not (is_crowded (factor e))) written).1
 
 pub logic_stays : ExpressionsReturn → FactorsReturn → ExpressionsNameIntervals → (m : Data) (s : List SequenceDef) (c : List CumulDef) (f : List Constraint) (e : Expr)
     → Place m s c f (constraint.Logic e) → is_expr m e ≡ true → is_written_expr e ≡ true → Stays m s c f (constraint.Logic e)
@@ -160,16 +162,16 @@ equal_stays m s c f g x w i j here it =
     let n = mid m s c f in
     let con = constraint.AlwaysEqual g x w i j in
     let v = here.valid in
-    let parts = four (nat_lt g.0 (length m.states)) (is_itv m x) (is_amount w) (is_row (matrix_of m (state_matrix m g)) w) it in
+    let parts = four_true (nat_lt g.0 (length m.states)) (is_itv m x) (is_amount w) (is_row (matrix_of m (state_matrix m g)) w) it in
     let state = stf_back m n refl v g parts.0 in
     let interval = itv_back m n refl v x parts.1 in
     let value = int_back w (amount_small w parts.2) in
     leaves m n (constraint_tree m con) con s c f v (record {
-      names = λ test blind. nor (test State (state_name m g)) (test Interval (interval_name m x)) (blind State (state_name m g) g.0 (number_stf m n refl v g parts.0)) (interval_passes m s c f v x parts.1 test blind);
+      names = λ test blind. or_from (test State (state_name m g)) (test Interval (interval_name m x)) (blind State (state_name m g) g.0 (number_stf m n refl v g parts.0)) (interval_passes m s c f v x parts.1 test blind);
       joins = refl;
       ordered = refl;
       signs = ap is_negative value ∙ amount_sign w parts.2;
-      fitting = not_true _ ((λ k. is_row (matrix_of n (state_matrix n (state k))) (value k)) ∙ parts.3);
+      fitting = not_from_true _ ((λ k. is_row (matrix_of n (state_matrix n (state k))) (value k)) ∙ parts.3);
       once = refl;
       inside = refl;
       small = ap is_large value ∙ amount_size w parts.2;
@@ -184,11 +186,11 @@ none_stays m s c f g x here it =
     let n = mid m s c f in
     let con = constraint.AlwaysNoState g x in
     let v = here.valid in
-    let parts = both (nat_lt g.0 (length m.states)) (is_itv m x) it in
+    let parts = and_parts (nat_lt g.0 (length m.states)) (is_itv m x) it in
     let state = stf_back m n refl v g parts.0 in
     let interval = itv_back m n refl v x parts.1 in
     leaves m n (constraint_tree m con) con s c f v (record {
-      names = λ test blind. nor (test State (state_name m g)) (test Interval (interval_name m x)) (blind State (state_name m g) g.0 (number_stf m n refl v g parts.0)) (interval_passes m s c f v x parts.1 test blind);
+      names = λ test blind. or_from (test State (state_name m g)) (test Interval (interval_name m x)) (blind State (state_name m g) g.0 (number_stf m n refl v g parts.0)) (interval_passes m s c f v x parts.1 test blind);
       joins = refl;
       ordered = refl;
       signs = refl;

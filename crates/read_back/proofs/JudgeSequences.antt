@@ -3,6 +3,8 @@ use Rattle.std.proofs.Common.{◌≡◌, ℕ, pos, Bool, true, false, ◌&&◌, 
 use Rattle.std.specs.List.{filter, list_all, cons_option}
 use Rattle.std.proofs.lemmas.List.{length-map, append_assoc}
 use Rattle.std.proofs.lemmas.List.Elements.{filter_map-append}
+use Rattle.std.proofs.lemmas.Bool.{and_parts, and_from, or_from, not_from_true}
+use Rattle.base_laws.specs.laws.Kept.{names_kept}
 use Rattle.sched_model.specs.declared.types.SequenceDef.{SequenceDef}
 use Rattle.sched_model.specs.Words.{passes_if_any}
 use Rattle.sched_model.specs.Data.{Data}
@@ -18,12 +20,11 @@ use Rattle.read_back.specs.Trees.{int_tree, sequence_tree}
 use Rattle.read_back.proofs.Items.{item}
 use Rattle.read_back.proofs.Names.{itvs_back}
 use Rattle.read_back.proofs.JudgeNames.{itvs_pass}
-use Rattle.read_back.proofs.Truth.{both, joined, nor, not_true}
 use Rattle.read_back.proofs.JudgeNumbers.{type_trees, types_back, types_pass, amount_sign, amount_size}
 use Rattle.read_back.proofs.JudgeFrame.{StepBy}
 use Rattle.read_back.proofs.JudgeLimits.{made, Fronts, front_none, front_all, made_within}
 use Rattle.read_back.proofs.JudgeFresh.{Next, next_fresh, next_short, in_third}
-use Rattle.read_back.proofs.JudgeNamed.{filter_push, filter_skip, named_front, names_kept}
+use Rattle.read_back.proofs.JudgeNamed.{filter_push, filter_skip, named_front}
 use Rattle.read_back.proofs.Members.{Listing, listing}
 
 abbrev typed : SequenceDef → List ℕ → Bool
@@ -31,17 +32,17 @@ typed d ts = nat_eq (length ts) (length d.members) && list_all (λ t. nat_le t 1
 
 back_types : (d : SequenceDef) (o : Option (List ℕ)) → passes_if_any (typed d) o ≡ true → option_map types_in (option_map type_trees o) ≡ o
 back_types d None h = refl
-back_types d (Some ts) h = ap Some (types_back ts (both (nat_eq (length ts) (length d.members)) _ h).1)
+back_types d (Some ts) h = ap Some (types_back ts (and_parts (nat_eq (length ts) (length d.members)) _ h).1)
 
 pass_types : (m : Data) (d : SequenceDef) (n : List ℕ) (o : Option (List ℕ)) → passes_if_any (typed d) o ≡ true
     → (some_amount is_negative (Define n (SequenceVar (interval_names m d.members) (option_map type_trees o))) ≡ false) × (some_amount is_large (Define n (SequenceVar (interval_names m d.members) (option_map type_trees o))) ≡ false)
 pass_types m d n None h = (refl, refl)
-pass_types m d n (Some ts) h = let small = (both (nat_eq (length ts) (length d.members)) _ h).1 in (types_pass is_negative amount_sign ts small, types_pass is_large amount_size ts small)
+pass_types m d n (Some ts) h = let small = (and_parts (nat_eq (length ts) (length d.members)) _ h).1 in (types_pass is_negative amount_sign ts small, types_pass is_large amount_size ts small)
 
 fit_types : (m n : Data) (d : SequenceDef) (name : List ℕ) (o : Option (List ℕ)) → passes_if_any (typed d) o ≡ true → misfits n (Define name (SequenceVar (interval_names m d.members) (option_map type_trees o))) ≡ false
 fit_types m n d name None h = refl
 fit_types m n d name (Some ts) h =
-    not_true _ ((λ i. nat_eq (length-map ts (λ t. int_tree (pos t)) i) (length-map d.members (interval_name m) i)) ∙ (both (nat_eq (length ts) (length d.members)) _ h).0)
+    not_from_true _ ((λ i. nat_eq (length-map ts (λ t. int_tree (pos t)) i) (length-map d.members (interval_name m) i)) ∙ (and_parts (nat_eq (length ts) (length d.members)) _ h).0)
 
 abbrev pub at_sequences : Data → List SequenceDef → Data
 at_sequences m front = made m.intervals m.matrices (filter is_named_sequence front) [] [] []
@@ -91,8 +92,8 @@ sequence_made m v parts front back d (Some name) is named =
         signs = amounts.0;
         fitting = fit_types m n d name d.types l.types;
         once = ap are_distinct (itvs_back m n refl v d.members l.there) ∙ l.once;
-        narrow = nor (nat_lt 64 (length name)) _ (next_short m n name v next) (nor (some_amount is_large s) false amounts.1 refl);
-        room = joined (nat_le (length (interval_names m d.members)) 500) _ (few_names m d l)
+        narrow = or_from (nat_lt 64 (length name)) _ (next_short m n name v next) (or_from (some_amount is_large s) false amounts.1 refl);
+        room = and_from (nat_le (length (interval_names m d.members)) 500) _ (few_names m d l)
             (ap is_within_limits made_it ∙ made_within m m.intervals m.matrices (filter is_named_sequence (front ++ d ∷ [])) [] [] [] v.limits fronts);
         single = refl;
         hull = refl;

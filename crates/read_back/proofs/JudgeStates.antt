@@ -1,6 +1,7 @@
 -- The statement of a state function passes each test, and adds the function.
 use Rattle.std.proofs.Common.{◌≡◌, true, false, List, [], ◌∷◌, ◌++◌, map, filter_map, length, Option, Some, None, option_map, nat_lt, refl, sym, ap, ◌∙◌}
 use Rattle.std.proofs.lemmas.List.{map-append}
+use Rattle.std.proofs.lemmas.Bool.{or_from}
 use Rattle.sched_base.specs.declared.ids.Mat.{Mat}
 use Rattle.sched_model.specs.declared.types.SequenceDef.{SequenceDef}
 use Rattle.sched_model.specs.declared.types.CumulDef.{CumulDef}
@@ -15,7 +16,6 @@ use Rattle.sched_text.specs.Pieces.{matrix_name}
 use Rattle.read_back.specs.Trees.{state_tree}
 use Rattle.read_back.proofs.Items.{item}
 use Rattle.read_back.proofs.Names.{number_mat, mat_back}
-use Rattle.read_back.proofs.Truth.{nor}
 use Rattle.read_back.proofs.JudgeNames.{Blind}
 use Rattle.read_back.proofs.JudgeFrame.{Clean}
 use Rattle.read_back.proofs.JudgeLimits.{made, Front, Fronts, front_none, front_all, front_to, made_within}
@@ -67,7 +67,7 @@ state_step m v s c heads front back d is =
         signs = refl;
         fitting = refl;
         once = refl;
-        narrow = nor (nat_lt 64 (length d.name)) _ (next_short m n d.name v next) refl;
+        narrow = or_from (nat_lt 64 (length d.name)) _ (next_short m n d.name v next) refl;
         room = ap is_within_limits made_it ∙ made_within m m.intervals m.matrices s c (front ++ d ∷ []) [] v.limits fronts;
         single = refl;
         hull = refl;

@@ -2,6 +2,9 @@
 use Rattle.std.proofs.Common.{◌≡◌, ℕ, ℤ, Bool, true, false, not, ◌||◌, List, [], ◌∷◌, ◌++◌, map, flat_map, length, slice_get, Option, Some, None, is_some, is_none, nat_lt, nat_le, int_le, refl, sym, ap, subst, ◌∙◌}
 use Rattle.std.specs.List.{count_by}
 use Rattle.std.proofs.lemmas.List.{append_assoc, append-nil}
+use Rattle.std.proofs.lemmas.Bool.{and_parts}
+use Rattle.base_laws.specs.laws.Places.{none_if_not}
+use Rattle.base_laws.specs.laws.Items.{all_at}
 use Rattle.sched_base.specs.declared.ids.Seq.{Seq}
 use Rattle.sched_base.specs.declared.ids.Cum.{Cum}
 use Rattle.sched_base.specs.declared.ids.Mat.{Mat}
@@ -19,8 +22,8 @@ use Rattle.read_back.specs.Trees.{constraint_tree}
 use Rattle.read_back.specs.Written.{IsWritten, is_written, is_one_bound, sequences_in, cumuls_in}
 use Rattle.read_back.specs.Laws.{ExpressionsReturn, FactorsReturn, ExpressionsNameIntervals}
 use Rattle.read_back.proofs.Members.{listing}
-use Rattle.read_back.proofs.Items.{item_at, all_at, item}
-use Rattle.read_back.proofs.Truth.{both, five, the_other}
+use Rattle.read_back.proofs.Items.{item_at, item}
+use Rattle.read_back.proofs.Truth.{five, the_other}
 use Rattle.read_back.proofs.JudgeFrame.{Leads, lead}
 use Rattle.read_back.proofs.JudgeLimits.{front_to}
 use Rattle.read_back.proofs.JudgeMiddle.{mid, Middle, named_seq, Leaves}
@@ -68,10 +71,6 @@ middle_of m us vs ds es w ls lc = record {
   named_cumuls = λ i d name at is. named_there is_named_cumul m.cumuls vs w.cumuls i d at (ap is_some is);
 }
 
-no_name : {X : Type 0} (o : Option X) → is_some o ≡ false → o ≡ None
-no_name None h = refl
-no_name (Some x) h = cc
-
 none_of : {X : Type 0} (o : Option X) → is_none o ≡ true → o ≡ None
 none_of None h = refl
 none_of (Some x) h = cc
@@ -82,7 +81,7 @@ overlap_below : (m : Data) (w : Whole m) (us : List SequenceDef) (vs : List Cumu
     → Place m (sequences_with m us) (cumuls_with m vs) f (constraint.NoOverlap p o direct) → is_constraint m (constraint.NoOverlap p o direct) ≡ true → is_written m (constraint.NoOverlap p o direct) ≡ true
     → nat_le (count_by is_named_sequence m.sequences) p.0 ≡ false → LeftSequences m (constraint.NoOverlap p o direct ∷ ds) us → LeftCumuls m ds vs → Stepped m us vs f (constraint.NoOverlap p o direct) ds
 overlap_below m w us vs f p o direct ds here it flag low ls lc =
-    let parts = both (is_seq m p) (passes_if_any (fits_types m p) o) it in
+    let parts = and_parts (is_seq m p) (passes_if_any (fits_types m p) o) it in
     let d = item_at m.sequences p.0 parts.0 in
     let has_name = is_named is_named_sequence m.sequences w.sequences p.0 d.0 d.1 low in
     let q = named_seq m p (ap (passes is_named_sequence) d.1 ∙ has_name) in
@@ -98,7 +97,7 @@ overlap_above : (m : Data) (w : Whole m) (us : List SequenceDef) (vs : List Cumu
     → Place m (sequences_with m us) (cumuls_with m vs) f (constraint.NoOverlap p o direct) → is_constraint m (constraint.NoOverlap p o direct) ≡ true → is_written m (constraint.NoOverlap p o direct) ≡ true
     → nat_le (count_by is_named_sequence m.sequences) p.0 ≡ true → LeftSequences m (constraint.NoOverlap p o direct ∷ ds) us → LeftCumuls m ds vs → Stepped m us vs f (constraint.NoOverlap p o direct) ds
 overlap_above m w us vs f p o direct ds here it flag high ls lc =
-    let parts = both (is_seq m p) (passes_if_any (fits_types m p) o) it in
+    let parts = and_parts (is_seq m p) (passes_if_any (fits_types m p) o) it in
     let u = used is_named_sequence m.sequences p.0 (flat_map sequences_in ds) us w.sequences high ls in
     let d = u.def in
     let untyped = none_of d.types (the_other (is_named_sequence d) (is_none d.types) (all_at (λ (d : SequenceDef). is_named_sequence d || is_none d.types) m.sequences p.0 d w.written.untyped u.at) u.fails) in
@@ -107,7 +106,7 @@ overlap_above m w us vs f p o direct ds here it flag high ls lc =
       sequences = us ++ d ∷ [];
       cumuls = vs;
       leaves = subst (λ s. Leaves (so_far m us vs f) (constraint_tree m (constraint.NoOverlap p o direct)) (mid m s (cumuls_with m vs) (f ++ constraint.NoOverlap p o direct ∷ []))) (append_assoc (named is_named_sequence m.sequences) us (d ∷ []))
-          (overlap_listed m (sequences_with m us) (cumuls_with m vs) f p d o direct here u.at (no_name d.name u.fails) untyped l u.place u.more parts.1 flag);
+          (overlap_listed m (sequences_with m us) (cumuls_with m vs) f p d o direct here u.at (none_if_not d.name u.fails) untyped l u.place u.more parts.1 flag);
       left_sequences = u.left;
       left_cumuls = lc;
     }
@@ -155,7 +154,7 @@ cumul_by m w us vs f k x lo hi ds true here it one h ls lc =
       sequences = us;
       cumuls = vs ++ d ∷ [];
       leaves = subst (λ c. Leaves (so_far m us vs f) (constraint_tree m (constraint.CumulIn k x lo hi)) (mid m (sequences_with m us) c (f ++ constraint.CumulIn k x lo hi ∷ []))) (append_assoc (named is_named_cumul m.cumuls) vs (d ∷ []))
-          (cumul_unnamed m (sequences_with m us) (cumuls_with m vs) f k x lo hi d here level.1 u.at (no_name d.name u.fails) parts some u.place u.more);
+          (cumul_unnamed m (sequences_with m us) (cumuls_with m vs) f k x lo hi d here level.1 u.at (none_if_not d.name u.fails) parts some u.place u.more);
       left_sequences = ls;
       left_cumuls = u.left;
     }

@@ -3,6 +3,7 @@ use Rattle.std.proofs.Common.{◌≡◌, ℕ, ◌+◌, ◌≤◌, [], ◌++◌, 
 use Rattle.std.specs.List.{filter}
 use Rattle.std.specs.Option.{option_to_list}
 use Rattle.std.proofs.lemmas.List.{append-nil}
+use Rattle.base_laws.specs.laws.Kept.{names_kept}
 use Rattle.sched_model.specs.declared.types.SequenceDef.{SequenceDef}
 use Rattle.sched_model.specs.declared.types.CumulDef.{CumulDef}
 use Rattle.sched_model.specs.declared.types.Sense.{Sense}
@@ -24,7 +25,7 @@ use Rattle.read_back.proofs.JudgeFew.{few_statements}
 use Rattle.read_back.proofs.JudgeFrame.{Leads, leads_on, lead, phase, every, judged_leads}
 use Rattle.read_back.proofs.JudgeLimits.{aimed_within}
 use Rattle.read_back.proofs.JudgeDefinitions.{at_intervals, interval_step, at_matrices, matrix_step}
-use Rattle.read_back.proofs.JudgeNamed.{named_front, names_kept}
+use Rattle.read_back.proofs.JudgeNamed.{named_front}
 use Rattle.read_back.proofs.JudgeSequences.{at_sequences, sequence_step}
 use Rattle.read_back.proofs.JudgeCumuls.{at_cumuls, cumul_step}
 use Rattle.read_back.proofs.JudgeStates.{Heads, at_states, state_step}

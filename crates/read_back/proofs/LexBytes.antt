@@ -2,10 +2,10 @@
 use Rattle.std.proofs.Common.{◌≡◌, ℕ, ◌≤◌, ◌==◌, Bool, true, false, ◌||◌, List, [], ◌∷◌, length, take, refl, arith}
 use Rattle.std.specs.List.{list_all}
 use Rattle.std.proofs.lemmas.Bool.Decides.{nat_tests}
+use Rattle.std.proofs.lemmas.Bool.{and_parts}
 use Rattle.cpo_text.specs.declared.piece.Piece.{Piece}
 use Rattle.cpo_text.specs.declared.piece.Piece.TheVariants.{Name, Int, Sign, Quoted, Blank, Line, Block}
 use Rattle.cpo_text.specs.Tokens.{is_letter, is_digit, is_blank, is_sign_byte, is_sign_pair, IsPiece, IsAtFront}
-use Rattle.read_back.proofs.Truth.{both}
 
 -- the first byte of a sign
 abbrev pub is_sign_first : ℕ → Bool
@@ -28,7 +28,7 @@ pair_first c d is = grind (arith, nat_tests)
 
 pub begins_by : (p : Piece) (c : ℕ) (cs : List ℕ) → IsPiece p (c ∷ cs) → Begins p c
 begins_by Name c cs is = is.0
-begins_by Int c cs is = (both (is_digit c) (list_all is_digit cs) is).0
+begins_by Int c cs is = (and_parts (is_digit c) (list_all is_digit cs) is).0
 begins_by Sign c [] is = single_first c is
 begins_by Sign c (d ∷ []) is = pair_first c d is
 begins_by Sign c (d ∷ e ∷ es) is = absurd is

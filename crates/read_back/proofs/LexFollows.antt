@@ -4,10 +4,10 @@ use Rattle.std.specs.Prelude.{not, flat_map}
 use Rattle.std.specs.List.{list_all}
 use Rattle.std.specs.Fmt.{decimal}
 use Rattle.std.proofs.lemmas.Bool.Decides.{nat_tests}
+use Rattle.std.proofs.lemmas.Bool.{and_parts}
 use Rattle.cpo_text.specs.Tokens.{is_letter, is_digit, is_name_byte, is_blank, is_sign_byte, is_sign_pair, literal_limit}
 use Rattle.read_back.specs.Says.{Chunk, chunk_bytes, is_sign, is_left_out, is_chunk, makes_pair, is_apart, are_apart}
 use Rattle.read_back.specs.Says.Chunk.{name, number, sign, blank}
-use Rattle.read_back.proofs.Truth.{both}
 use Rattle.read_back.proofs.LexBytes.{is_sign_first, Begins, single_first, pair_first}
 use Rattle.read_back.proofs.LexNumbers.{decimal_are_digits, decimal_is_some}
 use Rattle.read_back.proofs.LexPieces.{chunk_piece, is_followed}
@@ -21,17 +21,17 @@ record Opens (c : Chunk) : Type 0 where
 
 digits_open : (ds : List ℕ) → list_all is_digit ds ≡ true → 0 < length ds → (d : ℕ) × (more : List ℕ) × (ds ≡ d ∷ more) × (is_digit d ≡ true)
 digits_open [] all some = absurd (omega arith)
-digits_open (d ∷ ds) all some = (d, ds, refl, (both (is_digit d) (list_all is_digit ds) all).0)
+digits_open (d ∷ ds) all some = (d, ds, refl, (and_parts (is_digit d) (list_all is_digit ds) all).0)
 
 opens : (c : Chunk) → is_chunk c ≡ true → Opens c
 opens (name []) is = cc
-opens (name (c ∷ cs)) is = record { first = c; more = cs; are = refl; kind = (both (is_letter c) (list_all is_name_byte cs) (both (is_letter c && list_all is_name_byte cs) (not (is_left_out (c ∷ cs))) is).0).0 }
+opens (name (c ∷ cs)) is = record { first = c; more = cs; are = refl; kind = (and_parts (is_letter c) (list_all is_name_byte cs) (and_parts (is_letter c && list_all is_name_byte cs) (not (is_left_out (c ∷ cs))) is).0).0 }
 opens (number n) is =
     let small : n ≤ literal_limit = grind (arith, nat_tests) in
     let d = digits_open (decimal n) (decimal_are_digits n small) (decimal_is_some n small) in
     record { first = d.0; more = d.1; are = d.2; kind = d.3 }
 opens (sign []) is = cc
-opens (sign (a ∷ [])) is = record { first = a; more = []; are = refl; kind = single_first a (both (is_sign_byte a) (not (a == 47)) is).0 }
+opens (sign (a ∷ [])) is = record { first = a; more = []; are = refl; kind = single_first a (and_parts (is_sign_byte a) (not (a == 47)) is).0 }
 opens (sign (a ∷ b ∷ [])) is = record { first = a; more = b ∷ []; are = refl; kind = pair_first a b is }
 opens (sign (a ∷ b ∷ d ∷ ds)) is = cc
 opens (blank b) is = record { first = b; more = []; are = refl; kind = is }
@@ -100,9 +100,9 @@ last_followed (blank b) = refl
 pub followed : (c : Chunk) (cs : List Chunk) → list_all is_chunk (c ∷ cs) ≡ true → are_apart (c ∷ cs) ≡ true → is_followed c (flat_map chunk_bytes cs) ≡ true
 followed c [] are apart = last_followed c
 followed c (d ∷ ds) are apart =
-    let here = (both (is_chunk d) (list_all is_chunk ds) (both (is_chunk c) (list_all is_chunk (d ∷ ds)) are).1).0 in
-    followed_by c d (flat_map chunk_bytes ds) here (both (is_apart c d) (are_apart (d ∷ ds)) apart).0
+    let here = (and_parts (is_chunk d) (list_all is_chunk ds) (and_parts (is_chunk c) (list_all is_chunk (d ∷ ds)) are).1).0 in
+    followed_by c d (flat_map chunk_bytes ds) here (and_parts (is_apart c d) (are_apart (d ∷ ds)) apart).0
 
 pub rest_apart : (c : Chunk) (cs : List Chunk) → are_apart (c ∷ cs) ≡ true → are_apart cs ≡ true
 rest_apart c [] apart = refl
-rest_apart c (d ∷ ds) apart = (both (is_apart c d) (are_apart (d ∷ ds)) apart).1
+rest_apart c (d ∷ ds) apart = (and_parts (is_apart c d) (are_apart (d ∷ ds)) apart).1

@@ -2,6 +2,7 @@
 use Rattle.std.proofs.Common.{◌≡◌, true, not, List, [], ◌∷◌, length, map, None, refl, sym, ap, subst, arith}
 use Rattle.std.specs.Prelude.{pos, flat_map}
 use Rattle.std.specs.List.{list_all}
+use Rattle.std.proofs.lemmas.Bool.{and_parts, not-true}
 use Rattle.cpo_text.specs.declared.tree.Statement.{Statement}
 use Rattle.cpo_text.specs.declared.text.Form.{Form}
 use Rattle.cpo_text.specs.declared.text.Form.TheVariants.{Tree as Parsed}
@@ -11,14 +12,13 @@ use Rattle.cpo_text.specs.Runs.{words_of, offset, is_deep, has_many_nestings, ea
 use Rattle.cpo_text.specs.Spelling.{spelling, is_formed}
 use Rattle.cpo_text.specs.Reads.{HasForm, AreReadings}
 use Rattle.read_back.specs.Laws.{is_shallow}
-use Rattle.read_back.proofs.Truth.{both, fails}
 use Rattle.read_back.proofs.LexWords.{AreKnown, parts_known}
 
 none_early : (s : Statement) → is_shallow s ≡ true → AreKnown (spelling s) → early (spelling s) ≡ None
 none_early s shallow known =
-    let parts = both (not (is_deep (pos 0) (spelling s))) (not (has_many_nestings (spelling s))) shallow in
-    let flat = fails (is_deep (pos 0) (spelling s)) parts.0 in
-    let few = fails (has_many_nestings (spelling s)) parts.1 in
+    let parts = and_parts (not (is_deep (pos 0) (spelling s))) (not (has_many_nestings (spelling s))) shallow in
+    let flat = not-true (is_deep (pos 0) (spelling s)) parts.0 in
+    let few = not-true (has_many_nestings (spelling s)) parts.1 in
     rw (known.left_out, flat, few) refl
 
 statement_form : (s : Statement) → is_formed s ≡ true → is_shallow s ≡ true → AreKnown (spelling s) → HasForm (spelling s) (Parsed s)
@@ -37,8 +37,8 @@ pub are_readings : (rs : List (List Token)) (ss : List Statement) → map words_
 are_readings [] ss same formed shallow known = tt
 are_readings (r ∷ rs) [] same formed shallow known = cc
 are_readings (r ∷ rs) (s ∷ ss) same formed shallow known =
-    let f = both (is_formed s) (list_all is_formed ss) formed in
-    let d = both (is_shallow s) (list_all is_shallow ss) shallow in
+    let f = and_parts (is_formed s) (list_all is_formed ss) formed in
+    let d = and_parts (is_shallow s) (list_all is_shallow ss) shallow in
     let k = parts_known (spelling s) (flat_map spelling ss) known in
     let here : words_of r ≡ spelling s = cc in
     let behind : map words_of rs ≡ map spelling ss = cc in

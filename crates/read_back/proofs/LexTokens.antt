@@ -5,13 +5,13 @@ use Rattle.std.specs.List.{list_all}
 use Rattle.std.specs.Fmt.{decimal}
 use Rattle.std.proofs.Math.Seq.{take-append_seam, drop-append_seam}
 use Rattle.std.proofs.lemmas.Bool.Decides.{nat_tests}
+use Rattle.std.proofs.lemmas.Bool.{and_parts}
 use Rattle.cpo_text.specs.declared.piece.Piece.{Piece}
 use Rattle.cpo_text.specs.Words.{Word, Word as word, size_word}
 use Rattle.cpo_text.specs.Tokens.{Token, ArePieces, HasTokens, bounded, digits_value, literal_limit, word_of, put, tokens_of, has_comment}
 use Rattle.cpo_text.specs.Runs.{words_of}
 use Rattle.read_back.specs.Says.{Chunk, chunk_bytes, chunk_words, is_chunk, are_apart, Says}
 use Rattle.read_back.specs.Says.Chunk.{name, number, sign, blank}
-use Rattle.read_back.proofs.Truth.{both}
 use Rattle.read_back.proofs.LexNumbers.{decimal_is_value}
 use Rattle.read_back.proofs.LexPieces.{chunk_piece, chunk_longest}
 use Rattle.read_back.proofs.LexFollows.{followed, rest_apart}
@@ -26,7 +26,7 @@ chunk_pieces (c ∷ cs) = (chunk_piece c, length (chunk_bytes c)) ∷ chunk_piec
 are_pieces : (cs : List Chunk) → list_all is_chunk cs ≡ true → are_apart cs ≡ true → ArePieces (chunk_bytes_all cs) (chunk_pieces cs) []
 are_pieces [] are apart = refl
 are_pieces (c ∷ cs) are apart =
-    let parts = both (is_chunk c) (list_all is_chunk cs) are in
+    let parts = and_parts (is_chunk c) (list_all is_chunk cs) are in
     let rest = chunk_bytes_all cs in (
       chunk_longest c rest parts.0 (followed c cs are apart),
       subst (λ bs. ArePieces bs (chunk_pieces cs) []) (sym (drop-append_seam (chunk_bytes c) rest)) (are_pieces cs parts.1 (rest_apart c cs apart)),
@@ -56,7 +56,7 @@ put_words at (blank b) ts is = refl
 words_said : (at : ℕ) (cs : List Chunk) → list_all is_chunk cs ≡ true → words_of (tokens_of at (chunk_bytes_all cs) (chunk_pieces cs)) ≡ flat_map chunk_words cs
 words_said at [] are = refl
 words_said at (c ∷ cs) are =
-    let parts = both (is_chunk c) (list_all is_chunk cs) are in
+    let parts = and_parts (is_chunk c) (list_all is_chunk cs) are in
     let rest = chunk_bytes_all cs in
     let size = length (chunk_bytes c) in
     let tokens = λ (bs : List ℕ). tokens_of (at + size) bs (chunk_pieces cs) in

@@ -29,10 +29,8 @@ pub mod JudgeStates
 pub mod JudgeWalk
 pub mod JudgeWhole
 pub mod LexBytes
-pub mod LexEnds
 pub mod LexFollows
 pub mod LexForms
-pub mod LexFree
 pub mod LexNumbers
 pub mod LexPieces
 pub mod LexReads
@@ -61,7 +59,6 @@ pub mod WrittenFine
 pub mod WrittenHalves
 pub mod WrittenModels
 pub mod WrittenNames
-pub mod WrittenParted
 pub mod WrittenPlaces
 pub mod WrittenStated
 pub mod WrittenTexts

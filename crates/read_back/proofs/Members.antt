@@ -1,13 +1,15 @@
 -- What a sequence of a valid model has: each of its members is an interval of the model.
-use Rattle.std.proofs.Common.{◌≡◌, ℕ, zero, suc, Bool, true, false, ◌&&◌, ◌||◌, List, [], ◌∷◌, length, slice_index_or, None, nat_lt, nat_le, nat_eq, refl, ap, ◌∙◌}
+use Rattle.std.proofs.Common.{◌≡◌, ℕ, zero, suc, true, ◌&&◌, ◌||◌, List, [], ◌∷◌, length, slice_index_or, None, nat_le, nat_eq, refl, ◌∙◌}
 use Rattle.std.specs.List.{list_all}
+use Rattle.std.proofs.lemmas.Bool.{and_parts}
+use Rattle.base_laws.specs.laws.Truth.{three_true}
 use Rattle.sched_base.specs.declared.ids.Itv.{Itv}
 use Rattle.sched_base.specs.declared.ids.Seq.{Seq}
 use Rattle.sched_model.specs.declared.types.SequenceDef.{SequenceDef}
-use Rattle.sched_model.specs.Data.{Data, same, has, members_of}
+use Rattle.sched_model.specs.Data.{Data, has, members_of}
 use Rattle.sched_model.specs.Words.{passes_if_any}
 use Rattle.sched_model.specs.Valid.{IsValid, is_itv, is_seq, is_member, are_parts, are_distinct, is_sequence_def}
-use Rattle.read_back.proofs.Truth.{both, each, same_number}
+use Rattle.sched_model.specs.laws.Members.{one_of}
 
 pub record Listing (m : Data) (d : SequenceDef) : Type 0 where
   pub there : list_all (is_itv m) d.members ≡ true
@@ -17,24 +19,14 @@ pub record Listing (m : Data) (d : SequenceDef) : Type 0 where
 
 pub listing : (m : Data) (d : SequenceDef) → is_sequence_def m d ≡ true → Listing m d
 listing m d h =
-    let parts = each (are_parts m d.members) (nat_le (length d.members) 500) _ h in
-    let members = both (list_all (is_itv m) d.members) (are_distinct d.members) parts.0 in
+    let parts = three_true (are_parts m d.members) (nat_le (length d.members) 500) _ h in
+    let members = and_parts (list_all (is_itv m) d.members) (are_distinct d.members) parts.0 in
     record { there = members.0; once = members.1; few = parts.1; types = parts.2 }
 
 all_members : (m : Data) (ds : List SequenceDef) (i : ℕ) → list_all (is_sequence_def m) ds ≡ true → list_all (is_itv m) (slice_index_or ds i (record { name = None; members = []; types = None })).members ≡ true
 all_members m [] i all = refl
-all_members m (d ∷ ds) zero all = (listing m d (both (is_sequence_def m d) _ all).0).there
-all_members m (d ∷ ds) (suc i) all = all_members m ds i (both (is_sequence_def m d) _ all).1
-
-this_or_later : (m : Data) (x y : Itv) (later b : Bool) → same x y ≡ b → is_itv m y ≡ true → (later ≡ true → is_itv m x ≡ true) → (b || later) ≡ true → is_itv m x ≡ true
-this_or_later m x y later true is here rest some = ap (λ i. nat_lt i (length m.intervals)) (same_number x.0 y.0 is) ∙ here
-this_or_later m x y later false is here rest some = rest some
-
-one_of : (m : Data) (x : Itv) (xs : List Itv) → list_all (is_itv m) xs ≡ true → has xs x ≡ true → is_itv m x ≡ true
-one_of m x [] all some = cc
-one_of m x (y ∷ ys) all some =
-    let parts = both (is_itv m y) (list_all (is_itv m) ys) all in
-    this_or_later m x y (has ys x) (same x y) refl parts.0 (one_of m x ys parts.1) some
+all_members m (d ∷ ds) zero all = (listing m d (and_parts (is_sequence_def m d) _ all).0).there
+all_members m (d ∷ ds) (suc i) all = all_members m ds i (and_parts (is_sequence_def m d) _ all).1
 
 pub member_is : (m : Data) (p : Seq) (x : Itv) → IsValid m → is_member m p x ≡ true → is_itv m x ≡ true
-member_is m p x valid is = one_of m x (members_of m p) (all_members m m.sequences p.0 valid.sequences) (both (is_seq m p) (has (members_of m p) x) is).1
+member_is m p x valid is = one_of m x (members_of m p) (all_members m m.sequences p.0 valid.sequences) (and_parts (is_seq m p) (has (members_of m p) x) is).1

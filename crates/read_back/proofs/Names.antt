@@ -4,13 +4,15 @@ use Rattle.std.specs.List.{list_all, position_or_len, cons_option}
 use Rattle.std.specs.Str.{bytes_eq}
 use Rattle.std.proofs.lemmas.Cmp.{nat_list_eq_equiv}
 use Rattle.std.proofs.lemmas.List.{length-map}
+use Rattle.std.proofs.lemmas.Bool.{and_parts, and_from, not-true}
+use Rattle.base_laws.specs.laws.Places.{within}
 use Rattle.sched_model.specs.Words.{passes, pairwise}
 use Rattle.sched_model.specs.Data.{Data}
 use Rattle.sched_model.specs.Valid.{all_names, IsValid, is_name, is_itv, is_mat}
 use Rattle.cpo_elab.specs.declared.names.Sort.TheVariants.{Interval, Matrix, State}
 use Rattle.cpo_elab.specs.Named.{number_of, itv_of, itvs_of, mat_of, stf_of}
-use Rattle.read_back.proofs.Truth.{both, joined, fails, all_parts}
-use Rattle.read_back.proofs.Items.{within, item_at}
+use Rattle.read_back.proofs.Truth.{all_parts}
+use Rattle.read_back.proofs.Items.{item_at}
 use Rattle.sched_base.specs.declared.ids.Itv.{Itv}
 use Rattle.sched_base.specs.declared.ids.Mat.{Mat}
 use Rattle.sched_base.specs.declared.ids.Stf.{Stf}
@@ -26,11 +28,11 @@ AreApart ns = pairwise differ ns ≡ true
 
 pub apart_left : (xs ys : List (List ℕ)) → AreApart (xs ++ ys) → AreApart xs
 apart_left [] ys apart = refl
-apart_left (x ∷ xs) ys apart = let parts = both (list_all (differ x) (xs ++ ys)) _ apart in joined _ _ (all_parts (differ x) xs ys parts.0).0 (apart_left xs ys parts.1)
+apart_left (x ∷ xs) ys apart = let parts = and_parts (list_all (differ x) (xs ++ ys)) _ apart in and_from _ _ (all_parts (differ x) xs ys parts.0).0 (apart_left xs ys parts.1)
 
 apart_right : (xs ys : List (List ℕ)) → AreApart (xs ++ ys) → AreApart ys
 apart_right [] ys apart = apart
-apart_right (x ∷ xs) ys apart = apart_right xs ys (both (list_all (differ x) (xs ++ ys)) _ apart).1
+apart_right (x ∷ xs) ys apart = apart_right xs ys (and_parts (list_all (differ x) (xs ++ ys)) _ apart).1
 
 -- the place of a name
 
@@ -39,20 +41,20 @@ in_later f q [] i x n there is all = cc
 in_later f q (y ∷ ys) zero x n there is all = first (f y) (let same : y ≡ x = cc there in ap f same ∙ is) all where
   first : (o : Option (List ℕ)) → o ≡ Some n → list_all q (cons_option o (filter_map f ys)) ≡ true → q n ≡ true
   first None h all = cc
-  first (Some k) h all = let same : k ≡ n = cc h in ap q (sym same) ∙ (both (q k) _ all).0
+  first (Some k) h all = let same : k ≡ n = cc h in ap q (sym same) ∙ (and_parts (q k) _ all).0
 in_later f q (y ∷ ys) (suc i) x n there is all = in_later f q ys i x n there is (rest (f y) all) where
   rest : (o : Option (List ℕ)) → list_all q (cons_option o (filter_map f ys)) ≡ true → list_all q (filter_map f ys) ≡ true
   rest None all = all
-  rest (Some k) all = (both (q k) _ all).1
+  rest (Some k) all = (and_parts (q k) _ all).1
 
 rest_apart : (o : Option (List ℕ)) (ns : List (List ℕ)) → AreApart (cons_option o ns) → AreApart ns
 rest_apart None ns apart = apart
-rest_apart (Some k) ns apart = (both (list_all (differ k) ns) _ apart).1
+rest_apart (Some k) ns apart = (and_parts (list_all (differ k) ns) _ apart).1
 
 other_first : {X : Type 0} (f : X → Option (List ℕ)) (o : Option (List ℕ)) (xs : List X) (i : ℕ) (x : X) (n : List ℕ) → slice_get xs i ≡ Some x → f x ≡ Some n → AreApart (cons_option o (filter_map f xs)) → passes (bytes_eq n) o ≡ false
 other_first f None xs i x n there is apart = refl
 other_first f (Some k) xs i x n there is apart =
-    nat_list_eq_equiv.symm n k ∙ fails (bytes_eq k n) (in_later f (differ k) xs i x n there is (both (list_all (differ k) (filter_map f xs)) _ apart).0)
+    nat_list_eq_equiv.symm n k ∙ not-true (bytes_eq k n) (in_later f (differ k) xs i x n there is (and_parts (list_all (differ k) (filter_map f xs)) _ apart).0)
 
 one_more : (b : Bool) (i j : ℕ) → b ≡ false → j ≡ i → cond (not b) (1 + j) 0 ≡ suc i
 one_more true i j h is = cc
@@ -89,7 +91,7 @@ pub record Apart (m : Data) : Type 0 where
   pub states : AreApart (map (λ d. d.name) m.states)
 
 pub names_apart : (m : Data) → IsValid m → AreApart (all_names m)
-names_apart m v = (both (list_all is_name (all_names m)) _ v.names).1
+names_apart m v = (and_parts (list_all is_name (all_names m)) _ v.names).1
 
 pub apart : (m : Data) → IsValid m → Apart m
 apart m v =
@@ -144,7 +146,7 @@ stf_back m n same v g there = let is = number_stf m n same v g there in λ i. re
 pub itvs_back : (m n : Data) → n.intervals ≡ m.intervals → IsValid m → (xs : List Itv) → list_all (is_itv m) xs ≡ true → itvs_of n (interval_names m xs) ≡ xs
 itvs_back m n same v [] all = refl
 itvs_back m n same v (x ∷ xs) all =
-    let parts = both (is_itv m x) _ all in
+    let parts = and_parts (is_itv m x) _ all in
     let first = itv_back m n same v x parts.0 in
     let rest = itvs_back m n same v xs parts.1 in
     λ i. first i ∷ rest i

@@ -3,6 +3,7 @@ use Rattle.std.proofs.Common.{◌≡◌, ℕ, Bool, true, false, List, [], ◌�
 use Rattle.sched_model.specs.Data.{Data}
 use Rattle.cpo_text.specs.declared.tree.Statement.{Statement}
 use Rattle.cpo_elab.specs.Judged.{defines_again, uses_unknown, uses_wrong, has_reversed, has_negative, misfits, has_twice, passes_limit, aims_again, has_no_hull, has_crowded, first_of, number_in}
+use Rattle.cpo_elab.specs.lemmas.Firsts.{all_false, AllFalse}
 
 -- no test fails the statement
 pub record Passes (n : Data) (k : ℕ) (s : Statement) : Type 0 where
@@ -22,10 +23,6 @@ abbrev tests : Data → ℕ → Statement → List (Bool × ℕ)
 tests n k s = (defines_again n s, 4) ∷ (uses_unknown n s, 5) ∷ (uses_wrong n s, 6) ∷ (has_reversed s, 7) ∷ (has_negative s, 8) ∷ (misfits n s, 9)
     ∷ (has_twice n s, 10) ∷ (passes_limit n k s, 11) ∷ (aims_again n s, 12) ∷ (has_no_hull n s, 13) ∷ (has_crowded s, 14) ∷ []
 
-abbrev AllFalse : List (Bool × ℕ) → Type 0
-AllFalse [] = Unit {0}
-AllFalse (t ∷ ts) = (t.0 ≡ false) × AllFalse ts
-
 none_first : (b : Bool) (n : ℕ) (ts : List (Bool × ℕ)) → b ≡ false → first_of ts ≡ None → first_of ((b, n) ∷ ts) ≡ None
 none_first true n ts h rest = cc
 none_first false n ts h rest = rest
@@ -33,14 +30,6 @@ none_first false n ts h rest = rest
 none_says_so : (ts : List (Bool × ℕ)) → AllFalse ts → first_of ts ≡ None
 none_says_so [] h = refl
 none_says_so (t ∷ ts) h = none_first t.0 t.1 ts h.0 (none_says_so ts h.1)
-
-first_false : (b : Bool) (n : ℕ) (ts : List (Bool × ℕ)) → first_of ((b, n) ∷ ts) ≡ None → (b ≡ false) × (first_of ts ≡ None)
-first_false true n ts h = cc
-first_false false n ts h = (refl, h)
-
-all_false : (ts : List (Bool × ℕ)) → first_of ts ≡ None → AllFalse ts
-all_false [] h = tt
-all_false (t ∷ ts) h = let parts = first_false t.0 t.1 ts h in (parts.0, all_false ts parts.1)
 
 pub no_number : (n : Data) (k : ℕ) (s : Statement) → Passes n k s → number_in n k s ≡ None
 unfolding number_in

@@ -2,11 +2,12 @@
 use Rattle.std.proofs.Common.{◌≡◌, ℕ, suc, ℤ, pos, negsuc, neg_ℤ, Bool, true, cond, Some, None, unwrap_or, nat_le, int_le, ap, arith}
 use Rattle.std.proofs.lemmas.Bool.Decides.{nat_tests}
 use Rattle.std.proofs.lemmas.Int.{ints}
+use Rattle.base_laws.specs.laws.Truth.{three_true}
 use Rattle.sched_model.specs.Valid.{is_moment, is_span_of_moments, is_small, is_amount}
+use Rattle.sched_model.specs.laws.Small.{moment_small, amount_small}
 use Rattle.cpo_text.specs.Tokens.{literal_limit}
 use Rattle.cpo_elab.specs.Numbers.{size_of, int_of}
 use Rattle.read_back.specs.Trees.{int_tree}
-use Rattle.read_back.proofs.Truth.{each}
 
 -- no literal is larger
 abbrev pub is_literal : ℤ → Bool
@@ -23,12 +24,6 @@ pub small_literal : (z : ℤ) → is_small z ≡ true → is_literal z ≡ true
 small_literal (pos n) h = small_pos n h
 small_literal (negsuc n) h = small_neg n h
 
-pub moment_small : (z : ℤ) → is_moment z ≡ true → is_small z ≡ true
-moment_small z h = grind (arith, ints)
-
-pub amount_small : (z : ℤ) → is_amount z ≡ true → is_small z ≡ true
-amount_small z h = grind (arith, ints)
-
 pub moment_literal : (z : ℤ) → is_moment z ≡ true → is_literal z ≡ true
 moment_literal z h = small_literal z (moment_small z h)
 
@@ -42,7 +37,7 @@ pub type_literal : (n : ℕ) → nat_le n 1000000 ≡ true → is_literal (pos n
 type_literal n h = amount_literal (pos n) (type_amount n h)
 
 pub span : (lo hi : ℤ) → is_span_of_moments lo hi ≡ true → (is_moment lo ≡ true) × (is_moment hi ≡ true) × (int_le lo hi ≡ true)
-span lo hi h = each (is_moment lo) (is_moment hi) (int_le lo hi) h
+span lo hi h = three_true (is_moment lo) (is_moment hi) (int_le lo hi) h
 
 pub span_literals : (lo hi : ℤ) → is_span_of_moments lo hi ≡ true → (is_literal lo ≡ true) × (is_literal hi ≡ true)
 span_literals lo hi h = let parts = span lo hi h in (moment_literal lo parts.0, moment_literal hi parts.1)

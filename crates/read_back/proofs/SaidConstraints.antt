@@ -6,6 +6,7 @@ use Rattle.std.specs.Ordering.{int_eq}
 use Rattle.std.specs.Fmt.{signed_decimal}
 use Rattle.std.proofs.lemmas.Fmt.{decimal_digit}
 use Rattle.std.proofs.lemmas.List.{append_assoc, append-nil}
+use Rattle.std.proofs.lemmas.Bool.{and_parts}
 use Rattle.cpo_text.specs.Words.{Word, Word as word, commas, call}
 use Rattle.cpo_text.specs.Cumulative.{cumul_words}
 use Rattle.cpo_text.specs.Spelling.{temporal_word as tree_word, sense_word as tree_sense, name_words, names_words, flag_words, over_words, spaced_items, constraint_words, is_formed}
@@ -39,7 +40,6 @@ use Rattle.read_back.specs.Says.{Says}
 use Rattle.read_back.specs.Says.Chunk.{sign, blank}
 use Rattle.read_back.proofs.Joined.{a_name, a_number}
 use Rattle.read_back.proofs.Numbers.{small_literal, amount_literal, span_literals}
-use Rattle.read_back.proofs.Truth.{both}
 use Rattle.read_back.proofs.SaidJoined.{across, along, comma, space}
 use Rattle.read_back.proofs.SaidNumbers.{an_int}
 use Rattle.read_back.proofs.SaidRows.{Row, none, more, in_square, names_row, a_call, called}
@@ -67,7 +67,7 @@ spaced_said : (m : Data) (p : Seq) (matrix : Option Mat) (direct : Bool) → Kno
     → Says (over_text m p ++ distance_text m matrix direct) (commas (over_words (over_tree m p) ∷ spaced_items (option_map (λ x. spaced_tree m direct x.0) matrix)))
 spaced_said m p None direct known is fits = rw (append-nil (over_text m p)) (over_said m p known is)
 spaced_said m p (Some x) direct known is fits =
-    across (sign (44 ∷ [])) comma (over_said m p known is) (along (sign (44 ∷ [])) comma (a_name (matrix_name m x) (matrix_told m x known.told (both (is_mat m x) _ fits).0)) (flag_said direct))
+    across (sign (44 ∷ [])) comma (over_said m p known is) (along (sign (44 ∷ [])) comma (a_name (matrix_name m x) (matrix_told m x known.told (and_parts (is_mat m x) _ fits).0)) (flag_said direct))
 
 -- bounds
 
@@ -98,8 +98,8 @@ within_said m f tree (During x) lo hi known here is low high =
 parts_said : (m : Data) (word : List ℕ) (x : Itv) (xs : List Itv) → IsTrue (is_told word) → Known m → IsTrue (is_itv m x && are_parts m xs)
     → Says (piece.call word (interval_name m x ∷ list_text m xs ∷ [])) (call word (name_words (interval_name m x) ∷ names_words (interval_names m xs) ∷ []))
 parts_said m word x xs spelt known is =
-    let parts = both (is_itv m x) (are_parts m xs) is in
-    let members = both (list_all (is_itv m) xs) (are_distinct xs) parts.1 in
+    let parts = and_parts (is_itv m x) (are_parts m xs) is in
+    let members = and_parts (list_all (is_itv m) xs) (are_distinct xs) parts.1 in
     called word spelt (more (a_name _ (interval_told m x known.told parts.0)) (more (in_square (names_row (interval_names m xs) (intervals_told m xs known.told members.0))) none))
 
 member_told : (m : Data) (p : Seq) (x : Itv) → Known m → IsTrue (is_member m p x) → Says (interval_name m x) (name_words (interval_name m x))
@@ -107,37 +107,37 @@ member_told m p x known is = a_name (interval_name m x) (interval_told m x known
 
 constraint_said : (m : Data) (c : Constraint) → Known m → ExpressionsAreSaid → IsTrue (is_constraint m c) → IsTrue (is_written m c) → Says (constraint_text m c) (constraint_words (constraint_tree m c))
 constraint_said m (Temporal from to equal x y z) known said is written =
-    let parts = both (is_itv m x && is_itv m y) (is_small z) is in
-    let ends = both (is_itv m x) (is_itv m y) parts.0 in
+    let parts = and_parts (is_itv m x && is_itv m y) (is_small z) is in
+    let ends = and_parts (is_itv m x) (is_itv m y) parts.0 in
     temporal_said from to equal (more (a_name _ (interval_told m x known.told ends.0)) (more (a_name _ (interval_told m y known.told ends.1)) (more (an_int z (small_literal z parts.1)) none)))
 constraint_said m (Logic e) known said is written = said m e known.valid known.written is written
 constraint_said m (Span x parts) known said is written = parts_said m (codes "span") x parts refl known is
 constraint_said m (Alternative x parts) known said is written = parts_said m (codes "alternative") x parts refl known is
 constraint_said m (Synchronize x parts) known said is written = parts_said m (codes "synchronize") x parts refl known is
 constraint_said m (NoOverlap p matrix direct) known said is written =
-    let parts = both (is_seq m p) (passes_if_any (fits_types m p) matrix) is in
+    let parts = and_parts (is_seq m p) (passes_if_any (fits_types m p) matrix) is in
     let texts : List (List ℕ) = (over_text m p ++ distance_text m matrix direct) ∷ [] in
     let words : List (List Word) = over_words (over_tree m p) ∷ spaced_items (option_map (λ x. spaced_tree m direct x.0) matrix) in
     a_call (codes "noOverlap") texts words refl (spaced_said m p matrix direct known parts.0 parts.1)
 constraint_said m (First p x) known said is written = called (codes "first") refl (more (named_said m p known written) (more (member_told m p x known is) none))
 constraint_said m (Last p x) known said is written = called (codes "last") refl (more (named_said m p known written) (more (member_told m p x known is) none))
 constraint_said m (Before p x y) known said is written =
-    let parts = both (is_member m p x) (is_member m p y) (both (is_member m p x && is_member m p y) (not (same x y)) is).0 in
+    let parts = and_parts (is_member m p x) (is_member m p y) (and_parts (is_member m p x && is_member m p y) (not (same x y)) is).0 in
     called (codes "before") refl (more (named_said m p known written) (more (member_told m p x known parts.0) (more (member_told m p y known parts.1) none)))
 constraint_said m (Prev p x y) known said is written =
-    let parts = both (is_member m p x) (is_member m p y) (both (is_member m p x && is_member m p y) (not (same x y)) is).0 in
+    let parts = and_parts (is_member m p x) (is_member m p y) (and_parts (is_member m p x && is_member m p y) (not (same x y)) is).0 in
     called (codes "prev") refl (more (named_said m p known written) (more (member_told m p x known parts.0) (more (member_told m p y known parts.1) none)))
 constraint_said m (CumulIn f w lo hi) known said is written =
-    let high = both (nat_lt f.0 (length m.cumuls) && is_window m w && is_small lo) (is_small hi) (both (nat_lt f.0 (length m.cumuls) && is_window m w && is_small lo && is_small hi) (int_le lo hi) is).0 in
-    let low = both (nat_lt f.0 (length m.cumuls) && is_window m w) (is_small lo) high.0 in
-    let front = both (nat_lt f.0 (length m.cumuls)) (is_window m w) low.0 in
+    let high = and_parts (nat_lt f.0 (length m.cumuls) && is_window m w && is_small lo) (is_small hi) (and_parts (nat_lt f.0 (length m.cumuls) && is_window m w && is_small lo && is_small hi) (int_le lo hi) is).0 in
+    let low = and_parts (nat_lt f.0 (length m.cumuls) && is_window m w) (is_small lo) high.0 in
+    let front = and_parts (nat_lt f.0 (length m.cumuls)) (is_window m w) low.0 in
     within_said m (function_text m f) (function_tree m f) w lo hi known (function_said m f known front.0) front.1 low.1 high.1
 constraint_said m (AlwaysEqual g x v i j) known said is written =
-    let amount = both (nat_lt g.0 (length m.states) && is_itv m x) (is_amount v) (both (nat_lt g.0 (length m.states) && is_itv m x && is_amount v) (is_row (matrix_of m (state_matrix m g)) v) is).0 in
-    let parts = both (nat_lt g.0 (length m.states)) (is_itv m x) amount.0 in
+    let amount = and_parts (nat_lt g.0 (length m.states) && is_itv m x) (is_amount v) (and_parts (nat_lt g.0 (length m.states) && is_itv m x && is_amount v) (is_row (matrix_of m (state_matrix m g)) v) is).0 in
+    let parts = and_parts (nat_lt g.0 (length m.states)) (is_itv m x) amount.0 in
     called (codes "alwaysEqual") refl (more (a_name _ (state_told m g known.told parts.0)) (more (a_name _ (interval_told m x known.told parts.1)) (more (an_int v (amount_literal v amount.1)) (more (flag_said i) (more (flag_said j) none)))))
 constraint_said m (AlwaysNoState g x) known said is written =
-    let parts = both (nat_lt g.0 (length m.states)) (is_itv m x) is in
+    let parts = and_parts (nat_lt g.0 (length m.states)) (is_itv m x) is in
     called (codes "alwaysNoState") refl (more (a_name _ (state_told m g known.told parts.0)) (more (a_name _ (interval_told m x known.told parts.1)) none))
 
 bounded_formed : (b : Bool) (f : Cumul) (lo hi : ℤ) → IsTrue (is_formed (Constrain (if b then Bounded f AtMost (int_tree hi) else Bounded f AtLeast (int_tree lo))))
@@ -166,7 +166,7 @@ constraint_formed m (AlwaysNoState g x) formed is written = refl
 
 pub constraint_line : (m : Data) (c : Constraint) → Known m → ExpressionsAreSaid → ExpressionsAreFormed → IsTrue (is_constraint m c && is_written m c) → Lines (statement (constraint_text m c)) (Constrain (constraint_tree m c) ∷ [])
 constraint_line m c known said formed is =
-    let parts = both (is_constraint m c) (is_written m c) is in
+    let parts = and_parts (is_constraint m c) (is_written m c) is in
     line _ (Constrain (constraint_tree m c)) (constraint_said m c known said parts.0 parts.1) (constraint_formed m c formed parts.0 parts.1)
 
 -- the objective

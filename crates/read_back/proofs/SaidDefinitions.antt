@@ -4,6 +4,7 @@ use Rattle.std.specs.Prelude.{IsTrue, codes, nat_le, nat_eq, ◌*◌, int_le, op
 use Rattle.std.specs.List.{list_all}
 use Rattle.std.specs.Fmt.{decimal}
 use Rattle.std.proofs.lemmas.List.{append-nil}
+use Rattle.std.proofs.lemmas.Bool.{and_parts, and_from}
 use Rattle.cpo_text.specs.Words.{Word, commas}
 use Rattle.cpo_text.specs.Spelling.{int_words, ints_words, names_words, name_words, ivarg_words, types_items, is_formed}
 use Rattle.sched_base.specs.declared.ids.Itv.{Itv}
@@ -26,7 +27,6 @@ use Rattle.read_back.specs.Says.{Says}
 use Rattle.read_back.specs.Says.Chunk.{sign}
 use Rattle.read_back.proofs.Joined.{a_name, a_number}
 use Rattle.read_back.proofs.Numbers.{is_literal, span_literals, amount_literal, type_literal}
-use Rattle.read_back.proofs.Truth.{both, joined}
 use Rattle.read_back.proofs.SaidJoined.{across, comma}
 use Rattle.read_back.proofs.SaidNumbers.{a_range}
 use Rattle.read_back.proofs.SaidRows.{Row, none, more, in_square, a_call, called, ints_row, names_row, a_given_list}
@@ -40,9 +40,9 @@ interval_args b d = optional_args b ++ Start (range_tree d.start_lo d.start_hi) 
 
 ranges_row : (d : IntervalDef) → IsTrue (is_interval_def d) → Row (range_items d) (map ivarg_words (interval_args false d))
 ranges_row d is =
-    let spans = both (is_span_of_moments d.start_lo d.start_hi && is_span_of_moments d.end_lo d.end_hi && is_span_of_moments d.size_lo d.size_hi) (int_le (pos 0) d.size_lo) is in
-    let sizes = both (is_span_of_moments d.start_lo d.start_hi && is_span_of_moments d.end_lo d.end_hi) (is_span_of_moments d.size_lo d.size_hi) spans.0 in
-    let ends = both (is_span_of_moments d.start_lo d.start_hi) (is_span_of_moments d.end_lo d.end_hi) sizes.0 in
+    let spans = and_parts (is_span_of_moments d.start_lo d.start_hi && is_span_of_moments d.end_lo d.end_hi && is_span_of_moments d.size_lo d.size_hi) (int_le (pos 0) d.size_lo) is in
+    let sizes = and_parts (is_span_of_moments d.start_lo d.start_hi && is_span_of_moments d.end_lo d.end_hi) (is_span_of_moments d.size_lo d.size_hi) spans.0 in
+    let ends = and_parts (is_span_of_moments d.start_lo d.start_hi) (is_span_of_moments d.end_lo d.end_hi) sizes.0 in
     let start = span_literals d.start_lo d.start_hi ends.0 in
     let end = span_literals d.end_lo d.end_hi ends.1 in
     let size = span_literals d.size_lo d.size_hi sizes.1 in
@@ -66,16 +66,16 @@ interval_line d told is = line _ (interval_tree d) (defined d.name _ _ told (cal
 all_front : {X : Type 0} (p : X → Bool) (n : ℕ) (xs : List X) → IsTrue (list_all p xs) → IsTrue (list_all p (take n xs))
 all_front p zero xs all = refl
 all_front p (suc n) [] all = refl
-all_front p (suc n) (x ∷ xs) all = let parts = both (p x) (list_all p xs) all in joined (p x) _ parts.0 (all_front p n xs parts.1)
+all_front p (suc n) (x ∷ xs) all = let parts = and_parts (p x) (list_all p xs) all in and_from (p x) _ parts.0 (all_front p n xs parts.1)
 
 all_behind : {X : Type 0} (p : X → Bool) (n : ℕ) (xs : List X) → IsTrue (list_all p xs) → IsTrue (list_all p (drop n xs))
 all_behind p zero xs all = all
 all_behind p (suc n) [] all = refl
-all_behind p (suc n) (x ∷ xs) all = all_behind p n xs (both (p x) (list_all p xs) all).1
+all_behind p (suc n) (x ∷ xs) all = all_behind p n xs (and_parts (p x) (list_all p xs) all).1
 
 all_cells : (zs : List ℤ) → IsTrue (list_all is_amount zs) → IsTrue (list_all is_literal zs)
 all_cells [] all = refl
-all_cells (z ∷ zs) all = let parts = both (is_amount z) (list_all is_amount zs) all in joined (is_literal z) _ (amount_literal z parts.0) (all_cells zs parts.1)
+all_cells (z ∷ zs) all = let parts = and_parts (is_amount z) (list_all is_amount zs) all in and_from (is_literal z) _ (amount_literal z parts.0) (all_cells zs parts.1)
 
 rows_row : (k n : ℕ) (cells : List ℤ) → IsTrue (list_all is_literal cells) → Row (rows k n cells) (map ints_words (map (map int_tree) (cell_rows k n cells)))
 rows_row zero n cells all = none
@@ -83,7 +83,7 @@ rows_row (suc k) n cells all = more (in_square (ints_row (take n cells) (all_fro
 
 pub matrix_line : (d : MatrixDef) → IsTrue (is_told d.name) → IsTrue (is_matrix_def d) → Lines (matrix_text d) (matrix_tree d ∷ [])
 matrix_line d told is =
-    let cells = (both (nat_le 1 d.size && nat_le d.size 200 && nat_eq (length d.cells) (d.size * d.size)) (list_all is_amount d.cells) is).1 in
+    let cells = (and_parts (nat_le 1 d.size && nat_le d.size 200 && nat_eq (length d.cells) (d.size * d.size)) (list_all is_amount d.cells) is).1 in
     line _ (matrix_tree d) (defined d.name _ _ told (called (codes "transitionMatrix") refl (more (in_square (rows_row d.size d.size d.cells (all_cells d.cells cells))) none))) refl
 
 -- sequences with names
@@ -91,7 +91,7 @@ matrix_line d told is =
 types_row : (ts : List ℕ) → IsTrue (list_all (λ t. nat_le t 1000000) ts) → Row (map decimal ts) (map int_words (map (λ t. int_tree (pos t)) ts))
 types_row [] all = none
 types_row (t ∷ ts) all =
-    let parts = both (nat_le t 1000000) (list_all (λ u. nat_le u 1000000) ts) all in
+    let parts = and_parts (nat_le t 1000000) (list_all (λ u. nat_le u 1000000) ts) all in
     more (a_number t (type_literal t parts.0)) (types_row ts parts.1)
 
 -- the members, and their types where they are there
@@ -102,14 +102,14 @@ members_said members (Some ts) told is = across (sign (44 ∷ [])) comma (in_squ
 
 types_of : (count : ℕ) (types : Option (List ℕ)) → IsTrue (passes_if_any (λ ts. nat_eq (length ts) count && list_all (λ t. nat_le t 1000000) ts) types) → IsTrue (passes_if_any (λ ts. list_all (λ t. nat_le t 1000000) ts) types)
 types_of count None is = refl
-types_of count (Some ts) is = (both (nat_eq (length ts) count) (list_all (λ t. nat_le t 1000000) ts) is).1
+types_of count (Some ts) is = (and_parts (nat_eq (length ts) count) (list_all (λ t. nat_le t 1000000) ts) is).1
 
 sequence_told : (m : Data) (o : Option (List ℕ)) (members : List Itv) (types : Option (List ℕ)) → AreTold m → IsTrue (passes_if_any is_told o) → IsTrue (is_sequence_def m (record { name = o; members = members; types = types }))
     → Lines (named_sequence_text m (record { name = o; members = members; types = types })) (option_to_list (option_map (sequence_tree m (record { name = o; members = members; types = types })) o))
 sequence_told m None members types told named is = no_line
 sequence_told m (Some n) members types told named is =
-    let parts = both (are_parts m members && nat_le (length members) 500) (passes_if_any (λ ts. nat_eq (length ts) (length members) && list_all (λ t. nat_le t 1000000) ts) types) is in
-    let are = both (list_all (is_itv m) members) (are_distinct members) (both (are_parts m members) (nat_le (length members) 500) parts.0).0 in
+    let parts = and_parts (are_parts m members && nat_le (length members) 500) (passes_if_any (λ ts. nat_eq (length ts) (length members) && list_all (λ t. nat_le t 1000000) ts) types) is in
+    let are = and_parts (list_all (is_itv m) members) (are_distinct members) (and_parts (are_parts m members) (nat_le (length members) 500) parts.0).0 in
     let d : SequenceDef = record { name = Some n; members = members; types = types } in
     let texts : List (List ℕ) = (list_text m members ++ types_text types) ∷ [] in
     let words : List (List Word) = names_words (interval_names m members) ∷ types_items (option_map (map (λ t. int_tree (pos t))) types) in

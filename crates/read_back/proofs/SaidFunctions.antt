@@ -3,6 +3,7 @@ use Rattle.std.proofs.Common.{ℕ, Bool, true, false, not, ◌&&◌, List, [], �
 use Rattle.std.specs.Prelude.{flat_map, IsTrue, codes, if◌then◌else◌, option_map, option_to_list}
 use Rattle.std.specs.List.{list_all}
 use Rattle.std.proofs.lemmas.List.{append_assoc, append-nil}
+use Rattle.std.proofs.lemmas.Bool.{and_parts, and_from}
 use Rattle.cpo_text.specs.Words.{Word, Word as word}
 use Rattle.cpo_text.specs.Parts.{minus_words}
 use Rattle.cpo_text.specs.Cumulative.{cpart_words, more_words, cumul_words}
@@ -19,7 +20,6 @@ use Rattle.read_back.specs.Says.{Says}
 use Rattle.read_back.specs.Says.Chunk.{sign}
 use Rattle.read_back.proofs.Joined.{nothing, a_name}
 use Rattle.read_back.proofs.Numbers.{moment_literal, amount_literal, span_literals}
-use Rattle.read_back.proofs.Truth.{both, joined}
 use Rattle.read_back.proofs.SaidJoined.{across, plus, minus}
 use Rattle.read_back.proofs.SaidNumbers.{an_int}
 use Rattle.read_back.proofs.SaidRows.{none, more, called}
@@ -28,20 +28,20 @@ use Rattle.read_back.proofs.Spelt.{is_told, AreTold, interval_told}
 
 shape_said : (m : Data) (s : Shape) → AreTold m → IsTrue (is_shape m s) → Says (shape_text m s) (cpart_words (shape_tree m s))
 shape_said m (Pulse u v h) told is =
-    let parts = both (is_span_of_moments u v) (is_amount h) is in
+    let parts = and_parts (is_span_of_moments u v) (is_amount h) is in
     let span = span_literals u v parts.0 in
     called (codes "pulse") refl (more (an_int u span.0) (more (an_int v span.1) (more (an_int h (amount_literal h parts.1)) none)))
 shape_said m (Step u h) told is =
-    let parts = both (is_moment u) (is_amount h) is in
+    let parts = and_parts (is_moment u) (is_amount h) is in
     called (codes "step") refl (more (an_int u (moment_literal u parts.0)) (more (an_int h (amount_literal h parts.1)) none))
 shape_said m (PulseOf x h) told is =
-    let parts = both (is_itv m x) (is_amount h) is in
+    let parts = and_parts (is_itv m x) (is_amount h) is in
     called (codes "pulse") refl (more (a_name _ (interval_told m x told parts.0)) (more (an_int h (amount_literal h parts.1)) none))
 shape_said m (StepAtStart x h) told is =
-    let parts = both (is_itv m x) (is_amount h) is in
+    let parts = and_parts (is_itv m x) (is_amount h) is in
     called (codes "stepAtStart") refl (more (a_name _ (interval_told m x told parts.0)) (more (an_int h (amount_literal h parts.1)) none))
 shape_said m (StepAtEnd x h) told is =
-    let parts = both (is_itv m x) (is_amount h) is in
+    let parts = and_parts (is_itv m x) (is_amount h) is in
     called (codes "stepAtEnd") refl (more (a_name _ (interval_told m x told parts.0)) (more (an_int h (amount_literal h parts.1)) none))
 
 -- a sign between two parts, and in front of the first
@@ -56,10 +56,10 @@ signed_first false here = here
 parts_said : (m : Data) (p : Part) (ps : List Part) → AreTold m → IsTrue (list_all (λ i. is_shape m i.shape) (p ∷ ps))
     → Says (shape_text m p.shape ++ flat_map (later_part m) ps) (cpart_words (shape_tree m p.shape) ++ more_words (map (part_tree m) ps))
 parts_said m p [] told are =
-    let parts = both (is_shape m p.shape) true are in
+    let parts = and_parts (is_shape m p.shape) true are in
     rw (append-nil (shape_text m p.shape), append-nil (cpart_words (shape_tree m p.shape))) (shape_said m p.shape told parts.0)
 parts_said m p (q ∷ qs) told are =
-    let parts = both (is_shape m p.shape) (list_all (λ i. is_shape m i.shape) (q ∷ qs)) are in
+    let parts = and_parts (is_shape m p.shape) (list_all (λ i. is_shape m i.shape) (q ∷ qs)) are in
     rw (append_assoc (if q.minus then codes "-" else codes "+") (shape_text m q.shape) (flat_map (later_part m) qs))
     (signed q.minus (shape_said m p.shape told parts.0) (parts_said m q qs told parts.1))
 
@@ -75,11 +75,11 @@ is_function m d = passes_if_any is_told d.name && not (is_empty d.parts) && is_c
 
 function_parts : (m : Data) (o : Option (List ℕ)) (ps : List Part) → AreTold m → IsTrue (is_function m (record { name = o; parts = ps })) → Says (parts_text m ps) (cumul_words (parts_tree m ps))
 function_parts m o ps told is =
-    let parts = both (passes_if_any is_told o && not (is_empty ps)) (list_all (λ i. is_shape m i.shape) ps) is in
-    written_out m ps told (both (passes_if_any is_told o) (not (is_empty ps)) parts.0).1 parts.1
+    let parts = and_parts (passes_if_any is_told o && not (is_empty ps)) (list_all (λ i. is_shape m i.shape) ps) is in
+    written_out m ps told (and_parts (passes_if_any is_told o) (not (is_empty ps)) parts.0).1 parts.1
 
 function_name : (m : Data) (n : List ℕ) (ps : List Part) → IsTrue (is_function m (record { name = Some n; parts = ps })) → IsTrue (is_told n)
-function_name m n ps is = (both (is_told n) (not (is_empty ps)) (both (is_told n && not (is_empty ps)) (list_all (λ i. is_shape m i.shape) ps) is).0).0
+function_name m n ps is = (and_parts (is_told n) (not (is_empty ps)) (and_parts (is_told n && not (is_empty ps)) (list_all (λ i. is_shape m i.shape) ps) is).0).0
 
 function_told : (m : Data) (o : Option (List ℕ)) (ps : List Part) → AreTold m → IsTrue (is_function m (record { name = o; parts = ps }))
     → Lines (named_cumul_text m (record { name = o; parts = ps })) (option_to_list (option_map (cumul_tree m (record { name = o; parts = ps })) o))
@@ -103,7 +103,7 @@ function_use m d told is = use_told m d.name d.parts told is
 pub functions_of : (m : Data) (ds : List CumulDef) → IsTrue (list_all (λ d. passes_if_any is_told d.name) ds) → IsTrue (list_all (λ d. not (is_empty d.parts)) ds) → IsTrue (list_all (is_cumul_def m) ds) → IsTrue (list_all (is_function m) ds)
 functions_of m [] named filled are = refl
 functions_of m (d ∷ ds) named filled are =
-    let first = both (passes_if_any is_told d.name) (list_all (λ e. passes_if_any is_told e.name) ds) named in
-    let second = both (not (is_empty d.parts)) (list_all (λ e. not (is_empty e.parts)) ds) filled in
-    let third = both (is_cumul_def m d) (list_all (is_cumul_def m) ds) are in
-    joined (is_function m d) _ (joined (passes_if_any is_told d.name && not (is_empty d.parts)) _ (joined (passes_if_any is_told d.name) _ first.0 second.0) third.0) (functions_of m ds first.1 second.1 third.1)
+    let first = and_parts (passes_if_any is_told d.name) (list_all (λ e. passes_if_any is_told e.name) ds) named in
+    let second = and_parts (not (is_empty d.parts)) (list_all (λ e. not (is_empty e.parts)) ds) filled in
+    let third = and_parts (is_cumul_def m d) (list_all (is_cumul_def m) ds) are in
+    and_from (is_function m d) _ (and_from (passes_if_any is_told d.name && not (is_empty d.parts)) _ (and_from (passes_if_any is_told d.name) _ first.0 second.0) third.0) (functions_of m ds first.1 second.1 third.1)

@@ -5,6 +5,7 @@ use Rattle.std.specs.List.{list_all, filter_map, cons_option}
 use Rattle.std.proofs.lemmas.List.{append_assoc, append-nil}
 use Rattle.std.proofs.lemmas.List.Concat.{flat_map-append}
 use Rattle.std.proofs.lemmas.List.Folds.{list_all-append}
+use Rattle.std.proofs.lemmas.Bool.{and_parts, and_from}
 use Rattle.cpo_text.specs.Words.{Word, Word as word}
 use Rattle.cpo_text.specs.Spelling.{spelling, statement_body, is_formed}
 use Rattle.cpo_text.specs.declared.tree.Statement.{Statement}
@@ -12,7 +13,6 @@ use Rattle.sched_text.specs.Canonical.{statement}
 use Rattle.read_back.specs.Says.{Says, is_chunk}
 use Rattle.read_back.specs.Says.Chunk.{name, sign, blank}
 use Rattle.read_back.proofs.Joined.{nothing, a_name}
-use Rattle.read_back.proofs.Truth.{both, joined}
 use Rattle.read_back.proofs.SaidJoined.{across, along, space, line_feed, semicolon}
 
 -- behind the text may stand whatever says something
@@ -30,7 +30,7 @@ pub lines_both : {a b : List ℕ} {ss ts : List Statement} → Lines a ss → Li
 lines_both {a} {b} {ss} {ts} first second = record {
   said = λ more ws says. rw (append_assoc a b more, flat_map-append spelling ss ts, append_assoc (flat_map spelling ss) (flat_map spelling ts) ws)
       (first.said (b ++ more) (flat_map spelling ts ++ ws) (second.said more ws says));
-  formed = rw (list_all-append is_formed ss ts) (joined (list_all is_formed ss) _ first.formed second.formed);
+  formed = rw (list_all-append is_formed ss ts) (and_from (list_all is_formed ss) _ first.formed second.formed);
 }
 
 line_follows : (text : List ℕ) (words : List Word) → Says text words → Follows (statement text) (words ++ word.sign (59 ∷ []) ∷ [])
@@ -40,7 +40,7 @@ line_follows text words here more ws says = rw (append_assoc (text ++ 59 ∷ [])
 pub line : (text : List ℕ) (s : Statement) → Says text (statement_body s) → IsTrue (is_formed s) → Lines (statement text) (s ∷ [])
 line text s here is = record {
   said = rw (append-nil (spelling s)) (line_follows text (statement_body s) here);
-  formed = joined (is_formed s) true is refl;
+  formed = and_from (is_formed s) true is refl;
 }
 
 equal_sign : Says (61 ∷ []) (word.sign (61 ∷ []) ∷ [])
@@ -54,7 +54,7 @@ pub lines_each : {X : Type 0} (test : X → Bool) (text : X → List ℕ) (tree 
     → (xs : List X) → IsTrue (list_all test xs) → Lines (flat_map text xs) (map tree xs)
 lines_each test text tree each [] all = no_line
 lines_each test text tree each (x ∷ xs) all =
-    let parts = both (test x) (list_all test xs) all in
+    let parts = and_parts (test x) (list_all test xs) all in
     lines_both (each x parts.0) (lines_each test text tree each xs parts.1)
 
 some_in_front : {a b : List ℕ} {ss : List Statement} (o : Option Statement) → Lines a (option_to_list o) → Lines b ss → Lines (a ++ b) (cons_option o ss)
@@ -66,5 +66,5 @@ pub lines_of_some : {X : Type 0} (test : X → Bool) (text : X → List ℕ) (tr
     → (xs : List X) → IsTrue (list_all test xs) → Lines (flat_map text xs) (filter_map tree xs)
 lines_of_some test text tree each [] all = no_line
 lines_of_some test text tree each (x ∷ xs) all =
-    let parts = both (test x) (list_all test xs) all in
+    let parts = and_parts (test x) (list_all test xs) all in
     some_in_front (tree x) (each x parts.0) (lines_of_some test text tree each xs parts.1)

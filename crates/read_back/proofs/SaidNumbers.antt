@@ -4,6 +4,7 @@ use Rattle.std.specs.Prelude.{flat_map, IsTrue, nat_le}
 use Rattle.std.specs.List.{list_all}
 use Rattle.std.specs.Fmt.{signed_decimal}
 use Rattle.std.proofs.lemmas.List.{append_assoc, append-nil}
+use Rattle.std.proofs.lemmas.Bool.{and_from}
 use Rattle.cpo_text.specs.Tokens.{literal_limit}
 use Rattle.cpo_text.specs.Spelling.{int_words, range_words, given}
 use Rattle.sched_text.specs.Pieces.{range_text}
@@ -12,7 +13,6 @@ use Rattle.read_back.specs.Trees.{int_tree, range_tree}
 use Rattle.read_back.specs.Says.{Says, Chunk, chunk_bytes, chunk_words, is_chunk, are_apart}
 use Rattle.read_back.specs.Says.Chunk.{name, number, sign}
 use Rattle.read_back.proofs.Joined.{nothing, a_number}
-use Rattle.read_back.proofs.Truth.{joined}
 use Rattle.read_back.proofs.SaidJoined.{across, minus}
 use Rattle.read_back.proofs.Numbers.{is_literal}
 
@@ -34,8 +34,8 @@ int_said (pos n) cs = refl
 int_said (negsuc n) cs = refl
 
 int_are : (z : ℤ) (cs : List Chunk) → IsTrue (is_literal z) → IsTrue (list_all is_chunk cs) → IsTrue (list_all is_chunk (int_chunks z ++ cs))
-int_are (pos n) cs is rest = joined (nat_le n literal_limit) _ is rest
-int_are (negsuc n) cs is rest = joined (nat_le (suc n) literal_limit) _ is rest
+int_are (pos n) cs is rest = and_from (nat_le n literal_limit) _ is rest
+int_are (negsuc n) cs is rest = and_from (nat_le (suc n) literal_limit) _ is rest
 
 -- a word, its sign, and a range
 abbrev range_chunks : List ℕ → ℤ → ℤ → List Chunk
@@ -58,6 +58,6 @@ a_range n lo hi is from to = record {
   chunks = range_chunks n lo hi;
   spelt = range_spelt n lo hi;
   said = range_said n lo hi;
-  are = joined (is_chunk (name n)) _ is (int_are lo (sign (46 ∷ 46 ∷ []) ∷ (int_chunks hi ++ [])) from (int_are hi [] to refl));
+  are = and_from (is_chunk (name n)) _ is (int_are lo (sign (46 ∷ 46 ∷ []) ∷ (int_chunks hi ++ [])) from (int_are hi [] to refl));
   apart = range_apart n lo hi;
 }

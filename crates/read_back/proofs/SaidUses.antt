@@ -2,7 +2,7 @@
 use Rattle.std.proofs.Common.{ℕ, zero, suc, ◌<◌, Bool, true, ◌&&◌, List, [], ◌∷◌, length, Option, Some, None, refl, arith}
 use Rattle.std.specs.Prelude.{IsTrue, nat_lt, slice_get, option_map, option_and_then, unwrap_or, is_some}
 use Rattle.std.specs.List.{list_all}
-use Rattle.std.proofs.lemmas.Bool.{ltb-true}
+use Rattle.std.proofs.lemmas.Bool.{ltb-true, and_parts, and_from}
 use Rattle.cpo_text.specs.Words.{Word}
 use Rattle.cpo_text.specs.Cumulative.{cumul_words}
 use Rattle.cpo_text.specs.Spelling.{name_words, over_words}
@@ -21,7 +21,6 @@ use Rattle.read_back.specs.Trees.{by_name, function_tree, named_or_parts, named_
 use Rattle.read_back.specs.Written.{IsWritten, is_named_at}
 use Rattle.read_back.specs.Says.{Says}
 use Rattle.read_back.proofs.Joined.{a_name}
-use Rattle.read_back.proofs.Truth.{both, joined}
 use Rattle.read_back.proofs.SaidRows.{in_square, names_row}
 use Rattle.read_back.proofs.Spelt.{is_told, AreTold, intervals_told}
 use Rattle.read_back.proofs.SaidFunctions.{is_function, function_use}
@@ -38,8 +37,8 @@ pub record Known (m : Data) : Type 0 where
 said_at : {X Y : Type 0} (test : X → Bool) (text : X → List ℕ) (tree : X → Y) (words : Y → List Word) (other : Y) → ((x : X) → IsTrue (test x) → Says (text x) (words (tree x)))
     → (xs : List X) (i : ℕ) → i < length xs → IsTrue (list_all test xs) → Says (unwrap_or (option_map text (slice_get xs i)) []) (words (unwrap_or (option_map tree (slice_get xs i)) other))
 said_at test text tree words other each [] i within all = absurd (omega arith)
-said_at test text tree words other each (x ∷ xs) zero within all = each x (both (test x) (list_all test xs) all).0
-said_at test text tree words other each (x ∷ xs) (suc i) within all = said_at test text tree words other each xs i (omega arith) (both (test x) (list_all test xs) all).1
+said_at test text tree words other each (x ∷ xs) zero within all = each x (and_parts (test x) (list_all test xs) all).0
+said_at test text tree words other each (x ∷ xs) (suc i) within all = said_at test text tree words other each xs i (omega arith) (and_parts (test x) (list_all test xs) all).1
 
 -- sequences in constraints
 
@@ -48,15 +47,15 @@ is_usable m d = passes_if_any is_told d.name && list_all (is_itv m) d.members
 
 use_said : (m : Data) (o : Option (List ℕ)) (members : List Itv) (types : Option (List ℕ)) → AreTold m → IsTrue (is_usable m (record { name = o; members = members; types = types }))
     → Says (use_text m (record { name = o; members = members; types = types })) (over_words (named_or_listed m (record { name = o; members = members; types = types })))
-use_said m None members types told is = in_square (names_row (interval_names m members) (intervals_told m members told (both true (list_all (is_itv m) members) is).1))
-use_said m (Some n) members types told is = a_name n (both (is_told n) (list_all (is_itv m) members) is).0
+use_said m None members types told is = in_square (names_row (interval_names m members) (intervals_told m members told (and_parts true (list_all (is_itv m) members) is).1))
+use_said m (Some n) members types told is = a_name n (and_parts (is_told n) (list_all (is_itv m) members) is).0
 
 usable : (m : Data) (ds : List SequenceDef) → IsTrue (list_all (λ d. passes_if_any is_told d.name) ds) → IsTrue (list_all (is_sequence_def m) ds) → IsTrue (list_all (is_usable m) ds)
 usable m [] named are = refl
 usable m (d ∷ ds) named are =
-    let first = both (passes_if_any is_told d.name) (list_all (λ e. passes_if_any is_told e.name) ds) named in
-    let second = both (is_sequence_def m d) (list_all (is_sequence_def m) ds) are in
-    joined (is_usable m d) _ (joined (passes_if_any is_told d.name) _ first.0 (listing m d second.0).there) (usable m ds first.1 second.1)
+    let first = and_parts (passes_if_any is_told d.name) (list_all (λ e. passes_if_any is_told e.name) ds) named in
+    let second = and_parts (is_sequence_def m d) (list_all (is_sequence_def m) ds) are in
+    and_from (is_usable m d) _ (and_from (passes_if_any is_told d.name) _ first.0 (listing m d second.0).there) (usable m ds first.1 second.1)
 
 pub over_said : (m : Data) (p : Seq) → Known m → IsTrue (is_seq m p) → Says (over_text m p) (over_words (over_tree m p))
 over_said m p known is =
@@ -72,8 +71,8 @@ name_of_use m (Some n) members types some told = a_name n told
 name_said : (m : Data) (ds : List SequenceDef) (i : ℕ) → IsTrue (list_all (λ d. passes_if_any is_told d.name) ds) → IsTrue (passes is_named_sequence (slice_get ds i))
     → Says (unwrap_or (option_map (use_text m) (slice_get ds i)) []) (name_words (unwrap_or (option_and_then (λ d. d.name) (slice_get ds i)) []))
 name_said m [] i told named = cc
-name_said m (d ∷ ds) zero told named = name_of_use m d.name d.members d.types named (both (passes_if_any is_told d.name) (list_all (λ e. passes_if_any is_told e.name) ds) told).0
-name_said m (d ∷ ds) (suc i) told named = name_said m ds i (both (passes_if_any is_told d.name) (list_all (λ e. passes_if_any is_told e.name) ds) told).1 named
+name_said m (d ∷ ds) zero told named = name_of_use m d.name d.members d.types named (and_parts (passes_if_any is_told d.name) (list_all (λ e. passes_if_any is_told e.name) ds) told).0
+name_said m (d ∷ ds) (suc i) told named = name_said m ds i (and_parts (passes_if_any is_told d.name) (list_all (λ e. passes_if_any is_told e.name) ds) told).1 named
 
 pub named_said : (m : Data) (p : Seq) → Known m → IsTrue (is_named_at m p) → Says (over_text m p) (name_words (sequence_name m p))
 named_said m p known named = name_said m m.sequences p.0 known.told.sequences named

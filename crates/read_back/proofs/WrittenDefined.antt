@@ -1,6 +1,8 @@
 -- A definition or an objective that deserves no number leaves the model as a text can write it.
 use Rattle.std.proofs.Common.{◌≡◌, ℕ, true, false, not, List, [], ◌∷◌, ◌++◌, map, slice_index_or, Some, None, refl, ap, ◌∙◌}
 use Rattle.std.specs.List.{flat_map}
+use Rattle.std.proofs.lemmas.Bool.{and_from, or_parts, not_from_false}
+use Rattle.base_laws.specs.laws.Items.{all_push}
 use Rattle.sched_model.specs.declared.types.IntervalDef.{IntervalDef}
 use Rattle.sched_model.specs.declared.types.MatrixDef.{MatrixDef}
 use Rattle.sched_model.specs.declared.types.SequenceDef.{SequenceDef}
@@ -11,8 +13,6 @@ use Rattle.sched_model.specs.Data.{Data, with_interval, with_matrix, with_sequen
 use Rattle.sched_model.specs.Valid.{IsValid}
 use Rattle.cpo_text.specs.Expressions.{at_least, level}
 use Rattle.cpo_text.specs.declared.expression.Logic.{Logic}
-use Rattle.cpo_text.specs.declared.tree.Ivarg.{Ivarg}
-use Rattle.cpo_text.specs.declared.tree.Ivarg.TheVariants.{Optional, Start, End, Size}
 use Rattle.cpo_text.specs.declared.cumul.Cpart.{Cpart}
 use Rattle.cpo_text.specs.declared.cumul.Cpart.TheVariants as cpart
 use Rattle.cpo_text.specs.declared.cumul.Cumul.{Cumul}
@@ -21,16 +21,17 @@ use Rattle.cpo_text.specs.declared.tree.Definition.TheVariants.{IntervalVar, Seq
 use Rattle.cpo_text.specs.declared.tree.Sense.{Sense}
 use Rattle.cpo_text.specs.declared.tree.Statement.TheVariants.{Define, Aim}
 use Rattle.cpo_elab.specs.Named.{some_in_cpart, some_in_cumul, cum_of}
-use Rattle.cpo_elab.specs.Elaborated.{plain_interval, with_ivarg, with_ivargs, interval_of, sequence_named, matrix_named, state_named, turned, plain_parts, parts_signed, parts_in, cumul_named, defined, expr_of, objective_of}
+use Rattle.cpo_elab.specs.Elaborated.{plain_interval, interval_of, sequence_named, matrix_named, state_named, turned, plain_parts, parts_signed, parts_in, cumul_named, defined, expr_of, objective_of}
 use Rattle.cpo_elab.specs.Judged.{is_of_other_sort, is_crowded}
 use Rattle.cpo_elab.specs.Factors.{factor_of}
 use Rattle.cpo_elab.specs.Numbered.{is_named_sequence, is_named_cumul}
+use Rattle.cpo_elab.specs.lemmas.Names.{right_cum}
+use Rattle.cpo_elab.specs.lemmas.Intervals.{name_kept}
 use Rattle.read_back.specs.Written.{is_written_expr, factor}
 use Rattle.read_back.proofs.ExprFolds.{is_written_tree}
-use Rattle.read_back.proofs.Truth.{joined, neither, not_false, all_push}
 use Rattle.read_back.proofs.WrittenPlaces.{counted_push}
 use Rattle.read_back.proofs.WrittenExprs.{expr_plain, same_factor}
-use Rattle.read_back.proofs.WrittenNames.{cumul_is_there, item_passes}
+use Rattle.read_back.proofs.WrittenNames.{item_passes}
 use Rattle.read_back.proofs.WrittenFine.{Fine, is_kept, is_fine_sequence, is_fine_cumul, sequence_ids, cumul_ids, all_grow, passing_stays, seqs_within, cums_within, has_parts}
 use Rattle.read_back.proofs.WrittenClear.{Told, Clear}
 
@@ -103,16 +104,6 @@ cumul_more m d valid before named fine = record {
 
 -- the name of an interval is the one that the statement defines
 
-argument_name : (d : IntervalDef) (a : Ivarg) → (with_ivarg d a).name ≡ d.name
-argument_name d Optional = refl
-argument_name d (Start r) = refl
-argument_name d (End r) = refl
-argument_name d (Size r) = refl
-
-arguments_name : (d : IntervalDef) (args : List Ivarg) → (with_ivargs d args).name ≡ d.name
-arguments_name d [] = refl
-arguments_name d (a ∷ args) = arguments_name (with_ivarg d a) args ∙ argument_name d a
-
 -- functions have parts
 
 some_append : {X : Type 0} (xs ys : List X) → not (is_empty xs) ≡ true → not (is_empty (xs ++ ys)) ≡ true
@@ -125,7 +116,7 @@ some_map f (x ∷ xs) h = refl
 
 plain_some : (m : Data) (p : Cpart) → Fine m → some_in_cpart (is_of_other_sort m) p ≡ false → not (is_empty (plain_parts m p)) ≡ true
 plain_some m (cpart.Named n) before uses =
-    has_parts (slice_index_or m.cumuls (cum_of m n).0 (record { name = None; parts = [] })) (item_passes is_fine_cumul m.cumuls (cum_of m n).0 (record { name = None; parts = [] }) before.cumuls (cumul_is_there m n uses))
+    has_parts (slice_index_or m.cumuls (cum_of m n).0 (record { name = None; parts = [] })) (item_passes is_fine_cumul m.cumuls (cum_of m n).0 (record { name = None; parts = [] }) before.cumuls (right_cum m n uses))
 plain_some m (cpart.Pulse u v h) before uses = refl
 plain_some m (cpart.PulseOf a h) before uses = refl
 plain_some m (cpart.Step u h) before uses = refl
@@ -135,23 +126,23 @@ plain_some m (cpart.StepAtEnd a h) before uses = refl
 pub parts_some : (m : Data) (c : Cumul) → Fine m → some_in_cumul (is_of_other_sort m) c ≡ false → not (is_empty (parts_in m c)) ≡ true
 parts_some m c before uses =
     some_append (parts_signed m c.first) (flat_map (parts_signed m) c.more)
-    (some_map (turned c.first.minus) (plain_parts m c.first.part) (plain_some m c.first.part before (neither (some_in_cpart (is_of_other_sort m) c.first.part) _ uses).0))
+    (some_map (turned c.first.minus) (plain_parts m c.first.part) (plain_some m c.first.part before (or_parts (some_in_cpart (is_of_other_sort m) c.first.part) _ uses).0))
 
 -- definitions
 
 pub defined_fine : (m : Data) (n : List ℕ) (d : Definition) → IsValid m → Fine m → Told (Define n d) → Clear m (Define n d) → Fine (defined m n d)
-defined_fine m n (IntervalVar args) valid before told clear = interval_more m (interval_of n args) before (ap is_kept (arguments_name (plain_interval n) args) ∙ told.kept)
-defined_fine m n (SequenceVar ns types) valid before told clear = sequence_more m (sequence_named m (Some n) ns types) valid before refl (joined (is_kept n) true told.kept refl)
+defined_fine m n (IntervalVar args) valid before told clear = interval_more m (interval_of n args) before (ap is_kept (name_kept (plain_interval n) args) ∙ told.kept)
+defined_fine m n (SequenceVar ns types) valid before told clear = sequence_more m (sequence_named m (Some n) ns types) valid before refl (and_from (is_kept n) true told.kept refl)
 defined_fine m n (TransitionMatrix rows) valid before told clear = matrix_more m (matrix_named n rows) before told.kept
 defined_fine m n (StateFunction x) valid before told clear = state_more m (state_named m n x) before told.kept
 defined_fine m n (Cumulative c) valid before told clear =
-    cumul_more m (cumul_named m (Some n) c) valid before refl (joined (is_kept n) (not (is_empty (parts_in m c))) told.kept (parts_some m c before clear.uses))
+    cumul_more m (cumul_named m (Some n) c) valid before refl (and_from (is_kept n) (not (is_empty (parts_in m c))) told.kept (parts_some m c before clear.uses))
 
 -- expressions, and the objective
 
 pub expr_written : (m : Data) (e : Logic) → at_least 0 (level e) ≡ true → is_crowded (factor_of e) ≡ false → is_written_expr (expr_of m e) ≡ true
 expr_written m e formed sparse =
-    joined (is_written_tree (expr_of m e)) (not (is_crowded (factor (expr_of m e)))) (expr_plain m e 0 formed) (not_false (is_crowded (factor (expr_of m e))) (ap is_crowded (same_factor m e) ∙ sparse))
+    and_from (is_written_tree (expr_of m e)) (not (is_crowded (factor (expr_of m e)))) (expr_plain m e 0 formed) (not_from_false (is_crowded (factor (expr_of m e))) (ap is_crowded (same_factor m e) ∙ sparse))
 
 pub aimed_fine : (m : Data) (s : Sense) (e : Logic) → Fine m → Told (Aim s e) → Clear m (Aim s e) → Fine (with_objective (objective_of m s e) m)
 aimed_fine m s e before told clear = record {

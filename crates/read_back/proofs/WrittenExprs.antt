@@ -1,15 +1,15 @@
 -- An expression of a text is as a text can write it, and names intervals as its tree does.
-use Rattle.std.proofs.Common.{◌≡◌, ℕ, suc, pos, int_le, nat_le, Bool, true, false, ◌&&◌, List, [], ◌∷◌, map, fold, Option, Some, None, is_some, refl, sym, ap, subst, ◌∙◌, arith}
+use Rattle.std.proofs.Common.{◌≡◌, ℕ, suc, pos, int_le, nat_le, Bool, true, ◌&&◌, List, [], ◌∷◌, map, fold, Option, is_some, refl, sym, ap, subst, ◌∙◌, arith}
 use Rattle.std.specs.List.{list_all}
 use Rattle.std.proofs.lemmas.Int.{ints}
-use Rattle.std.proofs.lemmas.Simd.{map-map}
 use Rattle.std.proofs.lemmas.List.{length-map}
+use Rattle.std.proofs.lemmas.Bool.{and_parts, and_from}
 use Rattle.sched_model.specs.declared.types.Expr.{Expr}
 use Rattle.sched_model.specs.declared.types.Expr.TheOpen.{Expr-F}
 use Rattle.sched_model.specs.declared.types.Expr.TheFolds.{fold-roll-Expr, map-Expr}
 use Rattle.sched_model.specs.declared.types.Expr.TheViews.{roll-Expr}
 use Rattle.sched_model.specs.Data.{Data}
-use Rattle.cpo_text.specs.Expressions.{at_least, all_at_least, if_so, are_many, gathers, link_level, level_step, level}
+use Rattle.cpo_text.specs.Expressions.{at_least, all_at_least, are_many, gathers, link_level, level_step, level}
 use Rattle.cpo_text.specs.declared.tree.Int.{Int}
 use Rattle.cpo_text.specs.declared.expression.Measure.{Measure}
 use Rattle.cpo_text.specs.declared.expression.Measure.TheVariants.{StartOf, EndOf, SizeOf, LengthOf}
@@ -22,6 +22,8 @@ use Rattle.cpo_text.specs.declared.expression.Logic.TheOpen.{Logic-F}
 use Rattle.cpo_text.specs.declared.expression.Logic.TheOpen.Logic-F.{Lit, Group, PresenceOf, Measured, Gathered, Linked, Neg, Sum, Compare, Not, Implies}
 use Rattle.cpo_text.specs.declared.expression.Logic.TheFolds.{fold-roll-Logic, ind-Logic, map-Logic}
 use Rattle.cpo_text.specs.declared.expression.Logic.TheViews.{roll-Logic}
+use Rattle.cpo_text.specs.lemmas.Folds.{composed}
+use Rattle.cpo_text.specs.lemmas.Levels.{so, has_level}
 use Rattle.cpo_elab.specs.declared.factors.Factor.{Factor}
 use Rattle.cpo_elab.specs.declared.factors.Factor.TheVariants.{Free, Named}
 use Rattle.cpo_elab.specs.Named.{itv_of}
@@ -30,21 +32,7 @@ use Rattle.cpo_elab.specs.Elaborated.{measure_of, gather_of, link_of, compare_of
 use Rattle.cpo_elab.specs.Factors.{beside, all_beside, linked, times, factor_of}
 use Rattle.cpo_elab.specs.Factors as tree
 use Rattle.read_back.specs.Written.{written_step, factor_step, factor}
-use Rattle.read_back.proofs.Truth.{both, joined}
 use Rattle.read_back.proofs.ExprFolds.{is_written_tree}
-
-composed : (P : Logic → Type 0) (A : Type 0) (f : Logic → A) (y : Logic-F ((e : Logic) × P e)) → map-Logic Logic A f (map-Logic ((e : Logic) × P e) Logic (λ p. p.0) y) ≡ map-Logic ((e : Logic) × P e) A (λ p. f p.0) y
-composed P A f (Lit n) = refl
-composed P A f (Group p) = refl
-composed P A f (PresenceOf a) = refl
-composed P A f (Measured how a d) = refl
-composed P A f (Gathered g ps) = ap (λ (xs : List A). Gathered g xs) (map-map f (λ p. p.0) ps)
-composed P A f (Linked l ps) = ap (λ (xs : List A). Linked l xs) (map-map f (λ p. p.0) ps)
-composed P A f (Neg p) = refl
-composed P A f (Sum ps) = ap (λ (xs : List A). Sum xs) (map-map f (λ p. p.0) ps)
-composed P A f (Compare op p q) = refl
-composed P A f (Not p) = refl
-composed P A f (Implies p q) = refl
 
 -- literals have no sign, and there are operands enough
 
@@ -57,14 +45,6 @@ Part m = (e : Logic) × Written m e
 plain_node : (z : Expr-F Expr) → written_step (map-Expr Expr Bool is_written_tree z) ≡ true → is_written_tree (roll-Expr z) ≡ true
 plain_node z h = fold-roll-Expr Bool written_step z ∙ h
 
-so : (b : Bool) (n : ℕ) → is_some (if_so b n) ≡ true → b ≡ true
-so true n h = refl
-so false n h = cc
-
-has_level : (n : ℕ) (o : Option ℕ) → at_least n o ≡ true → is_some o ≡ true
-has_level n None h = cc
-has_level n (Some m) h = refl
-
 abbrev levels : (m : Data) → List (Part m) → List (Option ℕ)
 levels m ps = map (λ p. level p.0) ps
 
@@ -76,7 +56,7 @@ one m p n h = p.1 (has_level n (level p.0) h)
 
 each : (m : Data) (ps : List (Part m)) (n : ℕ) → all_at_least n (levels m ps) ≡ true → list_all (λ b. b) (map is_written_tree (exprs m ps)) ≡ true
 each m [] n h = refl
-each m (p ∷ ps) n h = let parts = both (at_least n (level p.0)) (all_at_least n (levels m ps)) h in joined (is_written_tree (expr_of m p.0)) _ (one m p n parts.0) (each m ps n parts.1)
+each m (p ∷ ps) n h = let parts = and_parts (at_least n (level p.0)) (all_at_least n (levels m ps)) h in and_from (is_written_tree (expr_of m p.0)) _ (one m p n parts.0) (each m ps n parts.1)
 
 many : (m : Data) (ps : List (Part m)) → are_many (levels m ps) ≡ true → are_many (map is_written_tree (exprs m ps)) ≡ true
 many m ps h = ap (nat_le 2) (length-map (exprs m ps) is_written_tree ∙ length-map ps (λ p. expr_of m p.0) ∙ sym (length-map ps (λ p. level p.0))) ∙ h
@@ -105,19 +85,19 @@ node m (Lit n) h = plain_node (Expr-F.Lit (pos (size_of n))) (literal_plain (siz
 node m (Group p) h = one m p 0 (so _ 7 h)
 node m (PresenceOf a) h = plain_node (Expr-F.PresenceOf (itv_of m a)) refl
 node m (Measured how a d) h = measured m how a d
-node m (Gathered g ps) h = gathered m g ps (both (gathers g (levels m ps)) (all_at_least 0 (levels m ps)) (so _ 7 h)).1
+node m (Gathered g ps) h = gathered m g ps (and_parts (gathers g (levels m ps)) (all_at_least 0 (levels m ps)) (so _ 7 h)).1
 node m (Linked l ps) h =
-    let parts = both (are_many (levels m ps)) (all_at_least (suc (link_level l)) (levels m ps)) (so _ (link_level l) h) in
-    linked_plain m l ps (joined (are_many (map is_written_tree (exprs m ps))) _ (many m ps parts.0) (each m ps (suc (link_level l)) parts.1))
+    let parts = and_parts (are_many (levels m ps)) (all_at_least (suc (link_level l)) (levels m ps)) (so _ (link_level l) h) in
+    linked_plain m l ps (and_from (are_many (map is_written_tree (exprs m ps))) _ (many m ps parts.0) (each m ps (suc (link_level l)) parts.1))
 node m (Neg p) h = plain_node (Expr-F.Neg (expr_of m p.0)) (one m p 6 (so _ 5 h))
-node m (Sum ps) h = plain_node (Expr-F.Sum (exprs m ps)) (each m ps 5 (both (are_many (levels m ps)) (all_at_least 5 (levels m ps)) (so _ 4 h)).1)
+node m (Sum ps) h = plain_node (Expr-F.Sum (exprs m ps)) (each m ps 5 (and_parts (are_many (levels m ps)) (all_at_least 5 (levels m ps)) (so _ 4 h)).1)
 node m (Compare op p q) h =
-    let parts = both (at_least 4 (level p.0)) (at_least 4 (level q.0)) (so _ 3 h) in
-    plain_node (Expr-F.Compare (compare_of op) (expr_of m p.0) (expr_of m q.0)) (joined (is_written_tree (expr_of m p.0)) (is_written_tree (expr_of m q.0)) (one m p 4 parts.0) (one m q 4 parts.1))
+    let parts = and_parts (at_least 4 (level p.0)) (at_least 4 (level q.0)) (so _ 3 h) in
+    plain_node (Expr-F.Compare (compare_of op) (expr_of m p.0) (expr_of m q.0)) (and_from (is_written_tree (expr_of m p.0)) (is_written_tree (expr_of m q.0)) (one m p 4 parts.0) (one m q 4 parts.1))
 node m (Not p) h = plain_node (Expr-F.Not (expr_of m p.0)) (one m p 3 (so _ 3 h))
 node m (Implies p q) h =
-    let parts = both (at_least 1 (level p.0)) (at_least 0 (level q.0)) (so _ 0 h) in
-    plain_node (Expr-F.Implies (expr_of m p.0) (expr_of m q.0)) (joined (is_written_tree (expr_of m p.0)) (is_written_tree (expr_of m q.0)) (one m p 1 parts.0) (one m q 0 parts.1))
+    let parts = and_parts (at_least 1 (level p.0)) (at_least 0 (level q.0)) (so _ 0 h) in
+    plain_node (Expr-F.Implies (expr_of m p.0) (expr_of m q.0)) (and_from (is_written_tree (expr_of m p.0)) (is_written_tree (expr_of m q.0)) (one m p 1 parts.0) (one m q 0 parts.1))
 
 written : (m : Data) (e : Logic) → Written m e
 written m = ind-Logic (Written m) (λ x y is. subst (λ z. Written m (roll-Logic z)) is (λ h.

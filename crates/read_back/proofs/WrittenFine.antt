@@ -4,6 +4,8 @@ use Rattle.std.specs.List.{list_all, list_any, flat_map}
 use Rattle.std.specs.Str.{bytes_eq}
 use Rattle.std.proofs.lemmas.List.{append-nil}
 use Rattle.std.proofs.lemmas.Grind.{flat_map-append}
+use Rattle.std.proofs.lemmas.Bool.{and_parts, and_from}
+use Rattle.base_laws.specs.laws.Items.{all_append, all_weaker}
 use Rattle.sched_base.specs.declared.ids.Seq.{Seq}
 use Rattle.sched_model.specs.declared.types.SequenceDef.{SequenceDef}
 use Rattle.sched_model.specs.declared.types.CumulDef.{CumulDef}
@@ -15,7 +17,7 @@ use Rattle.sched_model.specs.Valid.{IsValid, is_constraint, is_seq, fits_types}
 use Rattle.cpo_text.specs.Runs.{left_out_words}
 use Rattle.cpo_elab.specs.Numbered.{is_named_sequence, is_named_cumul}
 use Rattle.read_back.specs.Written.{is_written_expr, is_named_at, is_written, sequences_in, cumuls_in}
-use Rattle.read_back.proofs.Truth.{both, joined, all_append, all_weaker, five}
+use Rattle.read_back.proofs.Truth.{five}
 use Rattle.read_back.proofs.WrittenPlaces.{Counted, are_within}
 
 -- no word that the language leaves out
@@ -29,7 +31,7 @@ abbrev pub is_fine_cumul : CumulDef → Bool
 is_fine_cumul f = passes_if_any is_kept f.name && not (is_empty f.parts)
 
 pub has_parts : (f : CumulDef) → is_fine_cumul f ≡ true → not (is_empty f.parts) ≡ true
-has_parts f h = (both (passes_if_any is_kept f.name) (not (is_empty f.parts)) h).1
+has_parts f h = (and_parts (passes_if_any is_kept f.name) (not (is_empty f.parts)) h).1
 
 abbrev pub sequence_ids : List Constraint → List ℕ
 sequence_ids cs = flat_map sequences_in cs
@@ -82,7 +84,7 @@ sequence_within m (Logic x) h = refl
 sequence_within m (Span a parts) h = refl
 sequence_within m (Alternative a parts) h = refl
 sequence_within m (Synchronize a parts) h = refl
-sequence_within m (NoOverlap p matrix direct) h = joined (is_seq m p) true (both (is_seq m p) (passes_if_any (fits_types m p) matrix) h).0 refl
+sequence_within m (NoOverlap p matrix direct) h = and_from (is_seq m p) true (and_parts (is_seq m p) (passes_if_any (fits_types m p) matrix) h).0 refl
 sequence_within m (First p a) h = refl
 sequence_within m (Last p a) h = refl
 sequence_within m (Before p a b) h = refl
@@ -102,20 +104,20 @@ cumul_within m (First p a) h = refl
 cumul_within m (Last p a) h = refl
 cumul_within m (Before p a b) h = refl
 cumul_within m (Prev p a b) h = refl
-cumul_within m (CumulIn f w lo hi) h = joined (nat_lt f.0 (length m.cumuls)) true (five (nat_lt f.0 (length m.cumuls)) _ _ _ _ h).0 refl
+cumul_within m (CumulIn f w lo hi) h = and_from (nat_lt f.0 (length m.cumuls)) true (five (nat_lt f.0 (length m.cumuls)) _ _ _ _ h).0 refl
 cumul_within m (AlwaysEqual g a v i j) h = refl
 cumul_within m (AlwaysNoState g a) h = refl
 
 sequences_within : (m : Data) (cs : List Constraint) → list_all (is_constraint m) cs ≡ true → are_within m.sequences (sequence_ids cs) ≡ true
 sequences_within m [] all = refl
 sequences_within m (c ∷ cs) all =
-    let parts = both (is_constraint m c) _ all in
+    let parts = and_parts (is_constraint m c) _ all in
     all_append (λ i. nat_lt i (length m.sequences)) (sequences_in c) (sequence_ids cs) (sequence_within m c parts.0) (sequences_within m cs parts.1)
 
 cumuls_within : (m : Data) (cs : List Constraint) → list_all (is_constraint m) cs ≡ true → are_within m.cumuls (cumul_ids cs) ≡ true
 cumuls_within m [] all = refl
 cumuls_within m (c ∷ cs) all =
-    let parts = both (is_constraint m c) _ all in
+    let parts = and_parts (is_constraint m c) _ all in
     all_append (λ i. nat_lt i (length m.cumuls)) (cumuls_in c) (cumul_ids cs) (cumul_within m c parts.0) (cumuls_within m cs parts.1)
 
 pub seqs_within : (m : Data) → IsValid m → are_within m.sequences (sequence_ids m.constraints) ≡ true

@@ -4,18 +4,12 @@ use Rattle.std.specs.List.{filter, count_by, list_all}
 use Rattle.std.proofs.lemmas.List.{append-nil}
 use Rattle.std.proofs.lemmas.List.Elements.{filter-append}
 use Rattle.std.proofs.lemmas.List.Sums.{length-filter}
+use Rattle.std.proofs.lemmas.Bool.{and_parts, and_from, or_left, or_right}
+use Rattle.base_laws.specs.laws.Items.{all_weaker}
+use Rattle.base_laws.specs.laws.Kept.{none_pass, all_pass}
 use Rattle.cpo_elab.specs.Numbered.{parted}
 use Rattle.cpo_elab.specs.NumberedLaws.{is_parted}
-use Rattle.read_back.proofs.Items.{filter_yes, filter_no, kept_pass}
-use Rattle.read_back.proofs.Truth.{both, joined, fails, either_left, either_right, all_weaker}
-
-none_pass : {X : Type 0} (p : X → Bool) (xs : List X) → list_all (λ x. not (p x)) xs ≡ true → filter p xs ≡ []
-none_pass p [] none = refl
-none_pass p (x ∷ xs) none = let parts = both (not (p x)) _ none in filter_no p x xs (fails (p x) parts.0) ∙ none_pass p xs parts.1
-
-all_pass : {X : Type 0} (p : X → Bool) (xs : List X) → list_all p xs ≡ true → filter p xs ≡ xs
-all_pass p [] all = refl
-all_pass p (x ∷ xs) all = let parts = both (p x) _ all in filter_yes p x xs parts.0 ∙ ap (λ ys. x ∷ ys) (all_pass p xs parts.1)
+use Rattle.read_back.proofs.Items.{kept_pass}
 
 twice_not : (b : Bool) → b ≡ true → not (not b) ≡ true
 twice_not true h = refl
@@ -38,19 +32,19 @@ same_count first xs = sym (length-filter first (parted first xs)) ∙ ap length 
 
 after_passing : {X : Type 0} (first : X → Bool) (x : X) (ys : List X) → first x ≡ true → list_all (λ y. first x || not (first y)) ys ≡ true
 after_passing first x [] holds = refl
-after_passing first x (y ∷ ys) holds = joined (first x || not (first y)) _ (either_left (first x) (not (first y)) holds) (after_passing first x ys holds)
+after_passing first x (y ∷ ys) holds = and_from (first x || not (first y)) _ (or_left (first x) (not (first y)) holds) (after_passing first x ys holds)
 
 others_parted : {X : Type 0} (first : X → Bool) (ys : List X) → list_all (λ y. not (first y)) ys ≡ true → is_parted first ys ≡ true
 others_parted first [] others = refl
 others_parted first (y ∷ ys) others =
-    let parts = both (not (first y)) (list_all (λ y. not (first y)) ys) others in
-    joined (list_all (λ z. first y || not (first z)) ys) _ (all_weaker (λ z. not (first z)) (λ z. first y || not (first z)) (λ z. either_right (first y) (not (first z))) ys parts.1) (others_parted first ys parts.1)
+    let parts = and_parts (not (first y)) (list_all (λ y. not (first y)) ys) others in
+    and_from (list_all (λ z. first y || not (first z)) ys) _ (all_weaker (λ z. not (first z)) (λ z. first y || not (first z)) (λ z. or_right (first y) (not (first z))) ys parts.1) (others_parted first ys parts.1)
 
 halves_parted : {X : Type 0} (first : X → Bool) (xs ys : List X) → list_all first xs ≡ true → list_all (λ y. not (first y)) ys ≡ true → is_parted first (xs ++ ys) ≡ true
 halves_parted first [] ys passing others = others_parted first ys others
 halves_parted first (x ∷ xs) ys passing others =
-    let parts = both (first x) (list_all first xs) passing in
-    joined (list_all (λ y. first x || not (first y)) (xs ++ ys)) _ (after_passing first x (xs ++ ys) parts.0) (halves_parted first xs ys parts.1 others)
+    let parts = and_parts (first x) (list_all first xs) passing in
+    and_from (list_all (λ y. first x || not (first y)) (xs ++ ys)) _ (after_passing first x (xs ++ ys) parts.0) (halves_parted first xs ys parts.1 others)
 
 pub is_parted_now : {X : Type 0} (first : X → Bool) (xs : List X) → is_parted first (parted first xs) ≡ true
 is_parted_now first xs = halves_parted first (filter first xs) (filter (λ x. not (first x)) xs) (kept_pass first xs) (kept_pass (λ x. not (first x)) xs)

@@ -2,6 +2,8 @@
 use Rattle.std.proofs.Common.{◌≡◌, ℕ, Bool, true, not, ◌||◌, List, [], ◌∷◌, ◌++◌, map, Option, Some, None, is_none, refl, sym, ap, ◌∙◌}
 use Rattle.std.specs.List.{list_all, filter, filter_map, flat_map, count_by, cons_option}
 use Rattle.std.proofs.lemmas.List.{map-append}
+use Rattle.std.proofs.lemmas.Bool.{and_parts, and_from}
+use Rattle.base_laws.specs.laws.Items.{all_append, all_weaker}
 use Rattle.sched_base.specs.declared.ids.Seq.{Seq}
 use Rattle.sched_model.specs.declared.types.SequenceDef.{SequenceDef}
 use Rattle.sched_model.specs.declared.types.CumulDef.{CumulDef}
@@ -11,9 +13,9 @@ use Rattle.sched_model.specs.Words.{passes, passes_if_any, is_empty}
 use Rattle.sched_model.specs.Data.{Data}
 use Rattle.sched_model.specs.Valid.{all_names}
 use Rattle.cpo_elab.specs.Numbered.{is_named_sequence, is_named_cumul, parted, new_place, sequence_place, cumul_place, new_seq, renumbered, named_first}
+use Rattle.cpo_elab.specs.lemmas.Parted.{at_new_place, all_parted}
 use Rattle.read_back.specs.Written.{IsWritten, is_named_at, is_written, sequences_in, cumuls_in, places, from_place}
-use Rattle.read_back.proofs.Truth.{both, joined, all_append, all_map, all_weaker}
-use Rattle.read_back.proofs.WrittenParted.{at_new_place, all_parted}
+use Rattle.read_back.proofs.Truth.{all_map}
 use Rattle.read_back.proofs.WrittenHalves.{behind, same_count, is_parted_now}
 use Rattle.read_back.proofs.WrittenPlaces.{Counted, counted_places}
 use Rattle.read_back.proofs.WrittenFine.{Fine, is_kept, is_fine_sequence, is_fine_cumul, has_parts}
@@ -85,22 +87,22 @@ written_moved m (AlwaysNoState g a) h = h
 
 some_kept : {Y : Type 0} (q : Y → Bool) (o : Option Y) (ys : List Y) → passes_if_any q o ≡ true → list_all q ys ≡ true → list_all q (cons_option o ys) ≡ true
 some_kept q None ys here rest = rest
-some_kept q (Some y) ys here rest = joined (q y) (list_all q ys) here rest
+some_kept q (Some y) ys here rest = and_from (q y) (list_all q ys) here rest
 
 all_kept : {X Y : Type 0} (q : Y → Bool) (h : X → Option Y) (xs : List X) → list_all (λ x. passes_if_any q (h x)) xs ≡ true → list_all q (filter_map h xs) ≡ true
 all_kept q h [] all = refl
 all_kept q h (x ∷ xs) all =
-    let parts = both (passes_if_any q (h x)) (list_all (λ x. passes_if_any q (h x)) xs) all in
+    let parts = and_parts (passes_if_any q (h x)) (list_all (λ x. passes_if_any q (h x)) xs) all in
     some_kept q (h x) (filter_map h xs) parts.0 (all_kept q h xs parts.1)
 
 sequence_kept : (d : SequenceDef) → is_fine_sequence d ≡ true → passes_if_any is_kept d.name ≡ true
-sequence_kept d h = (both (passes_if_any is_kept d.name) (is_named_sequence d || is_none d.types) h).0
+sequence_kept d h = (and_parts (passes_if_any is_kept d.name) (is_named_sequence d || is_none d.types) h).0
 
 sequence_untyped : (d : SequenceDef) → is_fine_sequence d ≡ true → (is_named_sequence d || is_none d.types) ≡ true
-sequence_untyped d h = (both (passes_if_any is_kept d.name) (is_named_sequence d || is_none d.types) h).1
+sequence_untyped d h = (and_parts (passes_if_any is_kept d.name) (is_named_sequence d || is_none d.types) h).1
 
 cumul_kept : (f : CumulDef) → is_fine_cumul f ≡ true → passes_if_any is_kept f.name ≡ true
-cumul_kept f h = (both (passes_if_any is_kept f.name) (not (is_empty f.parts)) h).0
+cumul_kept f h = (and_parts (passes_if_any is_kept f.name) (not (is_empty f.parts)) h).0
 
 all_of_five : {X : Type 0} (q : X → Bool) (a b c d e : List X) → list_all q a ≡ true → list_all q b ≡ true → list_all q c ≡ true → list_all q d ≡ true → list_all q e ≡ true → list_all q (a ++ b ++ c ++ d ++ e) ≡ true
 all_of_five q a b c d e first second third fourth fifth =

@@ -1,11 +1,12 @@
 -- A name that has a number of a sort stands for a thing that has a name.
-use Rattle.std.proofs.Common.{◌≡◌, ℕ, zero, suc, ◌<◌, Bool, true, false, cond, List, [], ◌∷◌, map, length, slice_get, slice_index_or, Option, Some, None, is_some, is_none, unwrap_or, nat_lt, refl, sym, ap, ◌∙◌, arith}
+use Rattle.std.proofs.Common.{◌≡◌, ℕ, zero, suc, ◌<◌, Bool, true, false, cond, List, [], ◌∷◌, map, length, slice_get, slice_index_or, Option, Some, None, is_some, is_none, unwrap_or, nat_lt, refl, ap, ◌∙◌, arith}
 use Rattle.std.specs.List.{list_all, position_or_len}
 use Rattle.std.specs.Str.{bytes_eq}
 use Rattle.std.proofs.lemmas.Bool.Decides.{nat_tests}
-use Rattle.std.proofs.lemmas.List.{length-map}
 use Rattle.std.proofs.lemmas.List.Sums.{passes_at_first}
 use Rattle.std.proofs.lemmas.Option.{slice_get-get_or}
+use Rattle.std.proofs.lemmas.Bool.{and_parts}
+use Rattle.base_laws.specs.laws.Numbers.{one_less, none_below_zero}
 use Rattle.sched_model.specs.Words.{passes}
 use Rattle.sched_model.specs.Data.{Data}
 use Rattle.cpo_elab.specs.declared.names.Sort.{Sort}
@@ -13,7 +14,6 @@ use Rattle.cpo_elab.specs.declared.names.Sort.TheVariants.{Sequence, Cumulated}
 use Rattle.cpo_elab.specs.Named.{names_of, number_of, id_of, seq_of, cum_of}
 use Rattle.cpo_elab.specs.Judged.{is_of_other_sort}
 use Rattle.cpo_elab.specs.Numbered.{is_named_sequence, is_named_cumul}
-use Rattle.read_back.proofs.Truth.{both, outside, one_less}
 
 is_below : (i n : ℕ) → nat_lt i n ≡ true → i < n
 is_below i n h = grind (arith, nat_tests)
@@ -24,14 +24,6 @@ found_passes p xs d true is there =
     let within = is_below (position_or_len p xs) (length xs) is in
     ap (passes p) (slice_get-get_or xs (position_or_len p xs) d within) ∙ passes_at_first p xs d within
 found_passes p xs d false is there = cc there
-
-found_below : (c : Bool) (i n : ℕ) → nat_lt i n ≡ c → is_none (cond c (Some i) None) ≡ false → nat_lt (unwrap_or (cond c (Some i) None) 0) n ≡ true
-found_below true i n is there = is
-found_below false i n is there = cc there
-
-below : (m : Data) (sort : Sort) (n : List ℕ) → is_of_other_sort m sort n ≡ false → nat_lt (id_of m sort n) (length (names_of m sort)) ≡ true
-unfolding number_of
-below m sort n there = found_below _ _ _ refl there
 
 at_number : (m : Data) (sort : Sort) (n : List ℕ) → is_of_other_sort m sort n ≡ false → passes (passes (bytes_eq n)) (slice_get (names_of m sort) (id_of m sort n)) ≡ true
 unfolding number_of
@@ -52,10 +44,7 @@ sequence_is_named m n there = named_at (λ d. d.name) (bytes_eq n) m.sequences (
 pub cumul_is_named : (m : Data) (n : List ℕ) → is_of_other_sort m Cumulated n ≡ false → passes is_named_cumul (slice_get m.cumuls (cum_of m n).0) ≡ true
 cumul_is_named m n there = named_at (λ d. d.name) (bytes_eq n) m.cumuls (cum_of m n).0 (at_number m Cumulated n there)
 
-pub cumul_is_there : (m : Data) (n : List ℕ) → is_of_other_sort m Cumulated n ≡ false → nat_lt (cum_of m n).0 (length m.cumuls) ≡ true
-cumul_is_there m n there = sym (ap (nat_lt (cum_of m n).0) (length-map m.cumuls (λ d. d.name))) ∙ below m Cumulated n there
-
 pub item_passes : {X : Type 0} (q : X → Bool) (xs : List X) (i : ℕ) (d : X) → list_all q xs ≡ true → nat_lt i (length xs) ≡ true → q (slice_index_or xs i d) ≡ true
-item_passes q [] i d all within = absurd (outside i within)
-item_passes q (x ∷ xs) zero d all within = (both (q x) (list_all q xs) all).0
-item_passes q (x ∷ xs) (suc i) d all within = item_passes q xs i d (both (q x) (list_all q xs) all).1 (one_less i (length xs) within)
+item_passes q [] i d all within = absurd (none_below_zero i within)
+item_passes q (x ∷ xs) zero d all within = (and_parts (q x) (list_all q xs) all).0
+item_passes q (x ∷ xs) (suc i) d all within = item_passes q xs i d (and_parts (q x) (list_all q xs) all).1 (one_less i (length xs) within)

@@ -6,12 +6,13 @@ use Rattle.std.proofs.lemmas.List.{map-append, take-append-le, append-nil}
 use Rattle.std.proofs.lemmas.List.Elements.{filter-append}
 use Rattle.std.proofs.lemmas.List.Sums.{length-filter, sum_by-cons}
 use Rattle.std.proofs.Math.Seq.{take-append_seam}
+use Rattle.std.proofs.lemmas.Bool.{and_parts}
+use Rattle.base_laws.specs.laws.Kept.{filter_yes, filter_no, count_yes}
+use Rattle.base_laws.specs.laws.Places.{same_item}
 use Rattle.sched_model.specs.Words.{passes}
 use Rattle.cpo_elab.specs.Numbered.{new_place}
+use Rattle.cpo_elab.specs.lemmas.Parted.{place_yes, place_no}
 use Rattle.read_back.specs.Written.{places, from_place}
-use Rattle.read_back.proofs.Items.{filter_yes, filter_no}
-use Rattle.read_back.proofs.Truth.{both, outside, one_less}
-use Rattle.read_back.proofs.WrittenParted.{count_yes, place_yes, place_no}
 
 -- no item that passes stands at the place
 abbrev pub is_other : {X : Type 0} → (X → Bool) → List X → ℕ → Bool
@@ -34,11 +35,6 @@ are_within xs is = list_all (λ i. nat_lt i (length xs)) is
 
 -- one item more
 
-same_item : {X : Type 0} (xs ys : List X) (i : ℕ) → nat_lt i (length xs) ≡ true → slice_get (xs ++ ys) i ≡ slice_get xs i
-same_item [] ys i within = absurd (outside i within)
-same_item (x ∷ xs) ys zero within = refl
-same_item (x ∷ xs) ys (suc i) within = same_item xs ys i (one_less i (length xs) within)
-
 last_item : {X : Type 0} (xs : List X) (x : X) → slice_get (xs ++ x ∷ []) (length xs) ≡ Some x
 last_item [] x = refl
 last_item (y ∷ ys) x = last_item ys x
@@ -53,7 +49,7 @@ one_rank f g i is js false one rest = rest
 same_ranks : {X : Type 0} (first : X → Bool) (xs ys : List X) (is : List ℕ) → are_within xs is ≡ true → ranks first (xs ++ ys) is ≡ ranks first xs is
 same_ranks first xs ys [] within = refl
 same_ranks first xs ys (i ∷ is) within =
-    let parts = both (nat_lt i (length xs)) (are_within xs is) within in
+    let parts = and_parts (nat_lt i (length xs)) (are_within xs is) within in
     ap (λ b. map (rank first (xs ++ ys)) (cond b (i ∷ filter (is_other first (xs ++ ys)) is) (filter (is_other first (xs ++ ys)) is))) (ap (λ o. not (passes first o)) (same_item xs ys i parts.0))
     ∙ one_rank (rank first (xs ++ ys)) (rank first xs) i (filter (is_other first (xs ++ ys)) is) (filter (is_other first xs) is) (is_other first xs i) (same_rank first xs ys i parts.0) (same_ranks first xs ys is parts.1)
 
@@ -73,7 +69,7 @@ places_push n (y ∷ ys) x = ap (λ ks. n ∷ ks) (places_push (n + 1) ys x ∙ 
 no_ranks : {X : Type 0} (first : X → Bool) (xs : List X) (js : List ℕ) → list_all (λ j. passes first (slice_get xs j)) js ≡ true → filter (is_other first xs) js ≡ []
 no_ranks first xs [] passing = refl
 no_ranks first xs (j ∷ js) passing =
-    let parts = both (passes first (slice_get xs j)) (list_all (λ j. passes first (slice_get xs j)) js) passing in
+    let parts = and_parts (passes first (slice_get xs j)) (list_all (λ j. passes first (slice_get xs j)) js) passing in
     filter_no (is_other first xs) j js (ap not parts.0) ∙ no_ranks first xs js parts.1
 
 pub counted_passing : {X : Type 0} (first : X → Bool) (xs : List X) (is js : List ℕ) → list_all (λ j. passes first (slice_get xs j)) js ≡ true → Counted first xs is → Counted first xs (is ++ js)

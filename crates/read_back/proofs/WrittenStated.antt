@@ -1,8 +1,10 @@
 -- A constraint that deserves no number leaves the model as a text can write it.
-use Rattle.std.proofs.Common.{◌≡◌, ◌^◌, ℕ, ℤ, pos, neg_ℤ, Bool, true, false, List, [], ◌∷◌, ◌++◌, length, slice_get, Option, Some, None, refl, sym, ap, ◌∙◌, arith}
+use Rattle.std.proofs.Common.{◌≡◌, ◌^◌, ℕ, ℤ, pos, neg_ℤ, true, false, List, [], ◌∷◌, ◌++◌, length, slice_get, Option, Some, None, refl, ap, ◌∙◌, arith}
 use Rattle.std.proofs.lemmas.Int.{ints}
-use Rattle.std.specs.List.{list_all, list_any}
+use Rattle.std.specs.List.{list_all}
 use Rattle.std.specs.Ordering.{int_eq}
+use Rattle.std.proofs.lemmas.Bool.{and_from, or_parts, or_left, or_right}
+use Rattle.base_laws.specs.laws.Items.{all_push}
 use Rattle.sched_base.specs.declared.ids.Cum.{Cum}
 use Rattle.sched_model.specs.declared.types.SequenceDef.{SequenceDef}
 use Rattle.sched_model.specs.declared.types.CumulDef.{CumulDef}
@@ -12,9 +14,7 @@ use Rattle.sched_model.specs.Words.{passes}
 use Rattle.sched_model.specs.Data.{Data, with_sequence, with_cumul, with_constraint}
 use Rattle.sched_model.specs.Valid.{IsValid}
 use Rattle.cpo_text.specs.declared.tree.Int.{Int}
-use Rattle.cpo_text.specs.declared.cumul.Cpart.{Cpart}
 use Rattle.cpo_text.specs.declared.cumul.Cpart.TheVariants as cpart
-use Rattle.cpo_text.specs.declared.cumul.Signed.{Signed}
 use Rattle.cpo_text.specs.declared.cumul.Cumul.{Cumul}
 use Rattle.cpo_text.specs.declared.tree.Hierarchy.{Hierarchy}
 use Rattle.cpo_text.specs.declared.tree.Hierarchy.TheVariants.{Span, Alternative, Synchronize}
@@ -32,14 +32,14 @@ use Rattle.cpo_text.specs.declared.tree.Moments.TheVariants as moments
 use Rattle.cpo_text.specs.declared.tree.Constrained.{Constrained}
 use Rattle.cpo_text.specs.declared.tree.Constrained.TheVariants.{Between, Parts, NoOverlap, Extreme, Ordered, Bounded, AlwaysIn, AlwaysEqual, AlwaysNoState, Holds}
 use Rattle.cpo_text.specs.declared.tree.Statement.TheVariants.{Constrain}
-use Rattle.cpo_elab.specs.declared.names.Sort.TheVariants.{Sequence, Cumulated}
-use Rattle.cpo_elab.specs.Named.{NameTest, itv_of, itvs_of, seq_of, cum_of, some_in_cpart, some_in_cumul}
+use Rattle.cpo_elab.specs.declared.names.Sort.TheVariants.{Sequence}
+use Rattle.cpo_elab.specs.Named.{itv_of, itvs_of, seq_of, cum_of, some_in_cumul}
 use Rattle.cpo_elab.specs.Numbers.{int_of}
-use Rattle.cpo_elab.specs.Elaborated.{sequence_named, cumul_named, hierarchy_of, extreme_of, order_of, bound_of, window_of, unsigned_name, lone_name, named_itself, cumul_id, constraint_of, with_unnamed, with_listed, with_written}
+use Rattle.cpo_elab.specs.Elaborated.{sequence_named, cumul_named, hierarchy_of, extreme_of, order_of, bound_of, window_of, named_itself, cumul_id, constraint_of, with_unnamed, with_listed, with_written}
 use Rattle.cpo_elab.specs.Judged.{is_of_other_sort}
 use Rattle.cpo_elab.specs.Numbered.{is_named_sequence, is_named_cumul}
+use Rattle.cpo_elab.specs.lemmas.Names.{lone_right}
 use Rattle.read_back.specs.Written.{is_written, sequences_in, cumuls_in}
-use Rattle.read_back.proofs.Truth.{joined, neither, either_left, either_right, all_push}
 use Rattle.read_back.proofs.WrittenPlaces.{ranks, counted_passing, counted_other}
 use Rattle.read_back.proofs.WrittenNames.{sequence_is_named, cumul_is_named}
 use Rattle.read_back.proofs.WrittenFine.{Fine, is_fine_sequence, is_fine_cumul, sequence_ids, cumul_ids, written_grows, all_grow, passing_stays, seqs_within, cums_within, ids_push}
@@ -105,21 +105,6 @@ unnamed_more m d k valid before unnamed fine here none written =
           ∙ counted_other is_named_cumul m.cumuls d (cumul_ids m.constraints) unnamed (cums_within m valid) before.unnamed;
     }
 
--- which function a cumulative expression is
-
-unsigned_right : (test : NameTest) (minus : Bool) (p : Cpart) (n : List ℕ) → unsigned_name minus p ≡ Some n → some_in_cpart test p ≡ false → test Cumulated n ≡ false
-unsigned_right test true p n is right = cc is
-unsigned_right test false (cpart.Named k) n is right = let same : k ≡ n = cc is in ap (test Cumulated) (sym same) ∙ right
-unsigned_right test false (cpart.Pulse u v h) n is right = cc is
-unsigned_right test false (cpart.PulseOf a h) n is right = cc is
-unsigned_right test false (cpart.Step u h) n is right = cc is
-unsigned_right test false (cpart.StepAtStart a h) n is right = cc is
-unsigned_right test false (cpart.StepAtEnd a h) n is right = cc is
-
-lone_right : (test : NameTest) (more : List Signed) (s : Signed) (n : List ℕ) → lone_name more s ≡ Some n → list_any (λ s. some_in_cpart test s.part) (s ∷ more) ≡ false → test Cumulated n ≡ false
-lone_right test [] s n is right = unsigned_right test s.minus s.part n is (neither (some_in_cpart test s.part) _ right).0
-lone_right test (t ∷ ts) s n is right = cc is
-
 -- a constraint on a function, which it names or writes out
 function_fine : (m : Data) (f : Cumul) (o : Option (List ℕ)) (k : Cum → Constraint) → IsValid m → Fine m → named_itself f ≡ o → some_in_cumul (is_of_other_sort m) f ≡ false
     → ((g : Cum) → is_written m (k g) ≡ true) → ((g : Cum) → sequences_in (k g) ≡ []) → ((g : Cum) → cumuls_in (k g) ≡ g.0 ∷ []) → Fine (with_constraint (k (cumul_id m o)) (with_unnamed m f o))
@@ -127,7 +112,7 @@ function_fine m f (Some n) k valid before is uses here none one =
     constraint_more m (k (cum_of m n)) before (here (cum_of m n)) (
       ap (list_all (λ i. passes is_named_sequence (slice_get m.sequences i))) (none (cum_of m n)),
       ap (list_all (λ i. passes is_named_cumul (slice_get m.cumuls i))) (one (cum_of m n))
-          ∙ joined (passes is_named_cumul (slice_get m.cumuls (cum_of m n).0)) true (cumul_is_named m n (lone_right (is_of_other_sort m) f.more f.first n is uses)) refl,
+          ∙ and_from (passes is_named_cumul (slice_get m.cumuls (cum_of m n).0)) true (cumul_is_named m n (lone_right (is_of_other_sort m) f.more f.first n is uses)) refl,
     )
 function_fine m f None k valid before is uses here none one =
     unnamed_more m (cumul_named m None f) (k (cumul_id m None)) valid before refl (parts_some m f before uses) (here (cumul_id m None)) (none (cumul_id m None)) (one (cumul_id m None))
@@ -136,8 +121,8 @@ int_same : (z : ℤ) → int_eq z z ≡ true
 int_same z = grind (arith, ints)
 
 bound_fine : (m : Data) (b : Bound) (c : Int) (g : Cum) → is_written m (bound_of b g (int_of c)) ≡ true
-bound_fine m AtMost c g = either_left _ (int_eq (int_of c) (pos (2 ^ 62))) (int_same (neg_ℤ (pos (2 ^ 62))))
-bound_fine m AtLeast c g = either_right (int_eq (int_of c) (neg_ℤ (pos (2 ^ 62)))) _ (int_same (pos (2 ^ 62)))
+bound_fine m AtMost c g = or_left _ (int_eq (int_of c) (pos (2 ^ 62))) (int_same (neg_ℤ (pos (2 ^ 62))))
+bound_fine m AtLeast c g = or_right (int_eq (int_of c) (neg_ℤ (pos (2 ^ 62)))) _ (int_same (pos (2 ^ 62)))
 
 bound_sequences : (b : Bound) (c : Int) (g : Cum) → sequences_in (bound_of b g (int_of c)) ≡ []
 bound_sequences AtMost c g = refl
@@ -158,7 +143,7 @@ overlap_written m p (Some s) = refl
 overlap_fine : (m : Data) (p : Over) (s : Option Spaced) → IsValid m → Fine m → Clear m (Constrain (NoOverlap p s)) → Fine (with_constraint (constraint_of m (NoOverlap p s)) (with_listed m p))
 overlap_fine m (over.Named p) s valid before clear =
     constraint_more m (constraint_of m (NoOverlap (over.Named p) s)) before (overlap_written m (over.Named p) s)
-    (joined (passes is_named_sequence (slice_get m.sequences (seq_of m p).0)) true (sequence_is_named m p (neither (is_of_other_sort m Sequence p) _ clear.uses).0) refl, refl)
+    (and_from (passes is_named_sequence (slice_get m.sequences (seq_of m p).0)) true (sequence_is_named m p (or_parts (is_of_other_sort m Sequence p) _ clear.uses).0) refl, refl)
 overlap_fine m (over.Listed ns) s valid before clear =
     listed_more m (sequence_named m None ns None) (constraint_of m (NoOverlap (over.Listed ns) s)) valid before refl refl (overlap_written m (over.Listed ns) s) refl refl
 
@@ -179,12 +164,12 @@ pub stated_fine : (m : Data) (c : Constrained) → IsValid m → Fine m → Told
 stated_fine m (Between t a b z) valid before told clear = constraint_more m (constraint_of m (Between t a b z)) before refl (refl, refl)
 stated_fine m (Parts h a ns) valid before told clear = parts_fine m h a ns before
 stated_fine m (NoOverlap p s) valid before told clear = overlap_fine m p s valid before clear
-stated_fine m (Extreme e p a) valid before told clear = extreme_fine m e p a before (neither (is_of_other_sort m Sequence p) _ clear.uses).0
-stated_fine m (Ordered o p a b) valid before told clear = ordered_fine m o p a b before (neither (is_of_other_sort m Sequence p) _ clear.uses).0
+stated_fine m (Extreme e p a) valid before told clear = extreme_fine m e p a before (or_parts (is_of_other_sort m Sequence p) _ clear.uses).0
+stated_fine m (Ordered o p a b) valid before told clear = ordered_fine m o p a b before (or_parts (is_of_other_sort m Sequence p) _ clear.uses).0
 stated_fine m (Bounded f b c) valid before told clear =
     function_fine m f (named_itself f) (λ g. bound_of b g (int_of c)) valid before refl clear.uses (bound_fine m b c) (bound_sequences b c) (bound_cumuls b c)
 stated_fine m (AlwaysIn f w lo hi) valid before told clear =
-    function_fine m f (named_itself f) (λ g. constraint.CumulIn g (window_of m w) (int_of lo) (int_of hi)) valid before refl (neither (some_in_cumul (is_of_other_sort m) f) _ clear.uses).0
+    function_fine m f (named_itself f) (λ g. constraint.CumulIn g (window_of m w) (int_of lo) (int_of hi)) valid before refl (or_parts (some_in_cumul (is_of_other_sort m) f) _ clear.uses).0
     (window_fine m m w (int_of lo) (int_of hi)) (λ g. refl) (λ g. refl)
 stated_fine m (AlwaysEqual g a v aligned) valid before told clear = constraint_more m (constraint_of m (AlwaysEqual g a v aligned)) before refl (refl, refl)
 stated_fine m (AlwaysNoState g a) valid before told clear = constraint_more m (constraint_of m (AlwaysNoState g a)) before refl (refl, refl)

@@ -1,5 +1,6 @@
 -- What a text deserves is valid, and as a text can write it.
 use Rattle.std.proofs.Common.{◌≡◌, ℕ, ◌+◌, true, List, [], ◌∷◌, Option, Some, None, refl, sym, subst}
+use Rattle.std.proofs.lemmas.Bool.{and_parts}
 use Rattle.sched_model.specs.Data.{Data, empty_model}
 use Rattle.sched_model.specs.Valid.{IsValid}
 use Rattle.cpo_text.specs.Words.{Word}
@@ -22,7 +23,6 @@ use Rattle.cpo_elab.specs.NumberedLaws.{NamedFirstIsValid}
 use Rattle.cpo_elab.specs.ValidLaws.{StatementsKeepValid}
 use Rattle.read_back.specs.Written.{IsWritten}
 use Rattle.read_back.specs.Laws.{DeservedAreWritten}
-use Rattle.read_back.proofs.Truth.{both}
 use Rattle.read_back.proofs.WrittenFine.{Fine}
 use Rattle.read_back.proofs.WrittenClear.{Told, Clear, told as what_is_told, clear}
 use Rattle.read_back.proofs.WrittenDefined.{defined_fine, aimed_fine}
@@ -64,7 +64,7 @@ judged_sound law rs [] n k m are shaped sound h = record { from = n; sound = sou
 judged_sound law [] (x ∷ xs) n k m are shaped sound h = absurd are
 judged_sound law (r ∷ rs) (x ∷ xs) n k m are shaped sound h =
     let parts = not_refused (number_at n k x.form) k x.at (judged (after_form n x.form) (k + 1) xs) m h in
-    let shapes = both (is_shaped_form x.form) (are_shaped xs) shaped in
+    let shapes = and_parts (is_shaped_form x.form) (are_shaped xs) shaped in
     judged_sound law rs xs (after_form n x.form) (k + 1) m are.2 shapes.1 (form_sound law n k (words_of r) x.form are.1 shapes.0 parts.0 sound) parts.1
 
 comes_written : NamedFirstIsValid → (m : Data) → Comes m → IsValid m × IsWritten m

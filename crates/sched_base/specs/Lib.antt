@@ -2,3 +2,4 @@ pub mod formers
 pub mod State
 pub mod Calls
 pub mod Memory
+pub mod laws

@@ -7,6 +7,7 @@ use Rattle.std.specs.List.{list_all, list_any}
 use Rattle.std.specs.List.Sorted.{IsPartitionPoint, IsPartitionedBy}
 use Rattle.std.proofs.lemmas.Bool.{and_parts, and_from}
 use Rattle.std.proofs.lemmas.Int.{ints}
+use Rattle.base_laws.specs.laws.Items.{all_weaker, all_at}
 use Rattle.sched_base.specs.declared.ids.Itv.{Itv}
 use Rattle.sched_base.specs.declared.ids.Stf.{Stf}
 use Rattle.sched_base.specs.declared.ids.Mat.{Mat}
@@ -21,9 +22,8 @@ use Rattle.sched_model.specs.Domain.{are_segments, is_in_domain, is_row, is_segm
 use Rattle.sched_model.specs.Valid.{IsValid, is_matrix_def}
 use Rattle.sched_model.specs.Value.{is_present, start_of, end_of, segments_of}
 use Rattle.sched_model.specs.States.{are_apart, demands, first_behind, lies_in, shares_moment}
-use Rattle.sched_model.proofs.Elements.{passes_there}
 use Rattle.sched_model.proofs.Lists.{any_not}
-use Rattle.sched_model.proofs.Segments.{all_implied, pairs_kept}
+use Rattle.sched_model.proofs.Segments.{pairs_kept}
 
 -- where a test fails before the first that ends after a moment, and behind it if it fails there
 none_later : (test : Segment → Bool) (s : ℤ) → ((g h : Segment) → int_lt s g.q ≡ true → int_lt g.p g.q ≡ true → int_le g.q h.p ≡ true → test g ≡ false → test h ≡ false)
@@ -134,7 +134,7 @@ distance_positive m o i j valid = by (matrix_of m o) (λ d is. matrix_valid o d 
   where
     matrix_valid : (o : Option Mat) (d : MatrixDef) → matrix_of m o ≡ Some d → is_matrix_def d ≡ true
     matrix_valid None d is = cc
-    matrix_valid (Some k) d is = passes_there is_matrix_def m.matrices k.0 d valid.matrices is
+    matrix_valid (Some k) d is = all_at is_matrix_def m.matrices k.0 d valid.matrices is
 
     by : (n : Option MatrixDef) → ((d : MatrixDef) → n ≡ Some d → is_matrix_def d ≡ true) → pos 0 ≤ℤ cell_at i j n
     by None each = omega (arith, ints)
@@ -143,7 +143,7 @@ distance_positive m o i j valid = by (matrix_of m o) (λ d is. matrix_valid o d 
 pub segments_apart : (m : Data) (g : StateDef) (is : List Segment) → IsValid m → are_segments m g is ≡ true → are_apart is ≡ true
 segments_apart m g is valid h =
     let parts = and_parts (list_all (is_segment m g) is) (pairwise (keeps_distance m g) is) h in
-    and_from _ _ (all_implied (is_segment m g) (λ i. int_lt i.p i.q) (λ i each. filled i each) is parts.0) (pairs_kept (keeps_distance m g) (λ i j. int_le i.q j.p) (λ i j kept. apart i.q (distance m g.matrix (nat_abs i.v) (nat_abs j.v)) j.p (distance_positive m g.matrix _ _ valid) kept) is parts.1)
+    and_from _ _ (all_weaker (is_segment m g) (λ i. int_lt i.p i.q) (λ i each. filled i each) is parts.0) (pairs_kept (keeps_distance m g) (λ i j. int_le i.q j.p) (λ i j kept. apart i.q (distance m g.matrix (nat_abs i.v) (nat_abs j.v)) j.p (distance_positive m g.matrix _ _ valid) kept) is parts.1)
   where
     filled : (i : Segment) → is_segment m g i ≡ true → int_lt i.p i.q ≡ true
     filled i h = let a = and_parts _ (is_row (matrix_of m g.matrix) i.v) h in

@@ -3,6 +3,7 @@ use Rattle.std.proofs.Common.{◌≡◌, ℕ, zero, suc, ◌<◌, Bool, true, �
 use Rattle.std.specs.Prelude.{◌↔◌, IsTrue, slice_get, is_some}
 use Rattle.std.specs.List.{list_all}
 use Rattle.std.proofs.lemmas.Bool.{and_parts}
+use Rattle.base_laws.specs.laws.Items.{all_at}
 use Rattle.sched_model.specs.declared.types.Constraint.{Constraint}
 use Rattle.sched_model.specs.declared.types.Objective.{Objective}
 use Rattle.sched_model.specs.declared.types.Expr.{Expr}
@@ -16,18 +17,13 @@ use Rattle.sched_model.specs.declared.types.Assignment.{Assignment}
 use Rattle.sched_model.specs.Domain.{are_segments, fits_def, is_in_domain, lists_present}
 use Rattle.sched_model.specs.Valid.{IsValid, is_constraint, is_expr}
 
-pub passes_there : {X : Type 0} (p : X → Bool) (xs : List X) (i : ℕ) (x : X) → list_all p xs ≡ true → slice_get xs i ≡ Some x → p x ≡ true
-passes_there p [] i x all there = cc
-passes_there p (y ∷ ys) zero x all there = let same : y ≡ x = cc in subst (λ z. p z ≡ true) same (and_parts (p y) (list_all p ys) all).0
-passes_there p (y ∷ ys) (suc i) x all there = passes_there p ys i x (and_parts (p y) (list_all p ys) all).1 there
-
 pub passes_at : {X : Type 0} (p : X → Bool) (xs : List X) (i : ℕ) (x : X) → list_all p xs ≡ true → i < length xs → x ≡ get_or xs i x → p x ≡ true
 passes_at p [] i x all within at_i = absurd (omega (arith, within))
 passes_at p (y ∷ ys) zero x all within at_i = subst (λ z. p z ≡ true) (sym at_i) (and_parts (p y) (list_all p ys) all).0
 passes_at p (y ∷ ys) (suc i) x all within at_i = passes_at p ys i x (and_parts (p y) (list_all p ys) all).1 (omega (arith, within)) at_i
 
 pub valid_there : (m : Data) (k : ℕ) (c : Constraint) → IsValid m → slice_get m.constraints k ≡ Some c → is_constraint m c ≡ true
-valid_there m k c valid there = passes_there (is_constraint m) m.constraints k c valid.constraints there
+valid_there m k c valid there = all_at (is_constraint m) m.constraints k c valid.constraints there
 
 pub hull_from_expr : (m : Data) (x : Expr) → is_expr m x ≡ true → is_some (hull_of m x) ≡ true
 hull_from_expr m x h = (and_parts _ (is_some (hull_of m x)) h).1

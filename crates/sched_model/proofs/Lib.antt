@@ -1,5 +1,4 @@
 pub mod Lists
-pub mod Truth
 pub mod Joined
 pub mod Valued
 pub mod Saturating

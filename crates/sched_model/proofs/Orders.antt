@@ -8,10 +8,6 @@ use Rattle.sched_base.specs.declared.ids.Itv.{Itv}
 use Rattle.sched_model.specs.Data.{same, has}
 use Rattle.sched_model.specs.Sequence.{stands_before, stands_next}
 
-or_false : (p q : Bool) → (p || q) ≡ false → (p ≡ false) × (q ≡ false)
-or_false true q h = cc
-or_false false q h = (refl, h)
-
 and_false : (p : Bool) → (p && false) ≡ false
 and_false true = refl
 and_false false = refl
@@ -20,7 +16,7 @@ and_false false = refl
 not_before : (zs : List Itv) (x y : Itv) → has zs y ≡ false → stands_before zs x y ≡ false
 not_before [] x y h = refl
 not_before (z ∷ zs) x y h =
-    let rest = or_false _ (has zs y) h in
+    let rest = or_parts _ (has zs y) h in
     ap (λ b. (same z x && b) || stands_before zs x y) rest.1 ∙ ap (λ b. b || stands_before zs x y) (and_false (same z x)) ∙ not_before zs x y rest.1
 
 absorbed : (p q : Bool) → (p ≡ false → q ≡ false) → (p || q) ≡ p

@@ -15,6 +15,7 @@ use Rattle.sched_model.specs.Data.{Data, distance, matrix_of, cell_at}
 use Rattle.sched_model.specs.Domain.{is_row, is_segment, keeps_distance}
 use Rattle.sched_model.specs.Sweep.{is_of, keeps_from, begins_after, later_end, end_with}
 use Rattle.std.proofs.lemmas.List.{at_drop_more}
+use Rattle.base_laws.specs.laws.Items.{all_weaker}
 
 regroup : (p q r s : Bool) → ((p && q) && (r && s)) ≡ (p && ((q && r) && s))
 regroup true true r s = refl
@@ -89,18 +90,13 @@ rest_none m g every v is = ap (λ b. b && pairwise (keeps_from m g every v) is) 
     each [] = refl
     each (j ∷ js) = each js
 
--- from pairs of some states to all
-pub all_implied : {X : Type 0} (p q : X → Bool) → ((x : X) → p x ≡ true → q x ≡ true) → (xs : List X) → list_all p xs ≡ true → list_all q xs ≡ true
-all_implied p q each [] h = refl
-all_implied p q each (x ∷ xs) h = let parts = and_parts (p x) (list_all p xs) h in and_from (q x) (list_all q xs) (each x parts.0) (all_implied p q each xs parts.1)
-
 pairs_implied : {X : Type 0} (p q r : X → X → Bool) → ((x y : X) → p x y ≡ true → q x y ≡ true → r x y ≡ true) → (xs : List X) → pairwise p xs ≡ true → pairwise q xs ≡ true → pairwise r xs ≡ true
 pairs_implied p q r each [] h i = refl
 pairs_implied p q r each (x ∷ xs) h i =
     let first = and_parts (list_all (p x) xs) (pairwise p xs) h in
     let second = and_parts (list_all (q x) xs) (pairwise q xs) i in
     and_from (list_all (r x) xs) (pairwise r xs)
-    (all_implied (λ y. p x y && q x y) (r x) (λ y b. let b = and_parts (p x y) (q x y) b in each x y b.0 b.1) xs (all_both (p x) (q x) (λ y. p x y && q x y) (λ y. refl) xs ∙ and_from _ _ first.0 second.0))
+    (all_weaker (λ y. p x y && q x y) (r x) (λ y b. let b = and_parts (p x y) (q x y) b in each x y b.0 b.1) xs (all_both (p x) (q x) (λ y. p x y && q x y) (λ y. refl) xs ∙ and_from _ _ first.0 second.0))
     (pairs_implied p q r each xs first.1 second.1)
 
 -- the states below v
@@ -155,7 +151,7 @@ below_all m g n [] each h = refl
 below_all m g n (i ∷ is) each h =
     let first = and_parts (nat_lt (nat_abs i.v) n) _ each in
     let pairs = and_parts (list_all (keeps_below m g n i) is) _ h in
-    and_from _ _ (all_implied (keeps_below m g n i) (keeps_distance m g i) (λ j k. implied (nat_lt (nat_abs i.v) n) (keeps_distance m g i j) k first.0) is pairs.0) (below_all m g n is first.1 pairs.1)
+    and_from _ _ (all_weaker (keeps_below m g n i) (keeps_distance m g i) (λ j k. implied (nat_lt (nat_abs i.v) n) (keeps_distance m g i j) k first.0) is pairs.0) (below_all m g n is first.1 pairs.1)
 
 pub states_keep : (m : Data) (g : StateDef) (n v : ℕ) (is : List Segment) → list_all (λ i. nat_lt (nat_abs i.v) n) is ≡ true → n ≤ v → v ≤ n → pairwise (keeps_below m g v) is ≡ true → true ≡ pairwise (keeps_distance m g) is
 states_keep m g n v is each from to h = let same : v ≡ n = omega arith in sym (below_all m g n is each (subst (λ k. pairwise (keeps_below m g k) is ≡ true) same h))
@@ -172,4 +168,4 @@ row_below m g i d h there =
     below v n h i = grind (arith, ints, nat_tests)
 
 pub rows_below : (m : Data) (g : StateDef) (is : List Segment) (d : MatrixDef) → list_all (is_segment m g) is ≡ true → Some d ≡ matrix_of m g.matrix → list_all (λ i. nat_lt (nat_abs i.v) d.size) is ≡ true
-rows_below m g is d h there = all_implied (is_segment m g) (λ i. nat_lt (nat_abs i.v) d.size) (λ i each. row_below m g i d each there) is h
+rows_below m g is d h there = all_weaker (is_segment m g) (λ i. nat_lt (nat_abs i.v) d.size) (λ i each. row_below m g i d each there) is h

@@ -3,3 +3,7 @@ pub mod Products
 pub mod Held
 pub mod Corners
 pub mod Tested
+pub mod Small
+pub mod Same
+pub mod Limits
+pub mod Members

@@ -36,7 +36,7 @@ fn lasts_in(d: &IntervalDef, s: i64, e: i64) -> bool
     size <= i128::from(d.size_hi)
 }
 
-#[tactic(auto, using(crate::proofs::Truth::second_fails, crate::proofs::Truth::third_decides))]
+#[tactic(auto, using(base_laws::specs::laws::Truth::second_fails, base_laws::specs::laws::Truth::third_decides))]
 fn fits_ranges(d: &IntervalDef, s: i64, e: i64) -> bool
     ensures { result ≡ fits_def d.now (Present s e) }
 {
@@ -103,7 +103,7 @@ fn lists_each(a: &Assignment, members: &[Itv], xs: &[Itv]) -> bool
 
 /// Whether the list has exactly the present members, each once. One that is longer than the members
 /// is refused for its length, so that no other list is walked through for each of its elements.
-#[tactic(auto, using(crate::proofs::Truth::second_fails, crate::proofs::Truth::third_decides))]
+#[tactic(auto, using(base_laws::specs::laws::Truth::second_fails, base_laws::specs::laws::Truth::third_decides))]
 pub fn lists_present(a: &Assignment, p: &SequenceDef, xs: &[Itv]) -> bool
     ensures { result ≡ lists_present a.now p.now xs.now }
 {
@@ -262,7 +262,7 @@ fn are_all_segments(model: &Model, defs: &[StateDef], lists: &[List<Segment>]) -
 }
 
 /// Whether the assignment is in the domain of the model.
-#[tactic(auto, using(crate::proofs::Truth::second_fails, crate::proofs::Truth::third_decides))]
+#[tactic(auto, using(base_laws::specs::laws::Truth::second_fails, base_laws::specs::laws::Truth::third_decides))]
 pub fn in_domain(model: &Model, a: &Assignment) -> bool
     ensures { result ≡ is_in_domain model.now a.now }
 {

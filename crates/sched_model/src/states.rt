@@ -28,7 +28,7 @@ fn covers(g: Segment, v: i64, s: i64, e: i64) -> bool
     g.v == v && g.p <= s && e <= g.q
 }
 
-#[tactic(auto, using(crate::proofs::Truth::second_fails, crate::proofs::Truth::third_decides))]
+#[tactic(auto, using(base_laws::specs::laws::Truth::second_fails, base_laws::specs::laws::Truth::third_decides))]
 fn lies_in(
     a: &Assignment,
     x: Itv,

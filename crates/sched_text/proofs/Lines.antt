@@ -1,28 +1,20 @@
 -- Lines written word by word, each word behind a space.
-use Rattle.std.proofs.Common.{◌≡◌, ◌∙◌, List, [], ◌∷◌, ◌++◌, map, refl, sym, ap, append_assoc, append-nil}
+use Rattle.std.proofs.Common.{◌≡◌, ◌∙◌, List, [], ◌∷◌, ◌++◌, map, refl, sym, ap, append-nil}
 use Rattle.std.specs.List.{flat_map}
 use Rattle.sched_base.specs.State.{State}
-use Rattle.textline.specs.Lines.{Bytes, line}
+use Rattle.textline.specs.Lines.{Bytes, line, spaced}
+use Rattle.textline.specs.laws.Spaced.{spaced_append, line_is}
 use Rattle.sched_text.specs.declared.page.Page.{Page}
 use Rattle.sched_text.specs.Printing.{Prints}
 use Rattle.sched_text.proofs.Printing.{both, «as»}
 
-abbrev pub spaced : List Bytes → Bytes
-spaced ws = flat_map (λ w. 32 ∷ w) ws
-
-line_is : (c : Bytes) (ws : List Bytes) → line (c ∷ ws) ≡ c ++ (spaced ws ++ 10 ∷ [])
-line_is c [] = refl
-line_is c (w ∷ ws) = ap (λ t. c ++ 32 ∷ t) (line_is w ws ∙ sym (append_assoc w (spaced ws) (10 ∷ [])))
-
 spaced_map : {A : Type 0} (f : A → Bytes) (xs : List A) → flat_map (λ x. 32 ∷ f x) xs ≡ spaced (map f xs)
+unfolding spaced
 spaced_map f [] = refl
 spaced_map f (x ∷ xs) = ap (λ t. (32 ∷ f x) ++ t) (spaced_map f xs)
 
-spaced_append : (vs ws : List Bytes) → spaced (vs ++ ws) ≡ spaced vs ++ spaced ws
-spaced_append [] ws = refl
-spaced_append (v ∷ vs) ws = ap (λ t. (32 ∷ v) ++ t) (spaced_append vs ws) ∙ sym (append_assoc (32 ∷ v) (spaced vs) (spaced ws))
-
 spaced_flat : {A : Type 0} (f : A → List Bytes) (xs : List A) → flat_map (λ x. spaced (f x)) xs ≡ spaced (flat_map f xs)
+unfolding spaced
 spaced_flat f [] = refl
 spaced_flat f (x ∷ xs) = ap (λ t. spaced (f x) ++ t) (spaced_flat f xs) ∙ sym (spaced_append (f x) (flat_map f xs))
 
@@ -34,4 +26,5 @@ pub line_of_lists : {A : Type 0} (f : A → List Bytes) (xs : List A) (c : Bytes
 line_of_lists f xs c = ap (λ t. c ++ (t ++ 10 ∷ [])) (spaced_flat f xs) ∙ sym (line_is c (flat_map f xs))
 
 pub three_words : {a b c : Bytes} {p0 p1 p2 p3 : Page} {s0 s1 s2 s3 : State} → Prints (32 ∷ a) p0 p1 s0 s1 → Prints (32 ∷ b) p1 p2 s1 s2 → Prints (32 ∷ c) p2 p3 s2 s3 → Prints (spaced (a ∷ b ∷ c ∷ [])) p0 p3 s0 s3
+unfolding spaced
 three_words {a} {b} {c} first second third = «as» (both first (both second third)) (ap (λ (t : Bytes). 32 ∷ (a ++ 32 ∷ (b ++ 32 ∷ t))) (sym (append-nil c)))

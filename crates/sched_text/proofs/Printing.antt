@@ -1,23 +1,16 @@
 -- Printing: one step, one step after another, and what is left.
 use Rattle.std.proofs.Common.{◌≡◌, ℕ, ◌+◌, ◌≤◌, true, false, [], ◌++◌, length, take, refl, sym, ap, ◌∙◌, subst, arith, append-nil, append_assoc, length-append}
-use Rattle.std.specs.Prelude.{Option, Some, None, Ok, Err}
+use Rattle.std.specs.Prelude.{Ok, Err}
 use Rattle.std.proofs.lemmas.List.{take-append-le}
 use Rattle.std.proofs.Math.Seq.{take-append-add}
 use Rattle.sched_base.specs.declared.desk.Failed.{Failed}
 use Rattle.sched_base.specs.declared.desk.Port.TheVariants.{Out}
 use Rattle.sched_base.specs.State.{State, with_faults, with_held}
 use Rattle.sched_base.specs.Calls.{Rose, Writes, appended}
+use Rattle.sched_base.specs.laws.Appended.{appended_nothing, appended_twice}
 use Rattle.textline.specs.Lines.{Bytes}
 use Rattle.sched_text.specs.declared.page.Page.{Page}
 use Rattle.sched_text.specs.Printing.{IsPrinted, Leaves, Prints}
-
-nothing_more : (held : Option Bytes) → held ≡ appended [] held
-nothing_more None = refl
-nothing_more (Some bs) = ap (λ (x : Bytes). Some x) (sym (append-nil bs))
-
-twice : (a b : Bytes) (held : Option Bytes) → appended b (appended a held) ≡ appended (a ++ b) held
-twice a b None = refl
-twice a b (Some bs) = ap (λ (x : Bytes). Some x) (append_assoc bs a b)
 
 -- the text stands behind what waited
 pub holds : {text : Bytes} {old new : Page} {s : State} → new.waiting.items ≡ old.waiting.items ++ text → new.failed ≡ old.failed → Prints text old new s s
@@ -52,7 +45,7 @@ writes {bytes} {text} {u} {old} {new} {s} {t} went goes same wrote = record {
           before.0 ++ bytes,
           wrote.written
               ∙ ap (λ (x : State). with_held Out (appended bytes x.out) x) before.1
-              ∙ ap (λ held. with_held Out held start) (twice before.0 bytes start.out),
+              ∙ ap (λ held. with_held Out held start) (appended_twice before.0 bytes start.out),
           append_assoc before.0 bytes (new.waiting.items ++ rest)
               ∙ ap (λ (x : Bytes). before.0 ++ x) (
               sym (append_assoc bytes new.waiting.items rest)
@@ -93,7 +86,7 @@ cut_off {bytes} more {text} {e} {old} {new} {s} {t} went fails same wrote = reco
             subst (λ (x : Bytes). length w + n ≤ length x) (sym is) (omega (arith, wrote.failed.1, length-append w bytes, length-append (w ++ bytes) (more ++ rest))),
             wrote.failed.2
                 ∙ ap (λ (x : State). with_faults t.faults (with_held Out (appended (take n bytes) x.out) x)) before.1
-                ∙ ap (λ held. with_faults t.faults (with_held Out held start)) (twice w (take n bytes) start.out)
+                ∙ ap (λ held. with_faults t.faults (with_held Out held start)) (appended_twice w (take n bytes) start.out)
                 ∙ ap (λ (x : Bytes). with_faults t.faults (with_held Out (appended x start.out) start)) (front_part w bytes (more ++ rest) n wrote.failed.1 ∙ ap (take (length w + n)) (sym is)),
           );
           later = subst (λ (x : State). x.faults ≤ t.faults) before.1 wrote.count.later;
@@ -151,7 +144,7 @@ pub «as» : {a b : Bytes} {old new : Page} {s t : State} → Prints a old new s
 -- on a new page
 pub begins : {page : Page} {s : State} (whole : Bytes) → page.waiting.items ≡ [] → page.failed ≡ false → IsPrinted s whole (whole ++ []) page s
 begins {page} {s} whole none goes = record {
-  going = λ _. ([], ap (λ held. with_held Out held s) (nothing_more s.out), ap (λ (x : Bytes). x ++ (whole ++ [])) none ∙ append-nil whole);
+  going = λ _. ([], ap (λ held. with_held Out held s) (appended_nothing s.out), ap (λ (x : Bytes). x ++ (whole ++ [])) none ∙ append-nil whole);
   failed = λ fails. let absurd : false ≡ true = sym goes ∙ fails in cc;
 }
 

@@ -1,7 +1,7 @@
 ghost use Rattle.std.specs.Prelude.{◌≡◌, ◌++◌, ◌∷◌, [], codes, flat_map};
 ghost use Rattle.std.specs.Fmt.{decimal, signed_decimal};
 ghost use Rattle.sched_base.specs.Calls.{Writes};
-ghost use Rattle.textline.specs.Lines.{line};
+ghost use Rattle.textline.specs.Lines.{line, spaced};
 ghost use Rattle.sched_text.specs.Answers.{slot_words, slot_line, label, order_line, segment_words, segments_line, schedule_lines, unfinished_words, verdict_words, shown_schedule, answer_text};
 ghost use Rattle.sched_text.specs.Pieces.{at_places, interval_name};
 ghost use Rattle.sched_text.specs.Printing.{Prints};
@@ -125,7 +125,7 @@ fn put_spaced<D: Desk>(page: &mut Page, desk: &mut D, n: i64)
 }
 
 fn put_segment<D: Desk>(page: &mut Page, desk: &mut D, s: Segment)
-    ensures { Prints (flat_map (λ w. 32 ∷ w) (segment_words s)) page.old page.new (D.state desk.old) (D.state desk.new) }
+    ensures { Prints (spaced (segment_words s)) page.old page.new (D.state desk.old) (D.state desk.new) }
 {
     put_spaced(page, desk, s.p);
     put_spaced(page, desk, s.q);
@@ -134,7 +134,7 @@ fn put_segment<D: Desk>(page: &mut Page, desk: &mut D, s: Segment)
 
 /// The rest of a line: the numbers of some segments, each behind a space.
 fn put_all_segments<D: Desk>(page: &mut Page, desk: &mut D, segments: &[Segment])
-    ensures { Prints (flat_map (λ s. flat_map (λ w. 32 ∷ w) (segment_words s)) segments.now) page.old page.new (D.state desk.old) (D.state desk.new) }
+    ensures { Prints (flat_map (λ s. spaced (segment_words s)) segments.now) page.old page.new (D.state desk.old) (D.state desk.new) }
 {
     for s in segments {
         put_segment(page, desk, *s);

@@ -6,13 +6,10 @@ use Rattle.std.specs.Char.{digit_value}
 use Rattle.std.specs.Fmt.{decimal}
 use Rattle.std.specs.Str.{all_ascii_digits}
 use Rattle.std.specs.Str.Parse.{digits_value, digits_value_after}
-use Rattle.std.proofs.lemmas.Str.Parse.{IsNumeralModel, tells_all_ascii_digits, numerals_by_value}
 use Rattle.std.proofs.lemmas.Fmt.{digits_decimal, digits_value-decimal, decimal-digits_value, decimal_nonempty, first_decimal, length-decimal-le}
+use Rattle.base_laws.specs.laws.Numerals.{digits_are_numerals}
 use Rattle.textline.specs.Lines.{Bytes}
 use Rattle.textline.specs.Words.{ReadsCount}
-
-own : IsNumeralModel (λ ds. all_ascii_digits ds ≡ true) (digits_value 10)
-own = numerals_by_value (λ ds. all_ascii_digits ds ≡ true) tells_all_ascii_digits
 
 grows : (ds : Bytes) (v : ℕ) → v ≤ digits_value_after 10 v ds
 grows [] v = omega arith
@@ -34,11 +31,11 @@ pub record IsCount (w : Bytes) (n : ℕ) : Type 0 where
   pub value : digits_value 10 w ≡ n
 
 pub spells_count : (w : Bytes) (n : ℕ) → IsCount w n → n < 2 ^ 64 → w ≡ decimal n
-spells_count w n is small = sym (decimal-digits_value own w is.digits is.some is.first (omega (arith, is.value, small))) ∙ ap decimal is.value
+spells_count w n is small = sym (decimal-digits_value digits_are_numerals w is.digits is.some is.first (omega (arith, is.value, small))) ∙ ap decimal is.value
 
 decimal_count : (n : ℕ) → n < 2 ^ 64 → IsCount (decimal n) n
-decimal_count zero small = record { digits = digits_decimal own zero small; some = decimal_nonempty zero small; first = λ h. omega (arith, decimal_nonempty zero small, length-decimal-le 1 zero (omega arith) (omega arith) small); value = digits_value-decimal own zero small }
-decimal_count (suc n) small = record { digits = digits_decimal own (suc n) small; some = decimal_nonempty (suc n) small; first = λ h. absurd (omega (arith, h, first_decimal (suc n) (omega arith) small)); value = digits_value-decimal own (suc n) small }
+decimal_count zero small = record { digits = digits_decimal digits_are_numerals zero small; some = decimal_nonempty zero small; first = λ h. omega (arith, decimal_nonempty zero small, length-decimal-le 1 zero (omega arith) (omega arith) small); value = digits_value-decimal digits_are_numerals zero small }
+decimal_count (suc n) small = record { digits = digits_decimal digits_are_numerals (suc n) small; some = decimal_nonempty (suc n) small; first = λ h. absurd (omega (arith, h, first_decimal (suc n) (omega arith) small)); value = digits_value-decimal digits_are_numerals (suc n) small }
 
 pub is_count : (w : Bytes) (n : ℕ) → n < 2 ^ 64 → w ≡ decimal n → IsCount w n
 is_count w n small is = subst (λ v. IsCount v n) (sym is) (decimal_count n small)

@@ -1,9 +1,11 @@
 -- The test of a cumulative sentence at some moments decides its sentence at each.
-use Rattle.std.specs.Prelude.{◌≡◌, ℕ, zero, suc, ℤ, pos, ◌+ℤ◌, ◌-ℤ◌, ◌≤ℤ◌, Bool, true, false, ◌||◌, if◌then◌else◌, IsTrue, List, [], ◌∷◌, ◌++◌, map, nat_abs}
+use Rattle.std.specs.Prelude.{◌≡◌, ℕ, zero, suc, ℤ, pos, ◌+ℤ◌, ◌-ℤ◌, ◌≤ℤ◌, Bool, true, false, ◌||◌, if◌then◌else◌, IsTrue, List, [], ◌∷◌, map, nat_abs}
 use Rattle.std.proofs.Common.{refl, sym, ap, subst, arith, ◌∙◌}
 use Rattle.std.proofs.lemmas.Int.{ints}
 use Rattle.std.specs.Ordering.{int_eq}
 use Rattle.std.specs.List.{list_any, list_all, flat_map}
+use Rattle.std.proofs.lemmas.Bool.{or_parts}
+use Rattle.base_laws.specs.laws.Items.{none_split}
 use Rattle.sched_base.specs.declared.ids.Cum.{Cum}
 use Rattle.sched_model.specs.declared.types.Shape.{Shape}
 use Rattle.sched_model.specs.declared.types.Shape.TheVariants.{Pulse, Step, PulseOf, StepAtStart, StepAtEnd}
@@ -19,14 +21,6 @@ use Rattle.sched_model.specs.Cumulative.{from_on, between, shape_at, signed, lev
 before : ℤ → ℤ
 before t = t -ℤ pos 1
 
-or_false : (p q : Bool) → (p || q) ≡ false → (p ≡ false) × (q ≡ false)
-or_false true q h = cc
-or_false false q h = (refl, h)
-
-any_append : {X : Type 0} (p : X → Bool) (xs ys : List X) → list_any p (xs ++ ys) ≡ false → (list_any p xs ≡ false) × (list_any p ys ≡ false)
-any_append p [] ys h = (refl, h)
-any_append p (x ∷ xs) ys h = let rest = or_false (p x) (list_any p (xs ++ ys)) h in let more = any_append p xs ys rest.1 in (rw rest.0 more.0, more.1)
-
 abbrev pub keeps_level : Assignment → Window → ℤ → ℤ → (ℤ → ℤ) → ℤ → Bool
 keeps_level a w lo hi level t = is_in_window a w t implies is_between lo hi (level t)
 
@@ -41,10 +35,10 @@ if_same true x y h = h
 if_same false x y h = refl
 
 one : (p : Bool) → (p || false) ≡ false → p ≡ false
-one p h = (or_false p false h).0
+one p h = (or_parts p false h).0
 
 two : (p q : Bool) → (p || (q || false)) ≡ false → (p ≡ false) × (q ≡ false)
-two p q h = ((or_false p (q || false) h).0, one q (or_false p (q || false) h).1)
+two p q h = ((or_parts p (q || false) h).0, one q (or_parts p (q || false) h).1)
 
 shape_same : (a : Assignment) (s : Shape) (t : ℤ) → list_any (int_eq t) (changes_of a s) ≡ false → shape_at a s t ≡ shape_at a s (t -ℤ pos 1)
 shape_same a (Pulse u v h) t e = let f = two _ _ e in between_same u v h t f.0 f.1
@@ -57,7 +51,7 @@ total_same : (a : Assignment) (is : List Part) (t : ℤ) → list_any (int_eq t)
     → total (map (λ i. signed i.minus (shape_at a i.shape t)) is) ≡ total (map (λ i. signed i.minus (shape_at a i.shape (t -ℤ pos 1))) is)
 total_same a [] t e = refl
 total_same a (i ∷ is) t e =
-    let parts = any_append (int_eq t) (changes_of a i.shape) (flat_map (λ j. changes_of a j.shape) is) e in
+    let parts = none_split (int_eq t) (changes_of a i.shape) (flat_map (λ j. changes_of a j.shape) is) e in
     ap (λ z. signed i.minus z +ℤ total (map (λ j. signed j.minus (shape_at a j.shape t)) is)) (shape_same a i.shape t parts.0)
     ∙ ap (λ z. signed i.minus (shape_at a i.shape (t -ℤ pos 1)) +ℤ z) (total_same a is t parts.1)
 
@@ -90,7 +84,7 @@ decided : (a : Assignment) (w : Window) (lo hi : ℤ) (level : ℤ → ℤ) (ts 
     → (b : Bool) → list_any (int_eq t) (begin_of a w ∷ ts) ≡ b → is_between lo hi (level t) ≡ true
 decided a w lo hi level ts t stays all inside earlier true e = implied (is_in_window a w t) _ inside (all_at (keeps_level a w lo hi level) t (begin_of a w ∷ ts) all e)
 decided a w lo hi level ts t stays all inside earlier false e =
-    let parts = or_false (int_eq t (begin_of a w)) (list_any (int_eq t) ts) e in
+    let parts = or_parts (int_eq t (begin_of a w)) (list_any (int_eq t) ts) e in
     subst (λ z. is_between lo hi z ≡ true) (sym (stays t parts.1)) (earlier parts.0)
 
 at_begin : (t u : ℤ) (zs : List ℤ) → u ≤ℤ t → t ≤ℤ (u +ℤ pos 0) → list_any (int_eq t) (u ∷ zs) ≡ true

@@ -4,6 +4,7 @@ use Rattle.std.specs.List.{list_all, list_any}
 use Rattle.std.proofs.lemmas.Int.{ints}
 use Rattle.std.proofs.lemmas.Option.{cond_some, option_and_then_some}
 use Rattle.std.proofs.lemmas.Simd.{map-map}
+use Rattle.std.proofs.lemmas.Bool.{and_parts}
 use Rattle.sched_model.specs.declared.types.IntervalDef.{IntervalDef}
 use Rattle.sched_model.specs.declared.types.Assignment.{Assignment}
 use Rattle.sched_model.specs.declared.types.Slot.{Slot}
@@ -60,18 +61,14 @@ in_range : (f : IntervalDef → Ends) (get : ℤ → Slot → ℤ) → Reads f g
 in_range f get reads i Absent d fits = subst (Within (widened i.optional d (f i))) (sym (reads.absent d)) (widened_absent i.optional d (f i) fits)
 in_range f get reads i (Present s e) d fits = widened_present i.optional d (get d (Present s e)) (f i) (reads.present i s e d fits)
 
-both_true : (p q : Bool) → (p && q) ≡ true → (p ≡ true) × (q ≡ true)
-both_true true q h = (refl, h)
-both_true false q h = cc
-
 alone : (z : ℤ) → Within (z, z) z
 alone z = record { low = omega (arith, ints); high = omega (arith, ints) }
 
 at_slot : (f : IntervalDef → Ends) (get : ℤ → Slot → ℤ) → Reads f get → (defs : List IntervalDef) (slots : List Slot) → placewise fits_def defs slots ≡ true → (i : ℕ) (d : ℤ)
     → Within (range_or f d (slice_get defs i)) (get d (get_or slots i Absent))
 at_slot f get reads [] [] fits i d = subst (Within (d, d)) (sym (reads.absent d)) (alone d)
-at_slot f get reads (r ∷ rs) (s ∷ ss) fits zero d = in_range f get reads r s d (both_true _ _ fits).0
-at_slot f get reads (r ∷ rs) (s ∷ ss) fits (suc i) d = at_slot f get reads rs ss (both_true _ _ fits).1 i d
+at_slot f get reads (r ∷ rs) (s ∷ ss) fits zero d = in_range f get reads r s d (and_parts _ _ fits).0
+at_slot f get reads (r ∷ rs) (s ∷ ss) fits (suc i) d = at_slot f get reads rs ss (and_parts _ _ fits).1 i d
 at_slot f get reads [] (s ∷ ss) fits i d = cc
 at_slot f get reads (r ∷ rs) [] fits i d = cc
 

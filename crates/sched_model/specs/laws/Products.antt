@@ -4,6 +4,7 @@ use Rattle.std.specs.Prelude.{int_le}
 use Rattle.std.specs.Int.{int_max, int_min, saturate_to_bits}
 use Rattle.std.proofs.lemmas.Int.{ints}
 use Rattle.std.proofs.Math.IntN.{pos-*ℤ-pos, negsuc-*ℤ-negsuc, negsuc-*ℤ-pos, pos-*ℤ-negsuc, *ℤ-zero}
+use Rattle.std.proofs.lemmas.Bool.{and_parts}
 use Rattle.sched_model.specs.Ranges.{Ends, times_range, product_range, spread}
 use Rattle.sched_model.specs.Bounds.{is_small}
 use Rattle.sched_model.specs.Words.{product, least, greatest}
@@ -108,10 +109,6 @@ small_same x y h = grind (arith, ints)
 small_is : (x y : ℤ) → cut x ≡ cut y → is_small x ≡ true → x ≡ y
 small_is x y h i = grind (arith, ints)
 
-both : (p q : Bool) → (p && q) ≡ true → (p ≡ true) × (q ≡ true)
-both true q h = (refl, h)
-both false q h = cc
-
 pick : (b : Bool) (r s : Ends) → (b ≡ true → r ≡ s) → cond b (Some r) None ≡ cond b (Some s) None
 pick true r s h = ap Some (h refl)
 pick false r s h = refl
@@ -122,7 +119,7 @@ pair_is r s h i = ap (λ z. let e : Ends = (z, r.1) in e) h ∙ ap (λ z. let e 
 near_limited : (r s : Ends) → Near r s → limited r ≡ limited s
 unfolding limited
 near_limited r s h =
-    pick (is_small r.0 && is_small r.1) r s (λ t. let b = both _ _ t in pair_is r s (small_is r.0 s.0 h.low b.0) (small_is r.1 s.1 h.high b.1))
+    pick (is_small r.0 && is_small r.1) r s (λ t. let b = and_parts _ _ t in pair_is r s (small_is r.0 s.0 h.low b.0) (small_is r.1 s.1 h.high b.1))
     ∙ ap (λ b. cond (b && is_small r.1) (Some s) None) (small_same r.0 s.0 h.low)
     ∙ ap (λ b. cond (is_small s.0 && b) (Some s) None) (small_same r.1 s.1 h.high)
 

@@ -5,9 +5,6 @@ use Rattle.std.proofs.lemmas.Int.{ints}
 use Rattle.std.proofs.lemmas.Fmt.{decimal_injective, digits_decimal, signed_decimal_injective}
 use Rattle.std.specs.Fmt.{decimal, signed_decimal}
 use lib.Signed.{mag}
-use Rattle.sched_model.specs.declared.types.Slot.{Slot}
-use Rattle.sched_model.specs.declared.types.Segment.{Segment}
-use Rattle.sched_base.specs.declared.ids.Itv.{Itv}
 use Rattle.sched_model.specs.declared.types.Assignment.{Assignment}
 use Rattle.sched_model.specs.declared.types.Answer.{Answer}
 use Rattle.sched_model.specs.declared.types.Answer.TheVariants.{Optimal, Feasible, Infeasible, Unfinished}
@@ -17,36 +14,31 @@ use Rattle.sched_model.specs.Words.{placewise}
 use Rattle.sched_model.specs.Domain.{is_in_domain, fits_def, lists_present, are_segments}
 use Rattle.sched_model.specs.Valid.{IsValid, is_interval_def, is_sequence_def, is_state_def}
 use Rattle.std.specs.Str.{all_ascii_digits}
-use Rattle.std.proofs.lemmas.Str.Parse.{tells_all_ascii_digits, numerals_by_value}
+use Rattle.std.proofs.lemmas.Bool.{and_parts}
+use Rattle.base_laws.specs.laws.Numerals.{digits_are_numerals}
+use Rattle.sched_model.specs.laws.Same.{same_assignment}
 use Rattle.textline.specs.Lines.{Bytes, line}
 use Rattle.textline.specs.Words.{is_word, are_words}
-use Rattle.textline.specs.laws.Lines.{both_true, line_told}
+use Rattle.textline.specs.laws.Lines.{line_told, one_word}
 use Rattle.textline.specs.laws.Numbers.{decimal_is_word, signed_is_word}
 use Rattle.sched_text.specs.Pieces.{at_places}
 use Rattle.sched_text.specs.Answers.{slot_line, order_line, segments_line, schedule_lines, verdict_words, shown_schedule}
 use Rattle.sched_text.specs.Told.{IsPrintable, IsNumber, AnswersAreTold}
 use Rattle.sched_text.specs.laws.Places.{places_told, placewise_more}
-use Rattle.sched_text.specs.laws.Words.{one_word}
 use Rattle.sched_text.specs.laws.Names.{names_of}
 use Rattle.sched_text.specs.laws.Lines.{slots_tell, orders_tell, segments_tell, spelled_slot, spelled_order, spelled_segments, is_spelled_slot, are_itvs, are_spelled_segments}
 
 -- schedules
-
-abbrev made_assignment : List Slot → List (List Itv) → List (List Segment) → Assignment
-made_assignment s o g = record { slots = s; orders = o; segs = g }
-
-assignment_is : (a b : Assignment) → a.slots ≡ b.slots → a.orders ≡ b.orders → a.segs ≡ b.segs → a ≡ b
-assignment_is a b s o g = ap (λ x. made_assignment x a.orders a.segs) s ∙ ap (λ x. made_assignment b.slots x a.segs) o ∙ ap (λ x. made_assignment b.slots b.orders x) g
 
 three_parts : (x y z w : Bytes) → (x ++ y ++ z) ++ w ≡ x ++ (y ++ (z ++ w))
 three_parts x y z w = append_assoc (x ++ y) z w ∙ append_assoc x y (z ++ w)
 
 schedules_told : (m : Data) → IsValid m → (a b : Assignment) (p q : Bytes) → is_in_domain m a ≡ true → is_in_domain m b ≡ true → schedule_lines m a ++ p ≡ schedule_lines m b ++ q → (a ≡ b) × (p ≡ q)
 schedules_told m valid a b p q ha hb e =
-    let h2 = both_true (placewise fits_def m.intervals a.slots && placewise (lists_present a) m.sequences a.orders) (placewise (are_segments m) m.states a.segs) ha in
-    let h1 = both_true (placewise fits_def m.intervals a.slots) (placewise (lists_present a) m.sequences a.orders) h2.0 in
-    let k2 = both_true (placewise fits_def m.intervals b.slots && placewise (lists_present b) m.sequences b.orders) (placewise (are_segments m) m.states b.segs) hb in
-    let k1 = both_true (placewise fits_def m.intervals b.slots) (placewise (lists_present b) m.sequences b.orders) k2.0 in
+    let h2 = and_parts (placewise fits_def m.intervals a.slots && placewise (lists_present a) m.sequences a.orders) (placewise (are_segments m) m.states a.segs) ha in
+    let h1 = and_parts (placewise fits_def m.intervals a.slots) (placewise (lists_present a) m.sequences a.orders) h2.0 in
+    let k2 = and_parts (placewise fits_def m.intervals b.slots && placewise (lists_present b) m.sequences b.orders) (placewise (are_segments m) m.states b.segs) hb in
+    let k1 = and_parts (placewise fits_def m.intervals b.slots) (placewise (lists_present b) m.sequences b.orders) k2.0 in
     let whole = sym (three_parts (at_places slot_line 0 m.intervals a.slots) (at_places (order_line m) 0 m.sequences a.orders) (at_places segments_line 0 m.states a.segs) p)
     ∙ e ∙ three_parts (at_places slot_line 0 m.intervals b.slots) (at_places (order_line m) 0 m.sequences b.orders) (at_places segments_line 0 m.states b.segs) q in
     let slots = places_told slot_line is_spelled_slot slots_tell 0 m.intervals a.slots b.slots _ _
@@ -58,7 +50,7 @@ schedules_told m valid a b p q ha hb e =
     let segs = places_told segments_line are_spelled_segments segments_tell 0 m.states a.segs b.segs _ _
     (placewise_more (is_state_def m) (are_segments m) are_spelled_segments (spelled_segments m) m.states a.segs valid.states h2.1)
     (placewise_more (is_state_def m) (are_segments m) are_spelled_segments (spelled_segments m) m.states b.segs valid.states k2.1) orders.1 in
-    (assignment_is a b slots.0 orders.0 segs.0, segs.1)
+    (same_assignment a b slots.0 orders.0 segs.0, segs.1)
 
 -- verdicts
 
@@ -92,7 +84,7 @@ verdict_told m x y p q hx hy e =
 
 no_digits : (n : ℕ) → n < 2 ^ 64 → decimal n ≡ codes "none" → ⊥
 no_digits n small e =
-    let digits : all_ascii_digits (decimal n) ≡ true = digits_decimal (numerals_by_value (λ ds. all_ascii_digits ds ≡ true) tells_all_ascii_digits) n small in
+    let digits : all_ascii_digits (decimal n) ≡ true = digits_decimal digits_are_numerals n small in
     let wrong : all_ascii_digits (codes "none") ≡ true = ap all_ascii_digits (sym e) ∙ digits in cc
 
 minus_is_no_letter : (x y : Bytes) → 45 ∷ x ≡ 110 ∷ y → ⊥

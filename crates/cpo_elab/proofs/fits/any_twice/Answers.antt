@@ -1,4 +1,4 @@
-use Rattle.std.proofs.Common.{rules, true, nat_eq, ap, ◌∙◌}
+use Rattle.std.proofs.Common.{rules, nat_eq, ap, ◌∙◌}
 use Rattle.std.specs.List.{list_any}
 use Rattle.sched_model.specs.Valid.{are_distinct}
 use Rattle.cpo_elab.specs.Named.{itv_of}

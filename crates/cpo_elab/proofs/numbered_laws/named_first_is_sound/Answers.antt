@@ -1,8 +1,8 @@
 use Rattle.cpo_elab.proofs.InPlace.{nothing_moves}
 use Rattle.cpo_elab.specs.Numbered.{is_named_sequence, is_named_cumul}
-use Rattle.cpo_elab.proofs.Parted.{at_new_place}
 use Rattle.cpo_elab.proofs.NumberedValid.{sequence_stays, parts_stay, stays_valid}
 use Rattle.cpo_elab.proofs.numbered_laws.named_first_is_sound.Goals as goal
+use Rattle.cpo_elab.specs.lemmas.Parted.{at_new_place}
 
 pub returns-clause-valid : goal.returns-clause-valid
 returns-clause-valid c = stays_valid

@@ -1,4 +1,4 @@
-use Rattle.std.proofs.Common.{◌-◌, length, suc, refl, ap, arith}
+use Rattle.std.proofs.Common.{◌-◌, ◌∙◌, length, suc, refl, ap, arith}
 use Rattle.cpo_text.specs.Places.{left}
 use Rattle.cpo_text.specs.Reads.{told_limit}
 use Rattle.cpo_text.proofs.Forms.{readings_start, readings_turn, length-push, readings_on, readings_end, readings_full, behind_fewer}
@@ -7,10 +7,10 @@ use Rattle.cpo_text.proofs.whole.statements.Goals as goal
 pub loop-token-init : goal.loop-token-init
 loop-token-init c =
     let none = ap length c.new-readings.ensures in
-    record { room = omega arith; rest = λ n more enough rest. readings_start n _ _ _ more c.new-readings.ensures (omega arith) c.start-here.ensures rest }
+    record { room = omega arith; rest = λ n more enough rest. readings_start n _ _ _ more c.new-readings.ensures (omega arith) (c.onto-here.ensures ∙ c.start.ensures) rest }
 
 pub loop-token-smaller : goal.loop-token-smaller
-loop-token-smaller c = behind_fewer _ _ _ _ c.in-Some.ensures.tokens c.in_ok-form.ensures.behind
+loop-token-smaller c = behind_fewer _ _ _ _ c.in-Some.ensures.tokens (c.onto-here-in-Some.ensures ∙ c.in_ok-form.ensures.behind)
 
 pub loop-token-preserved : goal.loop-token-preserved
 loop-token-preserved c =
@@ -19,7 +19,7 @@ loop-token-preserved c =
       room = omega arith;
       rest = λ n more enough rest.
           readings_on _ _ _ _ more c.in_ok-push.ensures.ok
-          (c.loop-token.invariant.rest (suc n) _ (omega arith) (readings_turn n _ _ _ _ _ more c.in-Some.ensures.tokens c.in_ok-form.ensures.behind refl c.in_ok-form.ensures.form rest));
+          (c.loop-token.invariant.rest (suc n) _ (omega arith) (readings_turn n _ _ _ _ _ more c.in-Some.ensures.tokens (c.onto-here-in-Some.ensures ∙ c.in_ok-form.ensures.behind) refl c.in_ok-form.ensures.form rest));
     }
 
 pub returns-then-len-ge-TOLD_LIMIT : goal.returns-then-len-ge-TOLD_LIMIT

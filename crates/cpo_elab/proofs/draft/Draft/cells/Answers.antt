@@ -1,5 +1,5 @@
 use Rattle.std.proofs.Common.{arith}
-use Rattle.cpo_elab.proofs.Within.{limits_of}
+use Rattle.sched_model.specs.laws.Limits.{limits_of}
 use Rattle.cpo_elab.proofs.draft.Draft.cells.Goals as goal
 
 pub returns-clause-few : goal.returns-clause-few

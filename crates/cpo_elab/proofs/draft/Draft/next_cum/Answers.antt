@@ -1,5 +1,5 @@
 use Rattle.std.proofs.Common.{ap, length, arith}
-use Rattle.cpo_elab.proofs.Within.{limits_of}
+use Rattle.sched_model.specs.laws.Limits.{limits_of}
 use Rattle.cpo_elab.proofs.draft.Draft.next_cum.Goals as goal
 
 pub overflow_cast-result : goal.overflow_cast-result

@@ -1,9 +1,9 @@
 -- The limits on a model, one by one.
-use Rattle.std.proofs.Common.{◌≡◌, ℕ, ◌≤◌, Bool, true, false, ◌&&◌, length, nat_le, refl, sym, arith}
-use Rattle.std.proofs.lemmas.Bool.Decides.{nat_tests}
+use Rattle.std.proofs.Common.{◌≡◌, ◌≤◌, true, ◌&&◌, length, nat_le}
+use Rattle.std.proofs.lemmas.Bool.{and_parts, and_from}
+use Rattle.base_laws.specs.laws.Numbers.{at_most, is_at_most}
 use Rattle.sched_model.specs.Data.{Data}
 use Rattle.sched_model.specs.Valid.{cell_count, node_total, is_within_limits}
-use Rattle.cpo_elab.proofs.Truth.{both, joined}
 
 pub record Limits (m : Data) : Type 0 where
   pub intervals : length m.intervals ≤ 2000
@@ -15,12 +15,7 @@ pub record Limits (m : Data) : Type 0 where
   pub cells : cell_count m ≤ 1000000
   pub nodes : node_total m ≤ 100000
 
-pub at_most : (n k : ℕ) → nat_le n k ≡ true → n ≤ k
-at_most n k h = grind (arith, nat_tests)
-
-pub is_at_most : (n k : ℕ) → n ≤ k → nat_le n k ≡ true
-is_at_most n k h = grind (arith, nat_tests)
-
+-- a model that passes the test keeps each limit
 pub limits_of : (m : Data) → is_within_limits m ≡ true → Limits m
 limits_of m h =
     let a = nat_le (length m.intervals) 2000 in
@@ -31,13 +26,13 @@ limits_of m h =
     let f = nat_le (length m.constraints) 20000 in
     let g = nat_le (cell_count m) 1000000 in
     let t = nat_le (node_total m) 100000 in
-    let p7 = both (a && b && c && d && e && f && g) t h in
-    let p6 = both (a && b && c && d && e && f) g p7.0 in
-    let p5 = both (a && b && c && d && e) f p6.0 in
-    let p4 = both (a && b && c && d) e p5.0 in
-    let p3 = both (a && b && c) d p4.0 in
-    let p2 = both (a && b) c p3.0 in
-    let p1 = both a b p2.0 in
+    let p7 = and_parts (a && b && c && d && e && f && g) t h in
+    let p6 = and_parts (a && b && c && d && e && f) g p7.0 in
+    let p5 = and_parts (a && b && c && d && e) f p6.0 in
+    let p4 = and_parts (a && b && c && d) e p5.0 in
+    let p3 = and_parts (a && b && c) d p4.0 in
+    let p2 = and_parts (a && b) c p3.0 in
+    let p1 = and_parts a b p2.0 in
     record {
       intervals = at_most (length m.intervals) 2000 p1.0;
       sequences = at_most (length m.sequences) 200 p1.1;
@@ -49,15 +44,11 @@ limits_of m h =
       nodes = at_most (node_total m) 100000 p7.1;
     }
 
-pub within : (m : Data) → Limits m → is_within_limits m ≡ true
-within m l =
-    joined _ _ (joined _ _ (joined _ _ (joined _ _ (joined _ _ (joined _ _ (joined _ _
+-- a model that keeps each limit passes the test
+pub within_limits : (m : Data) → Limits m → is_within_limits m ≡ true
+within_limits m l =
+    and_from _ _ (and_from _ _ (and_from _ _ (and_from _ _ (and_from _ _ (and_from _ _ (and_from _ _
     (is_at_most (length m.intervals) 2000 l.intervals) (is_at_most (length m.sequences) 200 l.sequences))
     (is_at_most (length m.matrices) 200 l.matrices)) (is_at_most (length m.cumuls) 2000 l.cumuls))
     (is_at_most (length m.states) 200 l.states)) (is_at_most (length m.constraints) 20000 l.constraints))
     (is_at_most (cell_count m) 1000000 l.cells)) (is_at_most (node_total m) 100000 l.nodes)
-
-pub same_bool : (a b : Bool) → (a ≡ true → b ≡ true) → (b ≡ true → a ≡ true) → a ≡ b
-same_bool true b there back = sym (there refl)
-same_bool false true there back = back refl
-same_bool false false there back = refl

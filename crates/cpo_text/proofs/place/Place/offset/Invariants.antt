@@ -1,7 +1,7 @@
 use Rattle.std.proofs.Common.{◌≡◌, ◌≤◌, ◌-◌, length, drop}
 use Rattle.cpo_text.specs.Lexing.{tokens_from}
 use Rattle.cpo_text.specs.Places.{left}
-use Rattle.cpo_text.proofs.place.Place.next.Given as goal
+use Rattle.cpo_text.proofs.place.Place.offset.Given as goal
 
 abbrev pub invariant-loop-at : goal.invariant-loop-at
 invariant-loop-at l = record {

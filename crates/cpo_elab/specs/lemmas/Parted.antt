@@ -1,47 +1,29 @@
 -- Once a list is parted, the item at the new place is the one that stood at the old, and each item passes what it passed.
-use Rattle.std.proofs.Common.{◌≡◌, ℕ, zero, suc, ◌+◌, Bool, true, false, not, cond, List, [], ◌∷◌, ◌++◌, take, length, slice_get, Option, Some, None, refl, sym, ap, ◌∙◌, arith}
+use Rattle.std.proofs.Common.{◌≡◌, ℕ, zero, suc, ◌+◌, Bool, true, false, not, cond, List, [], ◌∷◌, take, slice_get, Option, Some, None, refl, sym, ap, ◌∙◌}
 use Rattle.std.specs.List.{filter, count_by, list_all}
-use Rattle.std.proofs.lemmas.List.Sums.{length-filter, sum_by-cons}
+use Rattle.std.proofs.lemmas.List.Sums.{length-filter}
+use Rattle.base_laws.specs.laws.Items.{all_append}
+use Rattle.base_laws.specs.laws.Kept.{filter_yes, filter_no, count_yes, count_no, all_filter}
+use Rattle.base_laws.specs.laws.Places.{at_left, at_right}
 use Rattle.sched_model.specs.Words.{passes, passes_if_any}
 use Rattle.cpo_elab.specs.Numbered.{parted, new_place}
-use Rattle.read_back.proofs.Truth.{both, joined, all_append}
-use Rattle.read_back.proofs.Items.{filter_yes, filter_no, at_left}
-
--- one item more
-
-pub count_yes : {X : Type 0} (p : X → Bool) (x : X) (xs : List X) → p x ≡ true → count_by p (x ∷ xs) ≡ suc (count_by p xs)
-count_yes p x xs holds = sum_by-cons (λ y. cond (p y) 1 0) x xs ∙ ap (λ b. cond b 1 0 + count_by p xs) holds ∙ one_more (count_by p xs) where
-  one_more : (n : ℕ) → 1 + n ≡ suc n
-  one_more n = omega arith
-
-count_no : {X : Type 0} (p : X → Bool) (x : X) (xs : List X) → p x ≡ false → count_by p (x ∷ xs) ≡ count_by p xs
-count_no p x xs fails = sum_by-cons (λ y. cond (p y) 1 0) x xs ∙ ap (λ b. cond b 1 0 + count_by p xs) fails ∙ none_more (count_by p xs) where
-  none_more : (n : ℕ) → 0 + n ≡ n
-  none_more n = omega arith
-
--- the item at a place, among those of its kind; past the end there is none
 
 kept_more : {X : Type 0} (p : X → Bool) (x : X) (xs : List X) (i : ℕ) (b : Bool) → p x ≡ b → slice_get (filter p xs) (count_by p (take i xs)) ≡ slice_get xs i
     → slice_get (filter p (x ∷ xs)) (count_by p (x ∷ take i xs)) ≡ slice_get xs i
 kept_more p x xs i true holds rest = ap (λ ys. slice_get ys (count_by p (x ∷ take i xs))) (filter_yes p x xs holds) ∙ ap (slice_get (x ∷ filter p xs)) (count_yes p x (take i xs) holds) ∙ rest
 kept_more p x xs i false fails rest = ap (λ ys. slice_get ys (count_by p (x ∷ take i xs))) (filter_no p x xs fails) ∙ ap (slice_get (filter p xs)) (count_no p x (take i xs) fails) ∙ rest
 
-at_kept : {X : Type 0} (p : X → Bool) (xs : List X) (i : ℕ) → passes_if_any p (slice_get xs i) ≡ true → slice_get (filter p xs) (count_by p (take i xs)) ≡ slice_get xs i
+-- the item at a place, among those of its kind; past the end there is none
+pub at_kept : {X : Type 0} (p : X → Bool) (xs : List X) (i : ℕ) → passes_if_any p (slice_get xs i) ≡ true → slice_get (filter p xs) (count_by p (take i xs)) ≡ slice_get xs i
 at_kept p [] i h = refl
 at_kept p (x ∷ xs) zero h = ap (λ ys. slice_get ys 0) (filter_yes p x xs h)
 at_kept p (x ∷ xs) (suc i) h = kept_more p x xs i (p x) refl (at_kept p xs i h)
 
-at_right : {X : Type 0} (xs ys : List X) (n : ℕ) → slice_get (xs ++ ys) (length xs + n) ≡ slice_get ys n
-at_right [] ys n = ap (slice_get ys) (none_more n) where
-  none_more : (n : ℕ) → 0 + n ≡ n
-  none_more n = omega arith
-at_right (x ∷ xs) ys n = ap (slice_get (x ∷ (xs ++ ys))) (one_more (length xs) n) ∙ at_right xs ys n where
-  one_more : (k n : ℕ) → suc k + n ≡ suc (k + n)
-  one_more k n = omega arith
-
+-- the new place of an item that passes
 pub place_yes : {X : Type 0} (first : X → Bool) (xs : List X) (i : ℕ) → passes first (slice_get xs i) ≡ true → new_place first xs i ≡ count_by first (take i xs)
 place_yes first xs i holds = ap (λ b. cond b (count_by first (take i xs)) (count_by first xs + count_by (λ x. not (first x)) (take i xs))) holds
 
+-- the new place of an item that fails
 pub place_no : {X : Type 0} (first : X → Bool) (xs : List X) (i : ℕ) → passes first (slice_get xs i) ≡ false → new_place first xs i ≡ count_by first xs + count_by (λ x. not (first x)) (take i xs)
 place_no first xs i fails = ap (λ b. cond b (count_by first (take i xs)) (count_by first xs + count_by (λ x. not (first x)) (take i xs))) fails
 
@@ -69,15 +51,6 @@ by_item first xs i (Some x) is = by_kind first xs i x (first x) is refl
 pub at_new_place : {X : Type 0} (first : X → Bool) (xs : List X) (i : ℕ) → slice_get (parted first xs) (new_place first xs i) ≡ slice_get xs i
 at_new_place first xs i = by_item first xs i (slice_get xs i) refl
 
--- what all items pass
-
-all_kept : {X : Type 0} (q p : X → Bool) (x : X) (xs : List X) (b : Bool) → p x ≡ b → q x ≡ true → list_all q (filter p xs) ≡ true → list_all q (filter p (x ∷ xs)) ≡ true
-all_kept q p x xs true holds one rest = ap (list_all q) (filter_yes p x xs holds) ∙ joined (q x) _ one rest
-all_kept q p x xs false fails one rest = ap (list_all q) (filter_no p x xs fails) ∙ rest
-
-all_filter : {X : Type 0} (q p : X → Bool) (xs : List X) → list_all q xs ≡ true → list_all q (filter p xs) ≡ true
-all_filter q p [] all = refl
-all_filter q p (x ∷ xs) all = let parts = both (q x) (list_all q xs) all in all_kept q p x xs (p x) refl parts.0 (all_filter q p xs parts.1)
-
+-- what all items pass, all pass once the list is parted
 pub all_parted : {X : Type 0} (q first : X → Bool) (xs : List X) → list_all q xs ≡ true → list_all q (parted first xs) ≡ true
 all_parted q first xs all = all_append q (filter first xs) (filter (λ x. not (first x)) xs) (all_filter q first xs all) (all_filter q (λ x. not (first x)) xs all)

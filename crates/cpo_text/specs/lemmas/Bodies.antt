@@ -1,7 +1,6 @@
 -- The words of a statement have no semicolon but the last.
-use Rattle.std.proofs.Common.{◌≡◌, Bool, true, false, List, [], ◌∷◌, ◌++◌, map, Option, Some, None, refl, subst, ap}
+use Rattle.std.proofs.Common.{◌≡◌, Bool, true, false, List, [], ◌∷◌, ◌++◌, map, Option, Some, None, refl, subst}
 use Rattle.std.specs.Prelude.{codes, option_to_list, if◌then◌else◌}
-use Rattle.std.proofs.lemmas.Simd.{map-map}
 use Rattle.cpo_text.specs.Words.{Word, is_sign}
 use Rattle.cpo_text.specs.Words.Word.{sign}
 use Rattle.cpo_text.specs.Parts.{minus_words, int_words, name_words, names_words, ints_words, flag_words, int_items}
@@ -37,7 +36,8 @@ use Rattle.cpo_text.specs.declared.expression.Logic.TheOpen.Logic-F.{Lit, Group,
 use Rattle.cpo_text.specs.declared.expression.Logic.TheFolds.{fold-roll-Logic, ind-Logic, map-Logic}
 use Rattle.cpo_text.specs.declared.tree.Statement.{Statement}
 use Rattle.cpo_text.specs.declared.tree.Statement.TheVariants.{Empty, Define, Constrain, Aim}
-use Rattle.read_back.proofs.LexFree.{ends, IsFree, AreFree, both_free, with_free, all_free, more_free, between_free, round_free, square_free, call_free, size_free, minus_free, int_free, ints_free, int_items_free, names_free, flag_free}
+use Rattle.cpo_text.specs.lemmas.Free.{ends, IsFree, AreFree, both_free, with_free, all_free, more_free, between_free, round_free, square_free, call_free, size_free, minus_free, int_free, ints_free, int_items_free, names_free, flag_free}
+use Rattle.cpo_text.specs.lemmas.Folds.{composed}
 
 -- expressions
 
@@ -95,21 +95,8 @@ step_free (Compare op p q) = both_free (logic_words p.0) (sign (comparison_sign 
 step_free (Not p) = p.1
 step_free (Implies p q) = both_free (logic_words p.0) (sign (codes "=>") ∷ logic_words q.0) p.1 q.1
 
-composed : (A : Type 0) (f : Logic → A) (y : Logic-F Known) → map-Logic Logic A f (map-Logic Known Logic (λ p. p.0) y) ≡ map-Logic Known A (λ p. f p.0) y
-composed A f (Lit n) = refl
-composed A f (Group p) = refl
-composed A f (PresenceOf a) = refl
-composed A f (Measured how a d) = refl
-composed A f (Gathered g ps) = ap (λ (xs : List A). Gathered g xs) (map-map f (λ p. p.0) ps)
-composed A f (Linked l ps) = ap (λ (xs : List A). Linked l xs) (map-map f (λ p. p.0) ps)
-composed A f (Neg p) = refl
-composed A f (Sum ps) = ap (λ (xs : List A). Sum xs) (map-map f (λ p. p.0) ps)
-composed A f (Compare op p q) = refl
-composed A f (Not p) = refl
-composed A f (Implies p q) = refl
-
 logic_free : (e : Logic) → IsFreeLogic e
-logic_free = ind-Logic IsFreeLogic (λ x y is. subst (λ z. IsFreeLogic (roll-Logic z)) is (rw (fold-roll-Logic (List Word) logic_step, composed (List Word) logic_words y) (step_free y)))
+logic_free = ind-Logic IsFreeLogic (λ x y is. subst (λ z. IsFreeLogic (roll-Logic z)) is (rw (fold-roll-Logic (List Word) logic_step, composed IsFreeLogic (List Word) logic_words y) (step_free y)))
 
 -- cumulative expressions
 
@@ -198,6 +185,7 @@ constraint_free (constrained.AlwaysEqual g a v ij) = call_free (codes "alwaysEqu
 constraint_free (constrained.AlwaysNoState g a) = call_free (codes "alwaysNoState") (name_words g ∷ name_words a ∷ []) (refl, (refl, tt))
 constraint_free (constrained.Holds e) = logic_free e
 
+-- the words before the last semicolon have none
 pub body_free : (s : Statement) → IsFree (statement_body s)
 body_free Empty = refl
 body_free (Define n d) = definition_free d

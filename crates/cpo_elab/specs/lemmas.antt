@@ -1,0 +1,4 @@
+pub mod Parted
+pub mod Names
+pub mod Intervals
+pub mod Firsts
