@@ -12,11 +12,11 @@ use Rattle.kernel.specs.declared.types.Line.TheVariants.{Derive, Fail, Split, So
 use Rattle.kernel.specs.declared.types.Found.{Found}
 use Rattle.kernel.specs.declared.types.StepFault.{StepFault}
 use Rattle.kernel.specs.declared.types.StepFault.TheVariants.{NothingLeft, NotRefuted, NotTight, NotSplitting, NotSolution, NoMemory}
-use Rattle.kernel.specs.Refuting.{Refuting}
+use Rattle.region.specs.Looks.{Refuting}
 use Rattle.kernel.specs.Agenda.{first_in}
 use Rattle.kernel.specs.Steps.{LogState, Outcome, Gives, unless, step, is_wanted, best_of}
 use Rattle.kernel.specs.Faults.{fault_unless, fault_at, fault_in, after, outcome}
-use Rattle.kernel.specs.Derives.{seen_at}
+use Rattle.region.specs.Looks.{seen_at}
 
 one_test : (b : Bool) (f : StepFault) (s : LogState) → unless b f (Ok s) ≡ outcome (fault_unless b f None) s
 one_test true f s = refl

@@ -8,7 +8,7 @@ use Rattle.sched_model.specs.declared.types.Slot.{Slot}
 use Rattle.sched_model.specs.declared.types.Slot.TheVariants as slot
 use Rattle.sched_model.specs.Valid.{is_small}
 use Rattle.region.specs.declared.types.Guess.{Guess}
-use Rattle.region.specs.declared.types.Guess.TheVariants.{Present, Absent, StartLe, StartGe, EndLe, EndGe}
+use Rattle.region.specs.declared.types.Guess.TheVariants.{Present, Absent, StartLe, StartGe, EndLe, EndGe, Before}
 use Rattle.refute_basic.specs.Witness.{is_valid}
 use Rattle.kernel.specs.declared.types.Witness.{Witness}
 use Rattle.kernel.specs.declared.types.Witness.TheVariants.{Basic, Extra}
@@ -29,6 +29,7 @@ is_fit_guess (StartLe x t) = is_id x && is_small t
 is_fit_guess (StartGe x t) = is_id x && is_small t
 is_fit_guess (EndLe x t) = is_id x && is_small t
 is_fit_guess (EndGe x t) = is_id x && is_small t
+is_fit_guess (Before p x y) = is_count p.0 && is_id x && is_id y
 
 -- a witness is fit where it is valid
 abbrev pub is_fit_witness : {W : Type 0} → (W → Bool) → Witness W → Bool

@@ -2,13 +2,12 @@
 use Rattle.std.specs.Prelude.{◌≡◌, ℤ, IsTrue, List, Option, Some, None, All}
 use Rattle.std.specs.List.{Any, AllPairs}
 use Rattle.sched_model.specs.declared.types.Assignment.{Assignment}
-use Rattle.sched_model.specs.declared.types.Slot.{Slot}
 use Rattle.sched_model.specs.Data.{Data}
 use Rattle.sched_model.specs.Valid.{IsValid}
 use Rattle.sched_model.specs.Solution.{IsSolution, is_better, objective_of}
 use Rattle.region.specs.Cells.{Region, Allows}
 use Rattle.region.specs.Looks.{IsRegionOf}
-use Rattle.region.specs.Points.{is_point}
+use Rattle.region.specs.Points.{Point, is_point}
 use Rattle.region.specs.Narrows.{HasPoint}
 use Rattle.kernel.specs.declared.types.Found.{Found}
 use Rattle.kernel.specs.declared.types.Verdict.{Verdict}
@@ -26,7 +25,7 @@ IfFound m (Some f) = IsFound m f
 
 -- two regions have no point in common
 abbrev pub AreApart : Region → Region → Type 0
-AreApart r q = (k : List Slot) → IsTrue (is_point r k) → IsTrue (is_point q k) → ⊥
+AreApart r q = (k : Point) → IsTrue (is_point r k) → IsTrue (is_point q k) → ⊥
 
 -- nothing better is lost: what was found is a solution, an open region allows each better one, and
 -- each open region has a point that no other has

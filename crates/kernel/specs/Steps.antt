@@ -16,8 +16,8 @@ use Rattle.kernel.specs.declared.types.StepFault.{StepFault}
 use Rattle.kernel.specs.declared.types.StepFault.TheVariants.{NothingLeft, NotRefuted, NotTight, NotSplitting, NotSolution, NoMemory}
 use Rattle.kernel.specs.declared.types.Verdict.{Verdict}
 use Rattle.kernel.specs.declared.types.Verdict.TheVariants.{Optimal, Feasible, Infeasible, Unclosed}
-use Rattle.kernel.specs.Refuting.{Refuting}
-use Rattle.kernel.specs.Derives.{seen_at}
+use Rattle.region.specs.Looks.{Refuting}
+use Rattle.region.specs.Looks.{seen_at}
 
 -- the region that is current, those that wait, how many were current so far, and the solution found last
 pub record LogState : Type 0 where

@@ -1,25 +1,14 @@
-ghost use Rattle.std.specs.Prelude.{◌≡◌, IsTrue, IfSome, ℤ, Option};
+ghost use Rattle.std.specs.Prelude.{◌≡◌, IsTrue, Some};
 ghost use Rattle.sched_model.specs.Words.{passes_if_any};
 ghost use Rattle.region.specs.Guesses.{admits};
-ghost use Rattle.region.specs.Looks.{IsRegionOf};
-ghost use Rattle.region.specs.Tight.{is_tight, weaker};
+ghost use Rattle.region.specs.Looks.{IsRegionOf, seen_at};
+ghost use Rattle.region.specs.Tight.{is_tight};
 ghost use Rattle.kernel.specs.Refuting.{refutes_with};
-ghost use Rattle.kernel.specs.Derives.{seen_at};
 
 use crate::types::Witness;
 use refute_basic::Basic;
-use region::{Guess, Look, Refuter, Region};
+use region::{Guess, Refuter, Region};
 use sched_model::Model;
-
-fn refutes_look<X: Refuter>(model: &Model, look: &Look<'_>, w: &Witness<X::Witness>) -> bool
-    requires { IsRegionOf model.now look.now.region }
-    ensures { result ≡ refutes_with X.refuting model.now look.now w.now }
-{
-    match w {
-        Witness::Basic(w) => Basic::refutes(model, look, w),
-        Witness::Extra(w) => X::refutes(model, look, w),
-    }
-}
 
 /// Whether the witness refutes the region under the guess.
 pub fn refutes<X: Refuter>(
@@ -33,44 +22,9 @@ pub fn refutes<X: Refuter>(
     requires admitted { IsTrue (passes_if_any (admits region.now.region) guess) }
     ensures { result ≡ refutes_with X.refuting model.now (seen_at region.now.region best guess) w.now }
 {
-    refutes_look::<X>(model, &region.look(guess, best), w)
-}
-
-/// The guess that allows one moment more, where this is still narrower than the region.
-fn weaker(region: &Region, g: Guess) -> Option<Guess>
-    requires { IsTrue (admits region.now.region g) }
-    ensures value { result ≡ weaker region.now.region g }
-    ensures admitted { IfSome result (λ h. IsTrue (admits region.now.region h)) }
-{
-    let look = region.look(None, None);
-    match g {
-        Guess::Present(_) | Guess::Absent(_) => None,
-        Guess::StartLe(x, t) => {
-            if look.smax(x) <= t + 1 {
-                return None;
-            }
-            Some(Guess::StartLe(x, t + 1))
-        }
-        Guess::StartGe(x, t) => {
-            let least = look.smin(x);
-            if t - 1 <= least {
-                return None;
-            }
-            Some(Guess::StartGe(x, t - 1))
-        }
-        Guess::EndLe(x, t) => {
-            if look.emax(x) <= t + 1 {
-                return None;
-            }
-            Some(Guess::EndLe(x, t + 1))
-        }
-        Guess::EndGe(x, t) => {
-            let least = look.emin(x);
-            if t - 1 <= least {
-                return None;
-            }
-            Some(Guess::EndGe(x, t - 1))
-        }
+    match w {
+        Witness::Basic(w) => region::refutes::<Basic>(model, region, best, guess, w),
+        Witness::Extra(w) => region::refutes::<X>(model, region, best, guess, w),
     }
 }
 
@@ -86,8 +40,8 @@ pub fn is_tight<X: Refuter>(
     requires admitted { IsTrue (admits region.now.region g) }
     ensures { result ≡ is_tight (λ h. refutes_with X.refuting model.now (seen_at region.now.region best (Some h)) w.now) region.now.region g }
 {
-    match weaker(region, g) {
-        None => true,
-        Some(h) => !refutes::<X>(model, region, best, Some(h), w),
+    match w {
+        Witness::Basic(w) => region::is_tight::<Basic>(model, region, best, g, w),
+        Witness::Extra(w) => region::is_tight::<X>(model, region, best, g, w),
     }
 }

@@ -1,68 +1,14 @@
-ghost use Rattle.std.specs.Prelude.{◌≡◌, ◌<◌, ◌^◌, ◌&&◌, not, Some, length, true, IsTrue};
-ghost use Rattle.sched_model.specs.declared.types.Slot.TheVariants.{Present};
+ghost use Rattle.std.specs.Prelude.{◌≡◌, ◌&&◌, Some, true};
 ghost use Rattle.sched_model.specs.Domain.{is_in_domain};
 ghost use Rattle.sched_model.specs.Solution.{is_solution, is_better, beats};
 ghost use Rattle.sched_model.specs.Valid.{IsValid};
-ghost use Rattle.sched_model.specs.Words.{is_between, placewise};
-ghost use Rattle.region.specs.Cells.{fits_bounds, says_absent, is_settled, allows};
+ghost use Rattle.region.specs.Cells.{is_settled, allows};
 ghost use Rattle.region.specs.Looks.{IsRegionOf};
 ghost use Rattle.kernel.specs.Steps.{is_wanted};
 
 use crate::types::Found;
-use region::{Bounds, Look, Presence, Region};
-use sched_base::Itv;
-use sched_model::{Assignment, Model, Sense, Slot, is_solution, value};
-
-fn is_between(lo: i64, hi: i64, z: i64) -> bool
-    ensures { result ≡ is_between lo hi z }
-{
-    lo <= z && z <= hi
-}
-
-fn may_be_present(presence: Presence) -> bool
-    ensures { result ≡ not (says_absent presence) }
-{
-    presence != Presence::Absent
-}
-
-#[tactic(auto, using(crate::proofs::LineTests::first_fails, crate::proofs::LineTests::second_fails, crate::proofs::LineTests::third_decides))]
-fn fits_moments(c: Bounds, s: i64, e: i64) -> bool
-    ensures { result ≡ fits_bounds c (Present s e) }
-{
-    if !may_be_present(c.presence) {
-        return false;
-    }
-    if !is_between(c.smin, c.smax, s) {
-        return false;
-    }
-    is_between(c.emin, c.emax, e)
-}
-
-/// Whether the slot agrees with the cells of its interval.
-fn fits(c: Bounds, slot: Slot) -> bool
-    ensures { result ≡ fits_bounds c slot }
-{
-    match slot {
-        Slot::Absent => c.presence != Presence::Present,
-        Slot::Present { s, e } => fits_moments(c, s, e),
-    }
-}
-
-/// Whether there are as many slots as intervals, and each agrees with its cells.
-fn all_fit(look: &Look<'_>, slots: &[Slot]) -> bool
-    requires { length slots.now < 2 ^ 32 }
-    ensures { result ≡ placewise fits_bounds look.now.region.bounds slots.now }
-{
-    if look.len() != slots.len() {
-        return false;
-    }
-    for i in 0..slots.len() {
-        if !fits(look.bounds(Itv(i as u32)), slots[i]) {
-            return false;
-        }
-    }
-    true
-}
+use region::Region;
+use sched_model::{Assignment, Model, Sense, is_solution, value};
 
 fn beats(sense: Sense, value: i64, best: i64) -> bool
     ensures { result ≡ beats sense value best }
@@ -119,7 +65,7 @@ pub fn is_wanted_solution(
     if !is_solution(model, a) {
         return false;
     }
-    if !all_fit(&region.look(None, None), a.slots.as_slice()) {
+    if !region.look(None, None).allows(a) {
         return false;
     }
     is_wanted(model, found, a)

@@ -4,7 +4,8 @@ use Rattle.sched_model.specs.Data.{Data}
 use Rattle.kernel.specs.declared.types.Line.{Line}
 use Rattle.kernel.specs.declared.no_extra.NoWitness.{NoWitness}
 use Rattle.kernel.specs.NoExtra.{numbers_of, is_valid, refutes_none}
-use Rattle.kernel.specs.Refuting.{Refuting, refutes_with}
+use Rattle.region.specs.Looks.{Refuting}
+use Rattle.kernel.specs.Refuting.{refutes_with}
 use Rattle.kernel.specs.Steps.{LogState, Steps, opening}
 use Rattle.textline.specs.Lines.{Bytes}
 use Rattle.logtext.specs.declared.entry.Entry.TheVariants.{Step}

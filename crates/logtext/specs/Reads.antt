@@ -3,8 +3,9 @@ use Rattle.std.specs.Prelude.{◌≡◌, ℕ, ◌==◌, ◌&&◌, ℤ, Bool, Lis
 use Rattle.std.specs.Fmt.{decimal, signed_decimal}
 use Rattle.std.specs.List.{list_all, flat_map}
 use Rattle.sched_base.specs.declared.ids.Itv.{Itv}
+use Rattle.sched_base.specs.declared.ids.Seq.{Seq}
 use Rattle.sched_model.specs.Valid.{is_small}
-use Rattle.kernel.specs.Fit.{is_id}
+use Rattle.kernel.specs.Fit.{is_count, is_id}
 use Rattle.sched_model.specs.declared.types.Segment.{Segment}
 use Rattle.textline.specs.Lines.{Bytes}
 use Rattle.logtext.specs.Spelling.{member_word, segment_words}
@@ -61,6 +62,13 @@ bound_words b = decimal b.0.0 ∷ signed_decimal b.1 ∷ []
 
 abbrev pub is_fit_bound : Itv × ℤ → Bool
 is_fit_bound b = is_id b.0 && is_small b.1
+
+-- a sequence and two intervals
+abbrev pub pair_words : Seq × Itv × Itv → List Bytes
+pair_words q = decimal q.0.0 ∷ decimal q.1.0 ∷ decimal q.2.0 ∷ []
+
+abbrev pub is_fit_pair : Seq × Itv × Itv → Bool
+is_fit_pair q = is_count q.0.0 && is_id q.1 && is_id q.2
 
 -- so many fit values
 abbrev pub are_so_many : {A : Type 0} → ℕ → (A → Bool) → List A → Bool

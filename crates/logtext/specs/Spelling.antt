@@ -7,7 +7,7 @@ use Rattle.sched_model.specs.declared.types.Segment.{Segment}
 use Rattle.sched_model.specs.declared.types.Slot.{Slot}
 use Rattle.sched_model.specs.declared.types.Slot.TheVariants as slot
 use Rattle.region.specs.declared.types.Guess.{Guess}
-use Rattle.region.specs.declared.types.Guess.TheVariants.{Present, Absent, StartLe, StartGe, EndLe, EndGe}
+use Rattle.region.specs.declared.types.Guess.TheVariants.{Present, Absent, StartLe, StartGe, EndLe, EndGe, Before}
 use Rattle.refute_basic.specs.Witness.{numbers_of}
 use Rattle.kernel.specs.declared.types.Witness.{Witness}
 use Rattle.kernel.specs.declared.types.Witness.TheVariants.{Basic, Extra}
@@ -15,7 +15,7 @@ use Rattle.kernel.specs.declared.types.Line.{Line}
 use Rattle.kernel.specs.declared.types.Line.TheVariants.{Derive, Fail, Split, Sol}
 use Rattle.textline.specs.Lines.{Bytes, line}
 
--- the word of a form, the interval, and the moment where there is one
+-- the word of a form, and the interval, with the moment where there is one; or the sequence and its two members
 abbrev pub guess_words : Guess → List Bytes
 guess_words (Present x) = codes "P" ∷ decimal x.0 ∷ []
 guess_words (Absent x) = codes "A" ∷ decimal x.0 ∷ []
@@ -23,6 +23,7 @@ guess_words (StartLe x t) = codes "SL" ∷ decimal x.0 ∷ signed_decimal t ∷ 
 guess_words (StartGe x t) = codes "SG" ∷ decimal x.0 ∷ signed_decimal t ∷ []
 guess_words (EndLe x t) = codes "EL" ∷ decimal x.0 ∷ signed_decimal t ∷ []
 guess_words (EndGe x t) = codes "EG" ∷ decimal x.0 ∷ signed_decimal t ∷ []
+guess_words (Before p x y) = codes "B" ∷ decimal p.0 ∷ decimal x.0 ∷ decimal y.0 ∷ []
 
 -- the words of the kinds of each crate, by their places
 abbrev pub basic_kinds : List Bytes

@@ -94,7 +94,7 @@ mod tests {
     use kernel::Line;
     use refute_basic::{Basic, BasicWitness};
     use region::Guess;
-    use sched_base::Itv;
+    use sched_base::{Itv, Seq};
     use std::test::Fail;
 
     type Read = Result<Option<(Entry<BasicWitness>, usize)>, EntryFault>;
@@ -143,12 +143,13 @@ mod tests {
 
     #[test]
     fn reads_lines(rt: HostRuntime) -> Result<(), Fail> {
-        let texts: [&[u8]; 8] = [
+        let texts: [&[u8]; 9] = [
             b"schedlog 1\n",
             b"d P 0 LEAF 1 4294967295\n",
             b"f EXTRA 3 5 0 7\n",
             b"s SL 4294967295 -4611686018427387904\n",
             b"s EG 0 4611686018427387904\n",
+            b"s B 4294967295 0 7\n",
             b"v\n",
             b"v a p 0 1 o 2 1 0 o 0 g 1 0 4611686018427387904 -1\n",
             b"end\n",
@@ -161,13 +162,20 @@ mod tests {
                 Guess::StartLe(Itv(4294967295), -4611686018427387904)
             )
         );
+        assert!(rt;
+            splits_by(
+                rt.alloc(),
+                texts[5],
+                Guess::Before(Seq(4294967295), Itv(0), Itv(7))
+            )
+        );
         assert!(rt; is_open(rt.alloc(), b"end"));
         Ok(())
     }
 
     #[test]
     fn refuses_other_spellings(rt: HostRuntime) -> Result<(), Fail> {
-        let texts: [&[u8]; 16] = [
+        let texts: [&[u8]; 19] = [
             b"\n",
             b"schedlog 01\n",
             b"schedlog 2\n",
@@ -184,6 +192,9 @@ mod tests {
             b"s P 4294967296\n",
             b"s EL 0 4611686018427387905\n",
             b"s EL 0 -0\n",
+            b"s B 0 1\n",
+            b"s B 0 1 2 3\n",
+            b"s B 0 1 4294967296\n",
         ];
         assert!(rt; are_refused(rt.alloc(), &texts));
         Ok(())

@@ -5,7 +5,7 @@ ghost use Rattle.logtext.specs.Reads.{Takes, ReadsWhole, ReadsNumbers, ReadsValu
 
 use crate::entry::EntryFault;
 use crate::kinds::basic_place;
-use crate::value::{is, take_bound, take_count, take_id, take_moment};
+use crate::value::{is, take_bound, take_count, take_id, take_moment, take_pair};
 use kernel::Witness;
 use region::{Guess, Numbers};
 use std::alloc::Global;
@@ -15,44 +15,34 @@ use textline::Words;
 pub fn take_guess(words: &mut Words<'_>) -> Option<Guess>
     ensures { Takes guess_words is_fit_guess words.old words.new result }
 {
-    let Some(form) = words.next() else {
-        return None;
-    };
+    let form = words.next()?;
     if is(form, b"P") {
-        let Some(x) = take_id(words) else {
-            return None;
-        };
+        let x = take_id(words)?;
         return Some(Guess::Present(x));
     }
     if is(form, b"A") {
-        let Some(x) = take_id(words) else {
-            return None;
-        };
+        let x = take_id(words)?;
         return Some(Guess::Absent(x));
     }
     if is(form, b"SL") {
-        let Some((x, t)) = take_bound(words) else {
-            return None;
-        };
+        let (x, t) = take_bound(words)?;
         return Some(Guess::StartLe(x, t));
     }
     if is(form, b"SG") {
-        let Some((x, t)) = take_bound(words) else {
-            return None;
-        };
+        let (x, t) = take_bound(words)?;
         return Some(Guess::StartGe(x, t));
     }
     if is(form, b"EL") {
-        let Some((x, t)) = take_bound(words) else {
-            return None;
-        };
+        let (x, t) = take_bound(words)?;
         return Some(Guess::EndLe(x, t));
     }
     if is(form, b"EG") {
-        let Some((x, t)) = take_bound(words) else {
-            return None;
-        };
+        let (x, t) = take_bound(words)?;
         return Some(Guess::EndGe(x, t));
+    }
+    if is(form, b"B") {
+        let (p, x, y) = take_pair(words)?;
+        return Some(Guess::Before(p, x, y));
     }
     None
 }

@@ -1,9 +1,9 @@
 ghost use Rattle.std.specs.Prelude.{◌≡◌, IsTrue, ◌↔◌};
 ghost use Rattle.sched_model.specs.Valid.{is_small};
 ghost use Rattle.kernel.specs.Fit.{is_count, is_id};
-ghost use Rattle.logtext.specs.Reads.{Takes, count_words, id_words, moment_words, bound_words, is_fit_bound};
+ghost use Rattle.logtext.specs.Reads.{Takes, count_words, id_words, moment_words, bound_words, is_fit_bound, pair_words, is_fit_pair};
 
-use sched_base::Itv;
+use sched_base::{Itv, Seq};
 use textline::{Words, read_count, read_number};
 
 /// The bound on moments, 2^62.
@@ -71,4 +71,20 @@ pub fn take_bound(words: &mut Words<'_>) -> Option<(Itv, i64)>
         return None;
     };
     Some((x, t))
+}
+
+/// Takes the numbers of a sequence and of two intervals.
+pub fn take_pair(words: &mut Words<'_>) -> Option<(Seq, Itv, Itv)>
+    ensures { Takes pair_words is_fit_pair words.old words.new result }
+{
+    let Some(p) = take_count(words) else {
+        return None;
+    };
+    let Some(x) = take_id(words) else {
+        return None;
+    };
+    let Some(y) = take_id(words) else {
+        return None;
+    };
+    Some((Seq(p), x, y))
 }

@@ -1,6 +1,7 @@
 ghost use Rattle.std.specs.Prelude.{◌≡◌, [], ◌∷◌, ◌++◌, map, drop, true, codes};
 ghost use Rattle.std.specs.List.{flat_map};
 ghost use Rattle.std.specs.Fmt.{decimal, signed_decimal};
+ghost use Rattle.region.specs.declared.types.Guess.TheVariants.{Before};
 ghost use Rattle.refute_basic.specs.Witness.{numbers_of};
 ghost use Rattle.kernel.specs.declared.types.Witness.TheVariants.{Extra};
 ghost use Rattle.logtext.specs.Spelling.{guess_words, basic_kinds, kind_words, witness_words, slot_words, member_word, order_words, segment_words, segments_words, assignment_words};
@@ -11,7 +12,7 @@ use crate::writer::LogWriter;
 use kernel::Witness;
 use refute_basic::BasicWitness;
 use region::{Guess, Numbers};
-use sched_base::{Desk, Failed, Itv, List};
+use sched_base::{Desk, Failed, Itv, List, Seq};
 use sched_model::{Assignment, Segment, Slot};
 
 /// The words of the parts of a line, each with a space before it.
@@ -41,6 +42,16 @@ impl LogWriter {
         self.put_number(t, desk)
     }
 
+    fn put_before<D: Desk>(&mut self, p: Seq, x: Itv, y: Itv, desk: &mut D) -> Result<(), Failed>
+        requires { (D.state desk.old).created ≡ true }
+        ensures { Gathers (spaced (guess_words (Before p x y))) result self.old self.new (D.state desk.old) (D.state desk.new) }
+    {
+        self.put(b" B", desk)?;
+        self.put_number(p.0, desk)?;
+        self.put_number(x.0, desk)?;
+        self.put_number(y.0, desk)
+    }
+
     #[tactic(auto, unfolding(crate::specs::Writing::spaced))]
     pub(crate) fn put_guess<D: Desk>(&mut self, g: Guess, desk: &mut D) -> Result<(), Failed>
         requires { (D.state desk.old).created ≡ true }
@@ -53,6 +64,7 @@ impl LogWriter {
             Guess::StartGe(x, t) => self.put_timed(b" SG", x, t, desk),
             Guess::EndLe(x, t) => self.put_timed(b" EL", x, t, desk),
             Guess::EndGe(x, t) => self.put_timed(b" EG", x, t, desk),
+            Guess::Before(p, x, y) => self.put_before(p, x, y, desk),
         }
     }
 

@@ -6,7 +6,7 @@ use crate::writer::LogWriter;
 use kernel::{Line, Witness};
 use refute_basic::BasicWitness;
 use region::Guess;
-use sched_base::{Desk, Itv, List, MemDesk, NoMemory};
+use sched_base::{Desk, Itv, List, MemDesk, NoMemory, Seq};
 use sched_model::{Assignment, Segment, Slot};
 use std::alloc::Global;
 use std::test::Fail;
@@ -71,6 +71,11 @@ fn spells_steps(rt: HostRuntime) -> Result<(), Fail> {
     assert_eq!(rt;
         written(alloc, &split)?.as_slice(),
         b"s EG 4294967295 4611686018427387904\nend\n".as_slice()
+    );
+    let order = Line::Split(Guess::Before(Seq(LAST), Itv(0), Itv(7)));
+    assert_eq!(rt;
+        written(alloc, &order)?.as_slice(),
+        b"s B 4294967295 0 7\nend\n".as_slice()
     );
     Ok(())
 }

@@ -3,8 +3,7 @@ ghost use Rattle.sched_model.specs.Words.{is_between};
 ghost use Rattle.sched_model.specs.Valid.{is_moment};
 ghost use Rattle.sched_model.specs.Solution.{beats};
 ghost use Rattle.region.specs.Cells.{is_settled};
-ghost use Rattle.region.specs.Flat.{HasMoments};
-ghost use Rattle.region.specs.Looks.{IsRegionOf};
+ghost use Rattle.region.specs.Looks.{HasMoments, IsRegionOf};
 ghost use Rattle.refute_basic.specs.Leaf.{has_size, all_sized, is_unsized_at, fails_at, is_no_better, leaf_row};
 
 use crate::settled::{Settled, fails, value_settled};

@@ -1,18 +1,25 @@
 -- What a write does to a region that is kept as numbers.
-use Rattle.std.specs.Prelude.{◌≡◌, ℕ, ◌<◌, ℤ, true, List, map, length, slice_set, Result, Ok, Err, IfOk, OnOk, OnErr}
-use Rattle.std.proofs.Common.{sym, ap, subst, ◌∙◌, arith}
-use Rattle.sched_model.specs.Valid.{is_moment}
+use Rattle.std.specs.Prelude.{◌≡◌, ℕ, zero, suc, ◌*◌, ◌≤◌, ℤ, true, ◌&&◌, List, [], ◌∷◌, map, take, drop, length, nat_eq, slice_set, Result, Ok, Err, IfOk, OnOk, OnErr}
+use Rattle.std.specs.List.{list_all}
+use Rattle.std.proofs.Common.{refl, sym, ap, subst, ◌∙◌, arith}
+use Rattle.std.proofs.lemmas.List.{length-map, length-drop}
+use Rattle.std.proofs.lemmas.Bool.Decides.{nat_tests}
+use Rattle.sched_base.specs.declared.ids.Itv.{Itv}
+use Rattle.sched_model.specs.Data.{Data}
+use Rattle.sched_model.specs.Valid.{is_moment, pair_count}
 use Rattle.trail.specs.Trail.{Trail}
-use Rattle.region.specs.declared.types.SizeRange.{SizeRange}
-use Rattle.region.specs.declared.types.Guess.{Guess}
-use Rattle.region.specs.declared.types.CellName.{CellName}
-use Rattle.region.specs.Cells.{Region}
-use Rattle.region.specs.Guesses.{with_guess, with_fact, admits, splits, guess_cell, fact_cell}
-use Rattle.region.specs.Held.{Held}
-use Rattle.region.specs.Flat.{AreCells, IsKept, region_from, place_of, guess_number, fact_number}
-use Rattle.region.specs.laws.Narrowing.{splitting}
-use Rattle.region.proofs.Places.{subject_within, guess_place, fact_place, guess_written, fact_written}
-use Rattle.region.proofs.Moments.{cells_written, guess_moment, fact_moment}
+use Rattle.region.specs.declared.types.Topic.{Topic}
+use Rattle.region.specs.declared.types.Topic.TheVariants.{One, Two}
+use Rattle.region.specs.Cells.{Region, no_sequence}
+use Rattle.region.specs.Guesses.{assumed, refused, assumed_cell, refused_cell, admits_topic, is_ready}
+use Rattle.region.specs.Looks.{IsRegionOf, has_pairs}
+use Rattle.region.specs.Held.{Held, IsHeldOf}
+use Rattle.region.specs.Flat.{Form, AreCells, IsKept, region_from, orders_from, order_from, pairs_from, pairs_in, number_place, assumed_number, refused_number}
+use Rattle.region.specs.laws.Lists.{both_true, true_both, all-at}
+use Rattle.region.specs.laws.Pairs.{paired}
+use Rattle.region.specs.laws.Narrowing.{HasPairs}
+use Rattle.region.proofs.Places.{assumed_written, refused_written, pairs_more}
+use Rattle.region.proofs.Moments.{cells_written, assumed_moment, refused_moment}
 
 pub on_ok : {T E P Q : Type 0} → (r : Result T E) → (P → Q) → OnOk r P → OnOk r Q
 on_ok (Ok v) f p = f p
@@ -27,47 +34,69 @@ either_way (Ok v) f g p q = f p
 either_way (Err e) f g p q = g q
 
 -- the view
-abbrev pub held_from : List SizeRange → Trail → Held
-held_from sizes t = record { region = region_from sizes t.list; saved = map (region_from sizes) t.saved; promised = t.promised; spare = t.spare }
+abbrev pub held_from : Form → Trail → Held
+held_from f t = record { region = region_from f t.list; saved = map (region_from f) t.saved; promised = t.promised; spare = t.spare }
 
 -- a trail of which one cell was written
 abbrev pub IsWritten : Trail → Trail → ℕ → ℤ → Type 0
 IsWritten t t' i v = t' ≡ record t { list = slice_set t.list i v; spare = t'.spare }
 
-pub kept_written : (sizes : List SizeRange) (t t' : Trail) (i : ℕ) (v : ℤ) → IsKept sizes t → is_moment v ≡ true → IsWritten t t' i v → IsKept sizes t'
-kept_written sizes t t' i v kept here is = subst (IsKept sizes) (sym is) (record { list = cells_written sizes t.list i v kept.list here; saved = kept.saved })
+pub kept_written : (f : Form) (t t' : Trail) (i : ℕ) (v : ℤ) → IsKept f t → is_moment v ≡ true → IsWritten t t' i v → IsKept f t'
+kept_written f t t' i v kept here is = subst (IsKept f) (sym is) (record { list = cells_written f t.list i v kept.list here; saved = kept.saved })
 
-pub view_written : (sizes : List SizeRange) (t t' : Trail) (i : ℕ) (v : ℤ) (r : Region) → IsWritten t t' i v → region_from sizes (slice_set t.list i v) ≡ r
-    → held_from sizes t' ≡ record (held_from sizes t) { region = r; spare = t'.spare }
-view_written sizes t t' i v r is at = ap (held_from sizes) is ∙ ap (λ q. let h : Held = record { region = q; saved = map (region_from sizes) t.saved; promised = t.promised; spare = t'.spare } in h) at
+view_written : (f : Form) (t t' : Trail) (i : ℕ) (v : ℤ) (r : Region) → IsWritten t t' i v → region_from f (slice_set t.list i v) ≡ r
+    → held_from f t' ≡ record (held_from f t) { region = r; spare = t'.spare }
+view_written f t t' i v r is at = ap (held_from f) is ∙ ap (λ q. let h : Held = record { region = q; saved = map (region_from f) t.saved; promised = t.promised; spare = t'.spare } in h) at
 
--- the write of a guess that splits, and of a fact
-pub guess_fits : (sizes : List SizeRange) (cells : List ℤ) (g : Guess) (name : CellName) → AreCells sizes cells → splits (region_from sizes cells) g ≡ true → name ≡ guess_cell g → place_of name < length cells
-guess_fits sizes cells g name are h is = let within = subject_within sizes cells g (splitting (region_from sizes cells) g h).0 in
-    omega (arith, ap place_of is, guess_place g (length sizes) within, are.count)
+-- the write of a topic that is ready, and of a fact
+pub assumed_kept : (f : Form) (t t' : Trail) (s : Topic) (i : ℕ) (v : ℤ) → IsKept f t → (admits_topic (region_from f t.list) s && is_ready (region_from f t.list) s) ≡ true → v ≡ assumed_number f s → IsWritten t t' i v → IsKept f t'
+assumed_kept f t t' s i v kept h number is = kept_written f t t' i v kept (ap is_moment number ∙ assumed_moment f t.list s kept.list (both_true _ (is_ready (region_from f t.list) s) h).0) is
 
-pub fact_fits : (sizes : List SizeRange) (cells : List ℤ) (g : Guess) (name : CellName) → AreCells sizes cells → admits (region_from sizes cells) g ≡ true → name ≡ fact_cell g → place_of name < length cells
-fact_fits sizes cells g name are h is =
-    omega (arith, ap place_of is, fact_place g (length sizes) (subject_within sizes cells g h), are.count)
+pub refused_kept : (f : Form) (t t' : Trail) (s : Topic) (i : ℕ) (v : ℤ) → IsKept f t → admits_topic (region_from f t.list) s ≡ true → v ≡ refused_number f s → IsWritten t t' i v → IsKept f t'
+refused_kept f t t' s i v kept h number is = kept_written f t t' i v kept (ap is_moment number ∙ refused_moment f t.list s kept.list h) is
 
-pub guess_kept : (sizes : List SizeRange) (t t' : Trail) (g : Guess) (name : CellName) (v : ℤ) → IsKept sizes t → splits (region_from sizes t.list) g ≡ true → v ≡ guess_number g
-    → IsWritten t t' (place_of name) v → IsKept sizes t'
-guess_kept sizes t t' g name v kept h number is =
-    kept_written sizes t t' (place_of name) v kept (ap is_moment number ∙ guess_moment sizes t.list g kept.list (splitting (region_from sizes t.list) g h).0) is
+pub assumed_view : (f : Form) (t t' : Trail) (s : Topic) (i : ℕ) (v : ℤ) → IsKept f t → (admits_topic (region_from f t.list) s && is_ready (region_from f t.list) s) ≡ true → i ≡ number_place f (assumed_cell s) → v ≡ assumed_number f s
+    → IsWritten t t' i v → held_from f t' ≡ record (held_from f t) { region = assumed s (region_from f t.list); spare = t'.spare }
+assumed_view f t t' s i v kept h place number is =
+    let two = both_true (admits_topic (region_from f t.list) s) (is_ready (region_from f t.list) s) h in
+    view_written f t t' i v (assumed s (region_from f t.list)) is
+    (ap (λ n. region_from f (slice_set t.list n v)) place ∙ ap (λ z. region_from f (slice_set t.list (number_place f (assumed_cell s)) z)) number ∙ assumed_written f t.list s kept.list two.0 two.1)
 
-pub fact_kept : (sizes : List SizeRange) (t t' : Trail) (g : Guess) (name : CellName) (v : ℤ) → IsKept sizes t → admits (region_from sizes t.list) g ≡ true → v ≡ fact_number g
-    → IsWritten t t' (place_of name) v → IsKept sizes t'
-fact_kept sizes t t' g name v kept h number is =
-    kept_written sizes t t' (place_of name) v kept (ap is_moment number ∙ fact_moment sizes t.list g kept.list h) is
+pub refused_view : (f : Form) (t t' : Trail) (s : Topic) (i : ℕ) (v : ℤ) → IsKept f t → admits_topic (region_from f t.list) s ≡ true → i ≡ number_place f (refused_cell s) → v ≡ refused_number f s
+    → IsWritten t t' i v → held_from f t' ≡ record (held_from f t) { region = refused s (region_from f t.list); spare = t'.spare }
+refused_view f t t' s i v kept h place number is =
+    view_written f t t' i v (refused s (region_from f t.list)) is
+    (ap (λ n. region_from f (slice_set t.list n v)) place ∙ ap (λ z. region_from f (slice_set t.list (number_place f (refused_cell s)) z)) number ∙ refused_written f t.list s kept.list h)
 
-pub guess_view : (sizes : List SizeRange) (t t' : Trail) (g : Guess) (name : CellName) (v : ℤ) → IsKept sizes t → splits (region_from sizes t.list) g ≡ true → name ≡ guess_cell g → v ≡ guess_number g
-    → IsWritten t t' (place_of name) v → held_from sizes t' ≡ record (held_from sizes t) { region = with_guess g (region_from sizes t.list); spare = t'.spare }
-guess_view sizes t t' g name v kept h cell number is =
-    view_written sizes t t' (place_of name) v (with_guess g (region_from sizes t.list)) is
-    (ap (λ n. region_from sizes (slice_set t.list (place_of n) v)) cell ∙ ap (λ z. region_from sizes (slice_set t.list (place_of (guess_cell g)) z)) number ∙ guess_written sizes t.list g kept.list.count h)
+-- the sequences of a region that is kept have a cell for each pair
+pub all_taken : (n : ℕ) (ns : List ℤ) → n ≤ length ns → length (take n ns) ≡ n
+all_taken zero ns room = refl
+all_taken (suc n) [] room = absurd (omega (arith, room))
+all_taken (suc n) (x ∷ xs) room = ap suc (all_taken n xs (omega (arith, room)))
 
-pub fact_view : (sizes : List SizeRange) (t t' : Trail) (g : Guess) (name : CellName) (v : ℤ) → IsKept sizes t → admits (region_from sizes t.list) g ≡ true → name ≡ fact_cell g → v ≡ fact_number g
-    → IsWritten t t' (place_of name) v → held_from sizes t' ≡ record (held_from sizes t) { region = with_fact g (region_from sizes t.list); spare = t'.spare }
-fact_view sizes t t' g name v kept h cell number is =
-    view_written sizes t t' (place_of name) v (with_fact g (region_from sizes t.list)) is
-    (ap (λ n. region_from sizes (slice_set t.list (place_of n) v)) cell ∙ ap (λ z. region_from sizes (slice_set t.list (place_of (fact_cell g)) z)) number ∙ fact_written sizes t.list g kept.list.count h)
+all_pairs : (mss : List (List Itv)) (ns : List ℤ) → pairs_in mss ≤ length ns → list_all has_pairs (orders_from mss ns) ≡ true
+all_pairs [] ns room = refl
+all_pairs (ms ∷ mss) ns room =
+    true_both (nat_eq (length (pairs_from (pair_count (length ms)) ns)) (pair_count (length ms))) _
+    (equal _ _ (length-map (take (pair_count (length ms)) ns) order_from ∙ all_taken (pair_count (length ms)) ns (omega (arith, room, pairs_more ms mss))))
+    (all_pairs mss (drop (pair_count (length ms)) ns) (omega (arith, room, pairs_more ms mss, length-drop (pair_count (length ms)) ns)))
+  where
+    equal : (n k : ℕ) → n ≡ k → nat_eq n k ≡ true
+    equal n k e = grind (arith, nat_tests, e)
+
+pub kept_pairs : (f : Form) (cells : List ℤ) (t : Topic) → AreCells f cells → admits_topic (region_from f cells) t ≡ true → HasPairs (region_from f cells) t
+kept_pairs f cells (One x c) are h = tt
+kept_pairs f cells (Two p x y) are h =
+    all-at has_pairs (region_from f cells).orders p.0 no_sequence (all_pairs f.members (drop (5 * length f.sizes) cells) (omega (arith, are.count, length-drop (5 * length f.sizes) cells))) (paired (region_from f cells) p x y h).within
+
+-- a region stays one of its models, with those that were saved
+pub held_changed : (m : Data) (old new : Held) (r : Region) → new ≡ record old { region = r; spare = new.spare } → (IsRegionOf m old.region → IsRegionOf m r) → IsHeldOf m old → IsHeldOf m new
+held_changed m old new r is keeps of = subst (IsHeldOf m) (sym is) (record { region = keeps of.region; saved = of.saved })
+
+pub held_same : (m : Data) (old new : Held) → new ≡ old → IsHeldOf m old → IsHeldOf m new
+held_same m old new is of = subst (IsHeldOf m) (sym is) of
+
+-- nothing was saved
+pub none_saved : {X Y : Type 0} (h : X → Y) (xs : List X) → map h xs ≡ [] → xs ≡ []
+none_saved h [] e = refl
+none_saved h (x ∷ xs) e = absurd (omega (arith, ap length e))

@@ -1,4 +1,6 @@
+pub mod Orders
 pub mod Cells
+pub mod Claims
 pub mod Guesses
 pub mod Looks
 pub mod Tight

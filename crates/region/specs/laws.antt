@@ -1,6 +1,11 @@
 pub mod Lists
 pub mod OneInterval
+pub mod OneSequence
+pub mod Orderly
+pub mod Intervals
+pub mod Pairs
 pub mod Narrowing
 pub mod Counts
 pub mod Settling
 pub mod Rooted
+pub mod Standing

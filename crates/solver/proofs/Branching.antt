@@ -13,13 +13,17 @@ use Rattle.sched_model.specs.Data.{Data}
 use Rattle.region.specs.declared.types.Bounds.{Bounds}
 use Rattle.region.specs.declared.types.Guess.{Guess}
 use Rattle.region.specs.declared.types.Guess.TheVariants.{Present, StartLe, EndLe}
+use Rattle.region.specs.declared.types.Claim.{Claim}
+use Rattle.region.specs.declared.types.Claim.TheVariants as claim
+use Rattle.region.specs.declared.types.Topic.TheVariants.{One}
 use Rattle.region.specs.declared.types.Presence.TheVariants as presence
 use Rattle.region.specs.Cells.{Region, unknown, bounds_of, is_fixed, says_present}
-use Rattle.region.specs.Guesses.{subject, is_open_at, is_ready_at, splits}
+use Rattle.region.specs.Claims.{is_open_at, is_ready_at}
+use Rattle.region.specs.Guesses.{admits_topic, is_ready}
 use Rattle.region.specs.Looks.{IsRegionOf, is_narrowed}
 use Rattle.region.specs.laws.Lists.{both_true, true_both}
-use Rattle.solver.specs.Cuts.{IsMiddle, IsCut}
-use Rattle.solver.specs.Searching.{Cuts, is_ordered}
+use Rattle.solver.specs.Cuts.{IsMiddle}
+use Rattle.solver.specs.Searching.{Cuts, CutsRegion, is_ordered}
 
 -- half, rounded down
 half_below : (z : ℤ) → (int_div_euclid z (pos 2) +ℤ int_div_euclid z (pos 2)) ≤ℤ z
@@ -43,41 +47,41 @@ middle_from lo hi t lo_fits hi_fits fits low high half =
     simp to_z-of_z (middle_is lo hi (lo +ℤ hi) t (simp to_z-of_z at half) refl)
 
 -- a bound cut at the middle splits
-start_opens : (x : Itv) (c : Bounds) (t : ℤ) → c.presence ≡ presence.Present → c.smin <ℤ c.smax → IsMiddle c.smin c.smax t → is_open_at (StartLe x t) c ≡ true
-start_opens x c t here less middle = rw here (in_between c.smin c.smax t less middle.below middle.above)
+start_opens : (c : Bounds) (t : ℤ) → c.presence ≡ presence.Present → c.smin <ℤ c.smax → IsMiddle c.smin c.smax t → is_open_at (claim.StartLe t) c ≡ true
+start_opens c t here less middle = rw here (in_between c.smin c.smax t less middle.below middle.above)
   where
     in_between : (lo hi t : ℤ) → lo <ℤ hi → (t +ℤ t) ≤ℤ (lo +ℤ hi) → (lo +ℤ hi) <ℤ (t +ℤ t +ℤ pos 2) → (int_le lo t && int_lt t hi) ≡ true
     in_between lo hi t less below above = grind (arith, ints)
 
-end_opens : (x : Itv) (c : Bounds) (t : ℤ) → c.presence ≡ presence.Present → c.emin <ℤ c.emax → IsMiddle c.emin c.emax t → is_open_at (EndLe x t) c ≡ true
-end_opens x c t here less middle = rw here (in_between c.emin c.emax t less middle.below middle.above)
+end_opens : (c : Bounds) (t : ℤ) → c.presence ≡ presence.Present → c.emin <ℤ c.emax → IsMiddle c.emin c.emax t → is_open_at (claim.EndLe t) c ≡ true
+end_opens c t here less middle = rw here (in_between c.emin c.emax t less middle.below middle.above)
   where
     in_between : (lo hi t : ℤ) → lo <ℤ hi → (t +ℤ t) ≤ℤ (lo +ℤ hi) → (lo +ℤ hi) <ℤ (t +ℤ t +ℤ pos 2) → (int_le lo t && int_lt t hi) ≡ true
     in_between lo hi t less below above = grind (arith, ints)
 
--- a guess that is open at the bounds of its interval, and ready there, splits the region
+-- a claim that is open at the bounds of its interval, and ready there, splits the region
 below_test : (n k : ℕ) → n < k → nat_lt n k ≡ true
 below_test n k h = grind (arith, nat_tests)
 
-splits_at : (r : Region) (c : Bounds) (g : Guess) → (subject g).0 < length r.bounds → bounds_of r (subject g) ≡ c → is_open_at g c ≡ true → is_ready_at g c ≡ true → splits r g ≡ true
-splits_at r c g within same opens ready =
-    true_both _ _ (true_both _ _ (below_test (subject g).0 (length r.bounds) within) (subst (λ b. is_open_at g b ≡ true) (sym same) opens)) (subst (λ b. is_ready_at g b ≡ true) (sym same) ready)
+splits_at : (r : Region) (x : Itv) (k : Claim) (c : Bounds) → x.0 < length r.bounds → bounds_of r x ≡ c → is_open_at k c ≡ true → is_ready_at k c ≡ true → (admits_topic r (One x k) && is_ready r (One x k)) ≡ true
+splits_at r x k c within same opens ready =
+    true_both _ _ (true_both _ _ (below_test x.0 (length r.bounds) within) (subst (λ b. is_open_at k b ≡ true) (sym same) opens)) (subst (λ b. is_ready_at k b ≡ true) (sym same) ready)
 
 pub cuts_start : (x : Itv) (c : Bounds) (t : ℤ) → c.presence ≡ presence.Present → c.smin <ℤ c.smax → IsMiddle c.smin c.smax t → Cuts x c (StartLe x t)
 cuts_start x c t here less middle = record {
-  splits_it = λ r within same. splits_at r c (StartLe x t) within same (start_opens x c t here less middle) (ap says_present here);
+  splits_it = λ r within same. splits_at r x (claim.StartLe t) c within same (start_opens c t here less middle) (ap says_present here);
   cuts_it = λ r same. subst (λ b. IsMiddle b.smin b.smax t) (sym same) middle;
 }
 
 pub cuts_end : (x : Itv) (c : Bounds) (t : ℤ) → c.presence ≡ presence.Present → c.emin <ℤ c.emax → IsMiddle c.emin c.emax t → Cuts x c (EndLe x t)
 cuts_end x c t here less middle = record {
-  splits_it = λ r within same. splits_at r c (EndLe x t) within same (end_opens x c t here less middle) (ap says_present here);
+  splits_it = λ r within same. splits_at r x (claim.EndLe t) c within same (end_opens c t here less middle) (ap says_present here);
   cuts_it = λ r same. subst (λ b. IsMiddle b.emin b.emax t) (sym same) middle;
 }
 
 pub cuts_presence : (x : Itv) (c : Bounds) → c.presence ≡ presence.Maybe → Cuts x c (Present x)
 cuts_presence x c maybe = record {
-  splits_it = λ r within same. splits_at r c (Present x) within same (rw maybe refl) refl;
+  splits_it = λ r within same. splits_at r x claim.Present c within same (rw maybe refl) refl;
   cuts_it = λ r same. tt;
 }
 
@@ -111,8 +115,5 @@ pub ordered_at : (m : Data) (r : Region) (x : Itv) → IsRegionOf m r → x.0 < 
 ordered_at m r x of within = all_ordered m.intervals r.bounds x.0 of.bounds within
 
 -- a cut of an interval of the region splits it, and cuts it so
-pub cut_splits : (r : Region) (x : Itv) (c : Bounds) (g : Guess) → x.0 < length r.bounds → c ≡ bounds_of r x → Cuts x c g → splits r g ≡ true
-cut_splits r x c g within same cuts = cuts.splits_it r within (sym same)
-
-pub cut_at : (r : Region) (x : Itv) (c : Bounds) (g : Guess) → c ≡ bounds_of r x → Cuts x c g → IsCut r g
-cut_at r x c g same cuts = cuts.cuts_it r (sym same)
+pub cut_region : (r : Region) (x : Itv) (c : Bounds) (g : Guess) → x.0 < length r.bounds → c ≡ bounds_of r x → Cuts x c g → CutsRegion r g
+cut_region r x c g within same cuts = record { splits_it = cuts.splits_it r within (sym same); cuts_it = cuts.cuts_it r (sym same) }

@@ -9,6 +9,8 @@ use Rattle.std.proofs.lemmas.Bool.{ltb-true, leb-true}
 use Rattle.std.proofs.lemmas.Bool.Decides.{nat_tests}
 use Rattle.std.proofs.lemmas.Fmt.{length-decimal-le, length_signed_le}
 use Rattle.std.proofs.lemmas.List.Concat.{flat_map-cons}
+use Rattle.sched_base.specs.declared.ids.Itv.{Itv}
+use Rattle.sched_base.specs.declared.ids.Seq.{Seq}
 use Rattle.sched_model.specs.declared.types.IntervalDef.{IntervalDef}
 use Rattle.sched_model.specs.declared.types.Slot.{Slot}
 use Rattle.sched_model.specs.declared.types.Slot.TheVariants as slot
@@ -20,11 +22,16 @@ use Rattle.sched_model.specs.Solution.{is_solution}
 use Rattle.sched_model.specs.Valid.{IsValid, is_small, is_interval_def, is_span_of_moments}
 use Rattle.region.specs.declared.types.Bounds.{Bounds}
 use Rattle.region.specs.declared.types.Guess.{Guess}
-use Rattle.region.specs.declared.types.Guess.TheVariants.{Present, Absent, StartLe, StartGe, EndLe, EndGe}
+use Rattle.region.specs.declared.types.Guess.TheVariants.{Present, Absent, StartLe, StartGe, EndLe, EndGe, Before}
+use Rattle.region.specs.declared.types.Claim.{Claim}
+use Rattle.region.specs.declared.types.Claim.TheVariants as claim
+use Rattle.region.specs.declared.types.Topic.TheVariants.{One, Two}
 use Rattle.region.specs.Cells.{Region, unknown, bounds_of, settled_slots}
-use Rattle.region.specs.Guesses.{subject, is_open_at, admits, splits, is_ready_at}
+use Rattle.region.specs.Claims.{is_open_at}
+use Rattle.region.specs.Guesses.{topic, admits_topic, admits, may_be_there, is_ready, splits}
 use Rattle.region.specs.Looks.{Seen, IsRegionOf, is_narrowed}
 use Rattle.region.specs.laws.Lists.{both_true, true_both, placewise-length}
+use Rattle.region.specs.laws.Narrowing.{as_many}
 use Rattle.refute_basic.specs.declared.witness.BasicWitness.{BasicWitness}
 use Rattle.refute_basic.specs.declared.witness.BasicWitness.TheVariants.{Leaf}
 use Rattle.refute_basic.specs.Basic.{refutes, row_of}
@@ -65,13 +72,17 @@ count_short : (n : ℕ) → is_count n ≡ true → length (decimal n) ≤ 20
 count_short n h = let below : n < 2 ^ 32 = ltb-true n (2 ^ 32) h in length-decimal-le 20 n (omega arith) (omega arith) (omega arith)
 
 -- a fit guess in words
-guess_short : (g : Guess) → is_fit_guess g ≡ true → AreShort (guess_words g) × (length (guess_words g) ≤ 3)
+guess_short : (g : Guess) → is_fit_guess g ≡ true → AreShort (guess_words g) × (length (guess_words g) ≤ 4)
 guess_short (Present x) h = ((omega arith, (count_short x.0 h, tt)), omega arith)
 guess_short (Absent x) h = ((omega arith, (count_short x.0 h, tt)), omega arith)
 guess_short (StartLe x t) h = let two = both_true (is_id x) (is_small t) h in ((omega arith, (count_short x.0 two.0, (signed_short t two.1, tt))), omega arith)
 guess_short (StartGe x t) h = let two = both_true (is_id x) (is_small t) h in ((omega arith, (count_short x.0 two.0, (signed_short t two.1, tt))), omega arith)
 guess_short (EndLe x t) h = let two = both_true (is_id x) (is_small t) h in ((omega arith, (count_short x.0 two.0, (signed_short t two.1, tt))), omega arith)
 guess_short (EndGe x t) h = let two = both_true (is_id x) (is_small t) h in ((omega arith, (count_short x.0 two.0, (signed_short t two.1, tt))), omega arith)
+guess_short (Before p x y) h =
+    let three = both_true _ (is_id y) h in
+    let two = both_true (is_count p.0) (is_id x) three.0 in
+    ((omega arith, (count_short p.0 two.0, (count_short x.0 two.1, (count_short y.0 three.1, tt)))), omega arith)
 
 -- a line of few short words
 line_is : (l : PlainLine) → is_fit is_valid l ≡ true → AreShort (line_words numbers_of l) → length (line_words numbers_of l) ≤ 10000 → IsLine numbers_of is_valid l
@@ -119,28 +130,69 @@ after_small : (a b t : ℤ) (p : Bool) → is_small a ≡ true → is_small b �
 after_small a b t true h k is = grind (arith, ints)
 after_small a b t false h k is = cc
 
-fit_open : (g : Guess) (c : Bounds) → is_id (subject g) ≡ true → is_open_at g c ≡ true → IsWithin c → is_fit_guess g ≡ true
-fit_open (Present x) c named h w = named
-fit_open (Absent x) c named h w = named
-fit_open (StartLe x t) c named h w = true_both (is_id x) (is_small t) named (between_small c.smin c.smax t _ w.smin w.smax h)
-fit_open (StartGe x t) c named h w = true_both (is_id x) (is_small t) named (after_small c.smin c.smax t _ w.smin w.smax h)
-fit_open (EndLe x t) c named h w = true_both (is_id x) (is_small t) named (between_small c.emin c.emax t _ w.emin w.emax h)
-fit_open (EndGe x t) c named h w = true_both (is_id x) (is_small t) named (after_small c.emin c.emax t _ w.emin w.emax h)
+abbrev is_fit_claim : Claim → Bool
+is_fit_claim claim.Present = true
+is_fit_claim claim.Absent = true
+is_fit_claim (claim.StartLe t) = is_small t
+is_fit_claim (claim.StartGe t) = is_small t
+is_fit_claim (claim.EndLe t) = is_small t
+is_fit_claim (claim.EndGe t) = is_small t
+
+fit_open : (k : Claim) (c : Bounds) → is_open_at k c ≡ true → IsWithin c → is_fit_claim k ≡ true
+fit_open claim.Present c h w = refl
+fit_open claim.Absent c h w = refl
+fit_open (claim.StartLe t) c h w = between_small c.smin c.smax t _ w.smin w.smax h
+fit_open (claim.StartGe t) c h w = after_small c.smin c.smax t _ w.smin w.smax h
+fit_open (claim.EndLe t) c h w = between_small c.emin c.emax t _ w.emin w.emax h
+fit_open (claim.EndGe t) c h w = after_small c.emin c.emax t _ w.emin w.emax h
 
 few_intervals : (m : Data) → IsValid m → length m.intervals ≤ 2000
 few_intervals m valid = (few_of m valid).0
 
+few_lists : (m : Data) → IsValid m → (length m.sequences ≤ 200) × (length m.states ≤ 200)
+few_lists m valid =
+    let h7 = (both_true _ _ valid.limits).0 in
+    let h6 = (both_true _ (nat_le (length m.constraints) 20000) (both_true _ _ h7).0).0 in
+    let h5 = both_true _ (nat_le (length m.states) 200) h6 in
+    let h3 = (both_true _ _ (both_true _ _ h5.0).0).0 in
+    (leb-true _ _ (both_true (nat_le (length m.intervals) 2000) (nat_le (length m.sequences) 200) h3).1, leb-true _ _ h5.1)
+
 id_of : (n k : ℕ) → n < k → k ≤ 2000 → is_count n ≡ true
 id_of n k h few = grind (arith, nat_tests)
 
+id_in : (m : Data) (r : Region) (x : Itv) → IsValid m → IsRegionOf m r → nat_lt x.0 (length r.bounds) ≡ true → is_id x ≡ true
+id_in m r x valid of h = id_of x.0 (length r.bounds) (ltb-true _ _ h) (omega (arith, few_intervals m valid, placewise-length is_narrowed m.intervals r.bounds of.bounds))
+
+seq_in : (m : Data) (r : Region) (p : Seq) → IsValid m → IsRegionOf m r → nat_lt p.0 (length r.orders) ≡ true → is_count p.0 ≡ true
+seq_in m r p valid of h = id_of p.0 (length r.orders) (ltb-true _ _ h) (omega (arith, (few_lists m valid).0, as_many m r of))
+
+fit_one : (m : Data) (r : Region) (x : Itv) (k : Claim) → IsValid m → IsRegionOf m r → admits_topic r (One x k) ≡ true → (is_id x ≡ true) × (is_fit_claim k ≡ true)
+fit_one m r x k valid of h =
+    let parts = both_true (nat_lt x.0 (length r.bounds)) (is_open_at k (bounds_of r x)) h in
+    let def = listed_def m.intervals r.bounds x.0 valid.intervals of.bounds (ltb-true _ _ parts.0) in
+    (id_in m r x valid of parts.0, fit_open k (bounds_of r x) parts.1 (bounds_within def.0 (bounds_of r x) def.1 def.2))
+
+fit_bound : (m : Data) (r : Region) (x : Itv) (k : Claim) → IsValid m → IsRegionOf m r → admits_topic r (One x k) ≡ true → (is_id x && is_fit_claim k) ≡ true
+fit_bound m r x k valid of h = let two = fit_one m r x k valid of h in true_both (is_id x) (is_fit_claim k) two.0 two.1
+
+fit_order : (m : Data) (r : Region) (p : Seq) (x y : Itv) → IsValid m → IsRegionOf m r → admits_topic r (Two p x y) ≡ true → is_fit_guess (Before p x y) ≡ true
+fit_order m r p x y valid of h =
+    let last = both_true _ (may_be_there r y) h in
+    let first = both_true _ (may_be_there r x) last.0 in
+    let order = both_true (nat_lt p.0 (length r.orders)) _ first.0 in
+    true_both _ (is_id y) (true_both (is_count p.0) (is_id x) (seq_in m r p valid of order.0) (id_in m r x valid of (both_true _ _ first.1).0)) (id_in m r y valid of (both_true _ _ last.1).0)
+
+fit_admitted : (m : Data) (r : Region) (g : Guess) → IsValid m → IsRegionOf m r → admits_topic r (topic g) ≡ true → is_fit_guess g ≡ true
+fit_admitted m r (Present x) valid of h = (fit_one m r x claim.Present valid of h).0
+fit_admitted m r (Absent x) valid of h = (fit_one m r x claim.Absent valid of h).0
+fit_admitted m r (StartLe x t) valid of h = fit_bound m r x (claim.StartLe t) valid of h
+fit_admitted m r (StartGe x t) valid of h = fit_bound m r x (claim.StartGe t) valid of h
+fit_admitted m r (EndLe x t) valid of h = fit_bound m r x (claim.EndLe t) valid of h
+fit_admitted m r (EndGe x t) valid of h = fit_bound m r x (claim.EndGe t) valid of h
+fit_admitted m r (Before p x y) valid of h = fit_order m r p x y valid of h
+
 fit_guess : (m : Data) (r : Region) (g : Guess) → IsValid m → IsRegionOf m r → splits r g ≡ true → is_fit_guess g ≡ true
-fit_guess m r g valid of h =
-    let two = both_true (admits r g) (is_ready_at g (bounds_of r (subject g))) h in
-    let parts = both_true (nat_lt (subject g).0 (length r.bounds)) (is_open_at g (bounds_of r (subject g))) two.0 in
-    let within = ltb-true _ _ parts.0 in
-    let def = listed_def m.intervals r.bounds (subject g).0 valid.intervals of.bounds within in
-    let few = few_intervals m valid in
-    fit_open g (bounds_of r (subject g)) (id_of (subject g).0 (length r.bounds) within (omega (arith, few, placewise-length is_narrowed m.intervals r.bounds of.bounds))) parts.1 (bounds_within def.0 (bounds_of r (subject g)) def.1 def.2)
+fit_guess m r g valid of h = fit_admitted m r g valid of (both_true (admits r g) (is_ready r (topic g)) h).0
 
 pub split_line : (m : Data) (r : Region) (g : Guess) → IsValid m → IsRegionOf m r → splits r g ≡ true → IsLine numbers_of is_valid (Split g)
 split_line m r g valid of h =
@@ -193,14 +245,6 @@ slots_short (s ∷ ss) h =
     )
 
 -- empty lists are fit, and spelled by a letter and 0 each
-few_lists : (m : Data) → IsValid m → (length m.sequences ≤ 200) × (length m.states ≤ 200)
-few_lists m valid =
-    let h7 = (both_true _ _ valid.limits).0 in
-    let h6 = (both_true _ (nat_le (length m.constraints) 20000) (both_true _ _ h7).0).0 in
-    let h5 = both_true _ (nat_le (length m.states) 200) h6 in
-    let h3 = (both_true _ _ (both_true _ _ h5.0).0).0 in
-    (leb-true _ _ (both_true (nat_le (length m.intervals) 2000) (nat_le (length m.sequences) 200) h3).1, leb-true _ _ h5.1)
-
 empty_fit : {X Y : Type 0} (fit : List Y → Bool) → fit [] ≡ true → (xs : List X) → list_all fit (empty_for_each xs) ≡ true
 empty_fit fit h [] = refl
 empty_fit fit h (x ∷ xs) = true_both (fit []) _ h (empty_fit fit h xs)

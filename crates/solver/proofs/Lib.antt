@@ -1,4 +1,5 @@
 pub mod Branching
+pub mod OpenOrders
 pub mod Fitting
 pub mod Samples
 pub mod Stepping

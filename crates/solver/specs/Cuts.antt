@@ -20,7 +20,7 @@ pub record IsMiddle (lo hi t : ℤ) : Type 0 where
   pub above : (lo +ℤ hi) <ℤ (t +ℤ t +ℤ pos 2)
 
 -- A bound is cut at the middle t of what is open of it: one part has the moments up to t, the other those from t + 1 on,
--- and either may be the guess. Of other guesses nothing is asked.
+-- and either may be the guess. A guess on a presence or on an order cuts no bound, and nothing is asked of it.
 abbrev pub IsCut : Region → Guess → Type 0
 IsCut r (guess.StartLe x t) = IsMiddle (bounds_of r x).smin (bounds_of r x).smax t
 IsCut r (guess.StartGe x t) = IsMiddle (bounds_of r x).smin (bounds_of r x).smax (t -ℤ pos 1)

@@ -1,15 +1,18 @@
 -- The search under way: from node to node, each closed by one line, and what was written so far.
-use Rattle.std.specs.Prelude.{◌≡◌, ℕ, ◌+◌, ◌≤◌, ◌<◌, ℤ, Bool, true, false, ◌&&◌, List, [], ◌++◌, length, take, drop, int_le, Option, Some, None, option_map, Result, Ok, Err, IsOk, IsTrue}
+use Rattle.std.specs.Prelude.{◌≡◌, ℕ, ◌+◌, ◌≤◌, ◌<◌, ℤ, Bool, true, false, not, ◌&&◌, List, [], ◌++◌, length, take, drop, int_le, Option, Some, None, option_map, Result, Ok, Err, IsOk, IsTrue}
+use Rattle.std.specs.List.{list_all}
 use Rattle.sched_base.specs.declared.ids.Itv.{Itv}
+use Rattle.sched_base.specs.declared.ids.Seq.{Seq}
 use Rattle.sched_base.specs.State.{State}
 use Rattle.sched_base.specs.Calls.{appended}
 use Rattle.sched_model.specs.declared.types.Assignment.{Assignment}
 use Rattle.sched_model.specs.declared.types.Answer.{Answer}
 use Rattle.sched_model.specs.declared.types.Answer.TheVariants.{Optimal, Feasible, Infeasible, Unfinished}
-use Rattle.sched_model.specs.Data.{Data}
+use Rattle.sched_model.specs.Data.{Data, same, has}
+use Rattle.sched_model.specs.Valid.{are_distinct}
 use Rattle.region.specs.declared.types.Bounds.{Bounds}
 use Rattle.region.specs.declared.types.Guess.{Guess}
-use Rattle.region.specs.Cells.{Region, bounds_of}
+use Rattle.region.specs.Cells.{Region, bounds_of, cells_of}
 use Rattle.region.specs.Guesses.{splits}
 use Rattle.region.specs.Looks.{Seen}
 use Rattle.refute_basic.specs.Basic.{refutes}
@@ -40,6 +43,27 @@ is_ordered c = int_le c.smin c.smax && int_le c.emin c.emax
 pub record Cuts (x : Itv) (c : Bounds) (g : Guess) : Type 0 where
   pub splits_it : (r : Region) → x.0 < length r.bounds → bounds_of r x ≡ c → splits r g ≡ true
   pub cuts_it : (r : Region) → bounds_of r x ≡ c → IsCut r g
+
+-- the guess splits this region, and cuts it so
+pub record CutsRegion (r : Region) (g : Guess) : Type 0 where
+  pub splits_it : IsTrue (splits r g)
+  pub cuts_it : IsCut r g
+
+-- another member of a sequence
+abbrev pub is_other : List Itv → Itv → Itv → Bool
+is_other ms x y = has ms y && not (same x y)
+
+-- a member of a sequence of the region, and others of it
+pub record IsLater (r : Region) (p : Seq) (x : Itv) (later : List Itv) : Type 0 where
+  pub within : p.0 < length r.orders
+  pub member : IsTrue (has (cells_of r p).members x)
+  pub others : IsTrue (list_all (is_other (cells_of r p).members x) later)
+
+-- the members of a sequence of the region, each once
+pub record AreMembers (r : Region) (p : Seq) (ms : List Itv) : Type 0 where
+  pub within : p.0 < length r.orders
+  pub are : ms ≡ (cells_of r p).members
+  pub distinct : IsTrue (are_distinct ms)
 
 -- Lines.
 

@@ -1,13 +1,13 @@
 ghost use Rattle.std.specs.Prelude.{◌≡◌, ◌<◌, ◌^◌, ◌≤ℤ◌, true, length, IsTrue, IfSome, IfNone};
+ghost use Rattle.std.specs.List.{list_all};
 ghost use Rattle.sched_model.specs.Valid.{is_moment};
 ghost use Rattle.region.specs.declared.types.Presence.TheVariants as presence;
 ghost use Rattle.region.specs.Cells.{is_fixed, is_settled};
-ghost use Rattle.region.specs.Flat.{HasMoments};
-ghost use Rattle.region.specs.Guesses.{splits};
-ghost use Rattle.region.specs.Looks.{IsRegionOf};
-ghost use Rattle.solver.specs.Cuts.{IsMiddle, IsCut};
-ghost use Rattle.solver.specs.Searching.{Cuts, is_ordered};
+ghost use Rattle.region.specs.Looks.{IsRegionOf, HasMoments};
+ghost use Rattle.solver.specs.Cuts.{IsMiddle};
+ghost use Rattle.solver.specs.Searching.{Cuts, CutsRegion, is_ordered};
 
+use crate::order::cut_orders;
 use region::{Bounds, Guess, Look, Presence};
 use sched_base::Itv;
 use sched_model::Model;
@@ -52,11 +52,10 @@ fn cut(x: Itv, c: Bounds) -> Option<Guess>
 }
 
 /// A guess that cuts the first interval of which something is open; none where nothing is.
-pub fn first_cut(model: &Model, look: &Look<'_>) -> Option<Guess>
+fn cut_intervals(model: &Model, look: &Look<'_>) -> Option<Guess>
     requires { IsRegionOf model.now look.now.region }
-    ensures some { IfSome result (λ g. IsTrue (splits look.now.region g)) }
-    ensures cut { IfSome result (λ g. IsCut look.now.region g) }
-    ensures none { IfNone result (IsTrue (is_settled look.now.region)) }
+    ensures some { IfSome result (CutsRegion look.now.region) }
+    ensures none { IfNone result (IsTrue (list_all is_fixed look.now.region.bounds)) }
 {
     let _ = model.intervals();
     for n in 0..look.len() as u32 {
@@ -65,4 +64,17 @@ pub fn first_cut(model: &Model, look: &Look<'_>) -> Option<Guess>
         }
     }
     None
+}
+
+/// A guess that cuts what is open of an interval, or where nothing is, of an order; none where the
+/// look is settled.
+pub fn first_cut(model: &Model, look: &Look<'_>) -> Option<Guess>
+    requires { IsRegionOf model.now look.now.region }
+    ensures some { IfSome result (CutsRegion look.now.region) }
+    ensures none { IfNone result (IsTrue (is_settled look.now.region)) }
+{
+    if let Some(g) = cut_intervals(model, look) {
+        return Some(g);
+    }
+    cut_orders(model, look)
 }

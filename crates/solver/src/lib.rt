@@ -5,6 +5,7 @@ mod answer;
 mod branch;
 mod leaf;
 mod line;
+mod order;
 mod search;
 
 pub use search::{SolveFault, solve};

@@ -122,11 +122,12 @@ fn search<D: Desk>(
 }
 
 /// Looks for a best solution of a model that is served (`refute_basic::is_served` tells) by branch
-/// and bound, and writes the log of the search. It opens at most
-/// `nodes` nodes, and keeps one region with saves, so its memory grows with the depth of the search.
-/// A region is split at its first open interval: at the presence, or else at the middle of the
-/// start, or else of the end, and its earlier half comes first. `Fault` comes only where the desk
-/// failed; the log is then, as after `NoMemory`, a front part of a log's text.
+/// and bound, and writes the log of the search. It opens at most `nodes` nodes, and keeps one region
+/// with saves, so its memory grows with the depth of the search. A region is split at its first open
+/// interval: at the presence, or else at the middle of the start, or else of the end, and its
+/// earlier half comes first; where no interval is open, at the first open order of two members of a
+/// sequence. `Fault` comes only where the desk failed; the log is then, as after `NoMemory`, a front
+/// part of a log's text.
 pub fn solve<D: Desk>(
     alloc: Global,
     model: &Model,

@@ -12,7 +12,7 @@ use Rattle.sched_model.specs.declared.types.Segment.{Segment}
 use Rattle.sched_model.specs.declared.types.Slot.{Slot}
 use Rattle.sched_model.specs.declared.types.Slot.TheVariants as slot
 use Rattle.region.specs.declared.types.Guess.{Guess}
-use Rattle.region.specs.declared.types.Guess.TheVariants.{Present, Absent, StartLe, StartGe, EndLe, EndGe}
+use Rattle.region.specs.declared.types.Guess.TheVariants.{Present, Absent, StartLe, StartGe, EndLe, EndGe, Before}
 use Rattle.kernel.specs.Fit.{is_count, is_id, is_fit_guess, is_fit_slot, is_fit_order, is_fit_segment, are_fit_segments, is_fit_assignment}
 use Rattle.textline.specs.Lines.{Bytes}
 use Rattle.textline.specs.Words.{is_word, are_words}
@@ -45,6 +45,9 @@ guess_plain (StartLe x t) h = bound_words (codes "SL") x t refl h
 guess_plain (StartGe x t) h = bound_words (codes "SG") x t refl h
 guess_plain (EndLe x t) h = bound_words (codes "EL") x t refl h
 guess_plain (EndGe x t) h = bound_words (codes "EG") x t refl h
+guess_plain (Before p x y) h =
+    let three = three_true (is_count p.0) (is_id x) (is_id y) h in
+    first_and (decimal p.0) (decimal x.0 ∷ decimal y.0 ∷ []) (count_word p.0 three.0) (first_and (decimal x.0) (decimal y.0 ∷ []) (count_word x.0 three.1) (first_and (decimal y.0) [] (count_word y.0 three.2) refl))
 
 slot_plain : (s : Slot) → is_fit_slot s ≡ true → are_words (slot_words s) ≡ true
 slot_plain slot.Absent h = refl

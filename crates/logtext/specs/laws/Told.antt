@@ -10,12 +10,13 @@ use Rattle.std.specs.List.{list_all, flat_map}
 use Rattle.std.specs.Fmt.{decimal, signed_decimal}
 use lib.Signed.{mag}
 use Rattle.sched_base.specs.declared.ids.Itv.{Itv}
+use Rattle.sched_base.specs.declared.ids.Seq.{Seq}
 use Rattle.sched_model.specs.Valid.{is_small}
 use Rattle.sched_model.specs.declared.types.Assignment.{Assignment}
 use Rattle.sched_model.specs.declared.types.Segment.{Segment}
 use Rattle.sched_model.specs.declared.types.Slot.{Slot}
 use Rattle.sched_model.specs.declared.types.Slot.TheVariants as slot
-use Rattle.region.specs.declared.types.Guess.TheVariants.{Present, Absent, StartLe, StartGe, EndLe, EndGe}
+use Rattle.region.specs.declared.types.Guess.TheVariants.{Present, Absent, StartLe, StartGe, EndLe, EndGe, Before}
 use Rattle.kernel.specs.Fit.{is_count, is_id, is_fit_guess, is_fit_slot, is_fit_order, is_fit_segment, are_fit_segments, is_fit_assignment}
 use Rattle.textline.specs.Lines.{Bytes}
 use Rattle.textline.specs.laws.Lines.{both_true}
@@ -47,6 +48,16 @@ bound_told v x y s t ws vs hx hy e =
     let k = both_true (is_id y) (is_small t) hy in
     (id_told x y h.0 k.0 (cc), moment_told s t h.1 k.1 (cc), cc)
 
+sequence_told : (p q : Seq) → is_count p.0 ≡ true → is_count q.0 ≡ true → decimal p.0 ≡ decimal q.0 → p ≡ q
+sequence_told p q hp hq e = ap (λ n. let it : Seq = record { 0 = n } in it) (count_told p.0 q.0 hp hq e)
+
+pair_told : (w : Bytes) (p q : Seq) (x y u v : Itv) (ws vs : List Bytes) → (is_count p.0 && is_id x && is_id y) ≡ true → (is_count q.0 && is_id u && is_id v) ≡ true
+    → w ∷ decimal p.0 ∷ decimal x.0 ∷ decimal y.0 ∷ ws ≡ w ∷ decimal q.0 ∷ decimal u.0 ∷ decimal v.0 ∷ vs → (p ≡ q) × (x ≡ u) × (y ≡ v) × (ws ≡ vs)
+pair_told w p q x y u v ws vs hx hu e =
+    let h = three_true (is_count p.0) (is_id x) (is_id y) hx in
+    let k = three_true (is_count q.0) (is_id u) (is_id v) hu in
+    (sequence_told p q h.0 k.0 (cc), id_told x u h.1 k.1 (cc), id_told y v h.2 k.2 (cc), cc)
+
 pub guess_told : Tells guess_words is_fit_guess
 guess_told (Present x) (Present y) ws vs hx hy e = let same = id_told x y hx hy (cc) in (ap Present same, cc)
 guess_told (Absent x) (Absent y) ws vs hx hy e = let same = id_told x y hx hy (cc) in (ap Absent same, cc)
@@ -54,6 +65,7 @@ guess_told (StartLe x s) (StartLe y t) ws vs hx hy e = let same = bound_told (co
 guess_told (StartGe x s) (StartGe y t) ws vs hx hy e = let same = bound_told (codes "SG") x y s t ws vs hx hy e in (cc, same.2)
 guess_told (EndLe x s) (EndLe y t) ws vs hx hy e = let same = bound_told (codes "EL") x y s t ws vs hx hy e in (cc, same.2)
 guess_told (EndGe x s) (EndGe y t) ws vs hx hy e = let same = bound_told (codes "EG") x y s t ws vs hx hy e in (cc, same.2)
+guess_told (Before p x y) (Before q u v) ws vs hx hy e = let same = pair_told (codes "B") p q x y u v ws vs hx hy e in (cc, same.3)
 guess_told _ _ ws vs hx hy e = absurd (omega (arith, ap tag e))
 
 pub slot_told : Tells slot_words is_fit_slot

@@ -12,7 +12,7 @@ use Rattle.sched_model.specs.Valid.{IsValid}
 use Rattle.region.specs.declared.types.Presence.{Presence}
 use Rattle.region.specs.declared.types.Presence.TheVariants as presence
 use Rattle.region.specs.declared.types.Bounds.{Bounds}
-use Rattle.region.specs.Cells.{Region, is_fixed, is_settled, settled_slot, settled_slots}
+use Rattle.region.specs.Cells.{Region, is_fixed, is_ordered, is_settled, settled_slot, settled_slots}
 use Rattle.region.specs.Looks.{IsRegionOf, is_narrowed}
 use Rattle.region.specs.laws.Lists.{both_true, true_both}
 use Rattle.refute_basic.specs.Leaf.{has_size, all_sized}
@@ -34,7 +34,7 @@ each_def (d ∷ ds) (b ∷ bs) narrowed fixed sized =
     true_both (fits_def d (settled_slot b)) _ (def_slot b.presence d b.smin b.smax b.emin b.emax b.pmin b.pmax first.0 second.0 third.0) (each_def ds bs first.1 second.1 third.1)
 
 pub settled_fits : (m : Data) (r : Region) → IsRegionOf m r → is_settled r ≡ true → all_sized r ≡ true → placewise fits_def m.intervals (settled_slots r) ≡ true
-settled_fits m r of settled sized = each_def m.intervals r.bounds of.bounds settled sized
+settled_fits m r of settled sized = each_def m.intervals r.bounds of.bounds (both_true (list_all is_fixed r.bounds) (list_all (is_ordered r) r.orders) settled).0 sized
 
 pub few_of : (m : Data) → IsValid m → (length m.intervals ≤ 2000) × (length m.constraints ≤ 20000)
 few_of m valid =

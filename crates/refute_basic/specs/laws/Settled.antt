@@ -23,8 +23,8 @@ use Rattle.region.specs.declared.types.Presence.TheVariants as presence
 use Rattle.region.specs.declared.types.Bounds.{Bounds}
 use Rattle.region.specs.Cells.{Region, is_settled, settled_slot, settled_slots, Allows}
 use Rattle.region.specs.Looks.{Seen, IsRegionOf, is_narrowed, HasNone}
-use Rattle.region.specs.laws.Lists.{both_true, true_both, placewise-length}
-use Rattle.region.specs.laws.Settling.{settled_choice, test_from_allowed}
+use Rattle.region.specs.laws.Lists.{both_true, true_both}
+use Rattle.region.specs.laws.Settling.{slots_fit, settled_slots_are}
 use Rattle.refute_basic.specs.declared.witness.BasicWitness.{BasicWitness}
 use Rattle.refute_basic.specs.declared.witness.BasicWitness.TheVariants.{Leaf}
 use Rattle.refute_basic.specs.Witness.{is_valid}
@@ -32,15 +32,9 @@ use Rattle.refute_basic.specs.Leaf.{is_leaf_constraint, settled_alone, has_size,
 use Rattle.refute_basic.specs.Basic.{refutes, row_of}
 use Rattle.refute_basic.specs.laws.SameSlots.{value_same, holds_same}
 
--- each interval of a solution has a slot that fits
-pub slots_fit : (m : Data) (a : Assignment) → IsSolution m a → placewise fits_def m.intervals a.slots ≡ true
-slots_fit m a solution = (both_true _ _ (both_true _ _ solution.domain).0).0
-
 -- a solution that a settled region of its model allows has the settled slots
 pub slots_settled : (m : Data) (r : Region) (a : Assignment) → IsRegionOf m r → is_settled r ≡ true → IsSolution m a → Allows r a → a.slots ≡ settled_slots r
-slots_settled m r a of settled solution allows =
-    let size : length r.bounds ≡ length a.slots = sym (placewise-length is_narrowed m.intervals r.bounds of.bounds) ∙ placewise-length fits_def m.intervals a.slots (slots_fit m a solution) in
-    settled_choice r a settled (test_from_allowed r a size allows)
+slots_settled m r a of settled solution allows = settled_slots_are m r a settled of solution.domain allows
 
 -- its sizes are in their ranges
 sized_slot : (p : Presence) (d : IntervalDef) (a b e f lo hi : ℤ)
@@ -122,7 +116,7 @@ pub leaf_sound : (m : Data) (l : Seen) (k u : ℕ) → IsRegionOf m l.region →
 leaf_sound m l k u of h a solution better allows =
     let two = both_true (is_settled l.region) (leaf_case m l k u) h in
     let same = slots_settled m l.region a of two.0 solution allows in
-    let fit : placewise fits_def m.intervals (settled_slots l.region) ≡ true = subst (λ ss. placewise fits_def m.intervals ss ≡ true) same (slots_fit m a solution) in
+    let fit : placewise fits_def m.intervals (settled_slots l.region) ≡ true = subst (λ ss. placewise fits_def m.intervals ss ≡ true) same (slots_fit m a solution.domain) in
     refuted_case m l a k u solution better same (fits_settled m.intervals l.region.bounds of.bounds fit) two.1
 
 pub sound_law : (m : Data) (l : Seen) (w : BasicWitness) → IsValid m → IsRegionOf m l.region → IsTrue (refutes m l w) → HasNone m l

@@ -1,5 +1,6 @@
 -- Laws of lists of which one element is changed, and of two lists side by side.
-use Rattle.std.specs.Prelude.{◌≡◌, ℕ, zero, suc, ◌<◌, Bool, true, false, ◌&&◌, List, [], ◌∷◌, length}
+use Rattle.std.specs.Prelude.{◌≡◌, ℕ, zero, suc, ◌<◌, Bool, true, false, ◌&&◌, List, [], ◌∷◌, map, length}
+use Rattle.std.specs.List.{list_all}
 use Rattle.std.proofs.Common.{refl, ap, arith, get_or}
 use Rattle.sched_model.specs.Words.{placewise}
 use Rattle.region.specs.Guesses.{changed_at}
@@ -86,3 +87,25 @@ pub changed_at-same : {X : Type 0} → (n : ℕ) (f h : X → X) (xs : List X) (
 changed_at-same n f h [] d same = refl
 changed_at-same zero f h (x ∷ xs) d same = ap (λ y. y ∷ xs) same
 changed_at-same (suc n) f h (x ∷ xs) d same = ap (λ ys. x ∷ ys) (changed_at-same n f h xs d same)
+
+-- a change of an element that a function or a test doesn't notice
+pub map-changed_at : {X Y : Type 0} → (h : X → Y) (n : ℕ) (f : X → X) (xs : List X) → ((x : X) → h (f x) ≡ h x) → map h (changed_at n f xs) ≡ map h xs
+map-changed_at h n f [] same = refl
+map-changed_at h zero f (x ∷ xs) same = ap (λ y. y ∷ map h xs) (same x)
+map-changed_at h (suc n) f (x ∷ xs) same = ap (λ ys. h x ∷ ys) (map-changed_at h n f xs same)
+
+pub all-changed_at : {X : Type 0} → (t : X → Bool) (n : ℕ) (f : X → X) (xs : List X) → ((x : X) → t (f x) ≡ t x) → list_all t (changed_at n f xs) ≡ list_all t xs
+all-changed_at t n f [] same = refl
+all-changed_at t zero f (x ∷ xs) same = ap (λ b. b && list_all t xs) (same x)
+all-changed_at t (suc n) f (x ∷ xs) same = ap (λ b. t x && b) (all-changed_at t n f xs same)
+
+pub all-at : {X : Type 0} → (t : X → Bool) (xs : List X) (n : ℕ) (d : X) → list_all t xs ≡ true → n < length xs → t (get_or xs n d) ≡ true
+all-at t [] n d h within = absurd (omega (arith, within))
+all-at t (x ∷ xs) zero d h within = (both_true (t x) (list_all t xs) h).0
+all-at t (x ∷ xs) (suc n) d h within = all-at t xs n d (both_true (t x) (list_all t xs) h).1 (omega (arith, within))
+
+-- an element that a change leaves as it is
+pub changed_at-none : {X : Type 0} → (n : ℕ) (f : X → X) (xs : List X) (d : X) → f (get_or xs n d) ≡ get_or xs n d → changed_at n f xs ≡ xs
+changed_at-none n f [] d h = refl
+changed_at-none zero f (x ∷ xs) d h = ap (λ y. y ∷ xs) h
+changed_at-none (suc n) f (x ∷ xs) d h = ap (λ ys. x ∷ ys) (changed_at-none n f xs d h)

@@ -1,234 +1,140 @@
--- What guesses and facts make of a region: which cell changes, which assignments are allowed, and that it stays a region of its models.
-use Rattle.std.specs.Prelude.{◌≡◌, ◌⊎◌, ◌↔◌, ◌<◌, ℤ, Bool, true, false, not, ◌&&◌, IsTrue, Option, Some, None, length, nat_lt, int_le, int_lt, pos, ◌+ℤ◌, ◌-ℤ◌}
-use Rattle.std.proofs.Common.{refl, sym, ap, subst, inl, inr, ◌∙◌, arith}
-use Rattle.std.proofs.lemmas.Int.{ints}
-use Rattle.std.proofs.lemmas.Bool.{cases_eq, ltb-true, true≢false}
+-- What guesses and facts make of a region: which cell changes, which assignments are allowed, and that it stays a region of
+-- its models.
+use Rattle.std.specs.Prelude.{◌≡◌, ◌↔◌, ◌<◌, Bool, true, not, IsTrue, [], Option, Some, None, length, nat_lt}
+use Rattle.std.proofs.Common.{refl, sym, ap, subst, ◌∙◌, arith, get_or}
+use Rattle.std.proofs.Math.ListN.{get_or-map}
+use Rattle.std.proofs.lemmas.List.{length-map}
+use Rattle.std.proofs.lemmas.Bool.Decides.{nat_tests}
 use Rattle.sched_base.specs.declared.ids.Itv.{Itv}
-use Rattle.sched_model.specs.declared.types.IntervalDef.{IntervalDef}
-use Rattle.sched_model.specs.declared.types.Slot.{Slot}
+use Rattle.sched_base.specs.declared.ids.Seq.{Seq}
 use Rattle.sched_model.specs.declared.types.Assignment.{Assignment}
-use Rattle.sched_model.specs.Words.{passes_if_any}
-use Rattle.sched_model.specs.Data.{Data}
-use Rattle.sched_model.specs.Value.{slot_of}
-use Rattle.region.specs.declared.types.Presence.{Presence}
-use Rattle.region.specs.declared.types.Presence.TheVariants as presence
+use Rattle.sched_model.specs.declared.types.SequenceDef.{SequenceDef}
+use Rattle.sched_model.specs.Words.{passes_if_any, placewise}
+use Rattle.sched_model.specs.Data.{Data, sequence_of}
+use Rattle.sched_model.specs.Domain.{is_in_domain, lists_present}
+use Rattle.sched_model.specs.Value.{slot_of, order_of}
 use Rattle.region.specs.declared.types.Guess.{Guess}
-use Rattle.region.specs.declared.types.Guess.TheVariants.{Present, Absent, StartLe, StartGe, EndLe, EndGe}
+use Rattle.region.specs.declared.types.Guess.TheVariants.{Present, Absent, StartLe, StartGe, EndLe, EndGe, Before}
+use Rattle.region.specs.declared.types.Claim.{Claim}
+use Rattle.region.specs.declared.types.Topic.{Topic}
+use Rattle.region.specs.declared.types.Topic.TheVariants.{One, Two}
 use Rattle.region.specs.declared.types.CellName.{CellName}
 use Rattle.region.specs.declared.types.CellName.TheVariants as cell
-use Rattle.region.specs.declared.types.Bounds.{Bounds}
-use Rattle.region.specs.Cells.{Region, unknown, bounds_of, fits_bounds, says_present, says_absent, says_maybe, Allows}
-use Rattle.region.specs.Guesses.{with_guess, with_fact, with_bounds, looked_at, subject, guess_holds, is_open_at, is_ready_at, admits, splits, guess_cell, fact_cell, SameCell}
-use Rattle.region.specs.Looks.{IsRegionOf, is_narrowed}
-use Rattle.region.specs.Narrows.{Narrows}
-use Rattle.region.specs.laws.Lists.{both_true, true_both, length-changed_at, get_or-changed_at, get_or-changed_other, placewise-changed}
-use Rattle.region.specs.laws.OneInterval.{guessed, denied, says, guess_changes, fact_changes, guess_says, fits_guessed, fits_denied, narrowed_guessed, narrowed_denied}
+use Rattle.region.specs.Cells.{Region, no_sequence, bounds_of, cells_of, is_there, Allows}
+use Rattle.region.specs.Claims.{says, is_open_at}
+use Rattle.region.specs.Guesses.{topic, assumed, refused, assumed_cell, refused_cell, admits_topic, is_ready, with_guess, with_fact, looked_at, guess_holds, admits, splits, guess_cell, fact_cell, turned, SameCell, with_order}
+use Rattle.region.specs.Looks.{IsRegionOf, has_pairs}
+use Rattle.region.specs.Narrows.{Narrows, Leaves}
+use Rattle.region.specs.laws.Lists.{both_true, placewise-at}
+use Rattle.region.specs.laws.OneSequence.{open_turned}
+use Rattle.region.specs.laws.Orderly.{Lists, lists_of}
+use Rattle.region.specs.laws.Intervals.{IsClaimed, claim_allows, denial_allows, claim_stays, denial_stays, claim_leaves, denial_leaves, claim_moves, denial_moves}
+use Rattle.region.specs.laws.Pairs.{paired, pairs_at, is_told, before_allows, after_allows, before_stays, order_stays, both_stay, order_leaves, order_moves}
 
--- an admitted guess speaks of an interval of the region, and is open there
-pub record IsAdmitted (r : Region) (g : Guess) : Type 0 where
-  pub within : (subject g).0 < length r.bounds
-  pub is_open : is_open_at g (bounds_of r (subject g)) ≡ true
+-- a sequence that isn't there has no members
+abbrev no_sequence_def : SequenceDef
+no_sequence_def = record { name = None; members = []; types = None }
 
-pub admitted : (r : Region) (g : Guess) → admits r g ≡ true → IsAdmitted r g
-admitted r g h = let two = both_true (nat_lt (subject g).0 (length r.bounds)) _ h in record { within = ltb-true _ _ two.0; is_open = two.1 }
+-- what a topic says of an assignment
+abbrev pub topic_says : Topic → Assignment → Bool
+topic_says (One x c) a = says c (slot_of a x)
+topic_says (Two p x y) a = is_told a p x y
 
--- the bounds of the interval that is changed, and of another
-pub bounds_there : (x : Itv) (f : Bounds → Bounds) (r : Region) → x.0 < length r.bounds → bounds_of (with_bounds x f r) x ≡ f (bounds_of r x)
-bounds_there x f r within = get_or-changed_at x.0 f r.bounds unknown within
+pub guess_says : (g : Guess) (a : Assignment) → guess_holds g a ≡ topic_says (topic g) a
+guess_says (Present x) a = refl
+guess_says (Absent x) a = refl
+guess_says (StartLe x t) a = refl
+guess_says (StartGe x t) a = refl
+guess_says (EndLe x t) a = refl
+guess_says (EndGe x t) a = refl
+guess_says (Before p x y) a = refl
 
-pub bounds_elsewhere : (x y : Itv) (f : Bounds → Bounds) (r : Region) → (y.0 ≡ x.0 → ⊥) → bounds_of (with_bounds x f r) y ≡ bounds_of r y
-bounds_elsewhere x y f r other = get_or-changed_other x.0 y.0 f r.bounds unknown other
+pub claimed : (r : Region) (x : Itv) (c : Claim) → admits_topic r (One x c) ≡ true → IsClaimed r x c
+claimed r x c h = let two = both_true (nat_lt x.0 (length r.bounds)) (is_open_at c (bounds_of r x)) h in record { within = grind (arith, nat_tests, two.0); is_open = two.1 }
 
-pub at_same : (x y : Itv) (P : Itv → Type 0) → y.0 ≡ x.0 → P x → P y
-at_same x y P e p = subst (λ n. P (record { 0 = n })) (sym e) p
+-- the orders of an assignment of the domain list the present members of the region's sequences
+pub members_are : (m : Data) (r : Region) (p : Seq) → IsRegionOf m r → (cells_of r p).members ≡ (sequence_of m p).members
+members_are m r p of = sym (get_or-map (λ s. s.members) r.orders p.0 no_sequence) ∙ ap (λ mss. get_or mss p.0 []) of.members ∙ get_or-map (λ d. d.members) m.sequences p.0 no_sequence_def
 
--- what is allowed where one interval is narrowed by a test of its slot
-pub narrowed_allows : (x : Itv) (f : Bounds → Bounds) (test : Slot → Bool) (r : Region) (a : Assignment) → x.0 < length r.bounds
-    → ((s : Slot) → fits_bounds (f (bounds_of r x)) s ≡ (fits_bounds (bounds_of r x) s && test s))
-    → Allows (with_bounds x f r) a ↔ (Allows r a × IsTrue (test (slot_of a x)))
-narrowed_allows x f test r a within at = (forth, back)
-  where
-    there : fits_bounds (bounds_of (with_bounds x f r) x) (slot_of a x) ≡ (fits_bounds (bounds_of r x) (slot_of a x) && test (slot_of a x))
-    there = ap (λ c. fits_bounds c (slot_of a x)) (bounds_there x f r within) ∙ at (slot_of a x)
+pub as_many : (m : Data) (r : Region) → IsRegionOf m r → length r.orders ≡ length m.sequences
+as_many m r of = sym (length-map r.orders (λ s. s.members)) ∙ ap length of.members ∙ length-map m.sequences (λ d. d.members)
 
-    size : length (with_bounds x f r).bounds ≡ length r.bounds
-    size = length-changed_at x.0 f r.bounds
+pub lists_at : (m : Data) (r : Region) (a : Assignment) (p : Seq) → IsRegionOf m r → is_in_domain m a ≡ true → p.0 < length r.orders → Lists (cells_of r p).members a (order_of a p)
+lists_at m r a p of domain within =
+    let orders : placewise (lists_present a) m.sequences a.orders ≡ true = (both_true _ _ (both_true _ _ domain).0).1 in
+    subst (λ ms. Lists ms a (order_of a p)) (sym (members_are m r p of))
+    (lists_of a (sequence_of m p) (order_of a p) (placewise-at (lists_present a) m.sequences a.orders p.0 no_sequence_def [] orders (subst (λ n. p.0 < n) (as_many m r of) within)))
 
-    forth_at : Allows (with_bounds x f r) a → (y : Itv) → y.0 < length r.bounds → (y.0 ≡ x.0) ⊎ (y.0 ≡ x.0 → ⊥) → IsTrue (fits_bounds (bounds_of r y) (slot_of a y))
-    forth_at allows y in_r (inl e) = at_same x y (λ z. IsTrue (fits_bounds (bounds_of r z) (slot_of a z))) e (both_true (fits_bounds (bounds_of r x) (slot_of a x)) (test (slot_of a x)) (sym there ∙ allows.slots x (omega (arith, within, size)))).0
-    forth_at allows y in_r (inr other) = subst (λ c. IsTrue (fits_bounds c (slot_of a y))) (bounds_elsewhere x y f r other) (allows.slots y (omega (arith, in_r, size)))
+-- a topic that is assumed leaves the assignments for which it is true, its fact the others
+pub assumed_allows : (t : Topic) (r : Region) (m : Data) (a : Assignment) → admits_topic r t ≡ true → IsRegionOf m r → Allows (assumed t r) a ↔ (Allows r a × IsTrue (topic_says t a))
+assumed_allows (One x c) r m a h of = claim_allows x c r a (claimed r x c h)
+assumed_allows (Two p x y) r m a h of = let ok = paired r p x y h in before_allows r p x y a (pairs_at m r p of ok.within) ok
 
-    forth : Allows (with_bounds x f r) a → Allows r a × IsTrue (test (slot_of a x))
-    forth allows = (record { slots = λ y in_r. forth_at allows y in_r (cases_eq y.0 x.0) }, (both_true (fits_bounds (bounds_of r x) (slot_of a x)) (test (slot_of a x)) (sym there ∙ allows.slots x (omega (arith, within, size)))).1)
+pub refused_allows : (t : Topic) (r : Region) (m : Data) (a : Assignment) → admits_topic r t ≡ true → IsRegionOf m r → is_in_domain m a ≡ true → Allows (refused t r) a ↔ (Allows r a × IsTrue (not (topic_says t a)))
+refused_allows (One x c) r m a h of domain = denial_allows x c r a (claimed r x c h)
+refused_allows (Two p x y) r m a h of domain = let ok = paired r p x y h in after_allows r p x y a (pairs_at m r p of ok.within) ok (lists_at m r a p of domain ok.within)
 
-    back_at : Allows r a → IsTrue (test (slot_of a x)) → (y : Itv) → y.0 < length r.bounds → (y.0 ≡ x.0) ⊎ (y.0 ≡ x.0 → ⊥) → IsTrue (fits_bounds (bounds_of (with_bounds x f r) y) (slot_of a y))
-    back_at allows passes y in_r (inl e) = at_same x y (λ z. IsTrue (fits_bounds (bounds_of (with_bounds x f r) z) (slot_of a z))) e (there ∙ true_both (fits_bounds (bounds_of r x) (slot_of a x)) (test (slot_of a x)) (allows.slots x within) passes)
-    back_at allows passes y in_r (inr other) = subst (λ c. IsTrue (fits_bounds c (slot_of a y))) (sym (bounds_elsewhere x y f r other)) (allows.slots y in_r)
+pub guess_allows : (g : Guess) (r : Region) → admits r g ≡ true → (m : Data) (a : Assignment) → IsRegionOf m r → is_in_domain m a ≡ true → Allows (with_guess g r) a ↔ (Allows r a × IsTrue (guess_holds g a))
+guess_allows g r h m a of domain = rw (guess_says g a) (assumed_allows (topic g) r m a h of)
 
-    back : Allows r a × IsTrue (test (slot_of a x)) → Allows (with_bounds x f r) a
-    back both = record { slots = λ y in_r. back_at both.0 both.1 y (omega (arith, in_r, size)) (cases_eq y.0 x.0) }
-
--- a guess leaves the assignments for which it is true, its fact the others
-pub guess_allows : (g : Guess) (r : Region) (a : Assignment) → admits r g ≡ true → Allows (with_guess g r) a ↔ (Allows r a × IsTrue (guess_holds g a))
-guess_allows g r a h = let ok = admitted r g h in
-    rw (guess_changes g r, guess_says g a) (narrowed_allows (subject g) (guessed g) (says g) r a ok.within (λ s. fits_guessed g (bounds_of r (subject g)) s ok.is_open))
-
-pub fact_allows : (g : Guess) (r : Region) (a : Assignment) → admits r g ≡ true → Allows (with_fact g r) a ↔ (Allows r a × IsTrue (not (guess_holds g a)))
-fact_allows g r a h = let ok = admitted r g h in
-    rw (fact_changes g r, guess_says g a) (narrowed_allows (subject g) (denied g) (λ s. not (says g s)) r a ok.within (λ s. fits_denied g (bounds_of r (subject g)) s ok.is_open))
+pub fact_allows : (g : Guess) (r : Region) → admits r g ≡ true → (m : Data) (a : Assignment) → IsRegionOf m r → is_in_domain m a ≡ true → Allows (with_fact g r) a ↔ (Allows r a × IsTrue (not (guess_holds g a)))
+fact_allows g r h m a of domain = rw (guess_says g a) (refused_allows (topic g) r m a h of domain)
 
 -- a region of a model stays one
+assumed_stays : (t : Topic) (m : Data) (r : Region) → admits_topic r t ≡ true → IsRegionOf m r → IsRegionOf m (assumed t r)
+assumed_stays (One x c) m r h of = claim_stays x c m r (claimed r x c h) of
+assumed_stays (Two p x y) m r h of = before_stays m p x y r (paired r p x y h) of
 
--- a region of a model stays one where an interval of it does
-stays_of : (x : Itv) (f : Bounds → Bounds) (m : Data) (r : Region) → x.0 < length r.bounds
-    → ((d : IntervalDef) → is_narrowed d (bounds_of r x) ≡ true → is_narrowed d (f (bounds_of r x)) ≡ true)
-    → IsRegionOf m r → IsRegionOf m (with_bounds x f r)
-stays_of x f m r within keeps of = record { bounds = placewise-changed is_narrowed x.0 f m.intervals r.bounds unknown within keeps of.bounds }
+refused_stays : (t : Topic) (m : Data) (r : Region) → admits_topic r t ≡ true → IsRegionOf m r → IsRegionOf m (refused t r)
+refused_stays (One x c) m r h of = denial_stays x c m r (claimed r x c h) of
+refused_stays (Two p x y) m r h of = order_stays m p y x r of
 
 pub guess_stays : (g : Guess) (m : Data) (r : Region) → admits r g ≡ true → IsRegionOf m r → IsRegionOf m (with_guess g r)
-guess_stays g m r h of = let ok = admitted r g h in
-    rw (guess_changes g r) (stays_of (subject g) (guessed g) m r ok.within (λ d. narrowed_guessed g d (bounds_of r (subject g)) ok.is_open) of)
+guess_stays g m r h of = assumed_stays (topic g) m r h of
 
 pub fact_stays : (g : Guess) (m : Data) (r : Region) → admits r g ≡ true → IsRegionOf m r → IsRegionOf m (with_fact g r)
-fact_stays g m r h of = let ok = admitted r g h in
-    rw (fact_changes g r) (stays_of (subject g) (denied g) m r ok.within (λ d. narrowed_denied g d (bounds_of r (subject g)) ok.is_open) of)
+fact_stays g m r h of = refused_stays (topic g) m r h of
 
--- a field that the change leaves is the same of every interval, and each field is of every other interval
-kept : {A : Type 0} → (field : Bounds → A) (x : Itv) (f : Bounds → Bounds) (r : Region) → x.0 < length r.bounds → field (f (bounds_of r x)) ≡ field (bounds_of r x) → (y : Itv) → field (bounds_of r y) ≡ field (bounds_of (with_bounds x f r) y)
-kept field x f r within same y = decided (cases_eq y.0 x.0)
-  where
-    decided : (y.0 ≡ x.0) ⊎ (y.0 ≡ x.0 → ⊥) → field (bounds_of r y) ≡ field (bounds_of (with_bounds x f r) y)
-    decided (inl e) = at_same x y (λ z. field (bounds_of r z) ≡ field (bounds_of (with_bounds x f r) z)) e (sym same ∙ ap field (sym (bounds_there x f r within)))
-    decided (inr other) = ap field (sym (bounds_elsewhere x y f r other))
+-- the cells of pairs in a region, by itself
+abbrev pub HasPairs : Region → Topic → Type 0
+HasPairs r (One x c) = Unit {0}
+HasPairs r (Two p x y) = has_pairs (cells_of r p) ≡ true
 
-elsewhere : {A : Type 0} → (field : Bounds → A) (x : Itv) (f : Bounds → Bounds) (r : Region) (name : Itv → CellName) (y : Itv) → (name y ≡ name x → ⊥) → field (bounds_of r y) ≡ field (bounds_of (with_bounds x f r) y)
-elsewhere field x f r name y other = ap field (sym (bounds_elsewhere x y f r (λ e. other (at_same x y (λ z. name z ≡ name x) e refl))))
+-- a topic that is ready changes one cell, and so does its fact
+ready_order : (r : Region) (p : Seq) (x y : Itv) → is_ready r (Two p x y) ≡ true → assumed (Two p x y) r ≡ with_order p x y r
+ready_order r p x y ready = let two = both_true (is_there r x) (is_there r y) ready in ap (with_order p x y) (both_stay r x y two.0 two.1)
 
--- a bound guess that splits leaves the presence
-pub ready_present : (c : Bounds) → says_present c.presence ≡ true → presence.Present ≡ c.presence
-ready_present c h = by_case c.presence h
-  where
-    by_case : (p : Presence) → says_present p ≡ true → presence.Present ≡ p
-    by_case presence.Absent k = cc
-    by_case presence.Present k = refl
-    by_case presence.Maybe k = cc
+pub assumed_leaves : (t : Topic) (r : Region) → HasPairs r t → admits_topic r t ≡ true → is_ready r t ≡ true → (c : CellName) → (c ≡ assumed_cell t → ⊥) → (c ≡ turned (assumed_cell t) → ⊥) → SameCell c r (assumed t r)
+assumed_leaves (One x k) r pairs h ready c first second = claim_leaves x k r (claimed r x k h).within ready c first
+assumed_leaves (Two p x y) r pairs h ready c first second = let ok = paired r p x y h in subst (λ q. SameCell c r q) (sym (ready_order r p x y ready)) (order_leaves p x y r pairs ok.within ok.is_open c first second)
 
--- no other cell changes
-guess_leaves : (g : Guess) (r : Region) → (subject g).0 < length r.bounds → is_ready_at g (bounds_of r (subject g)) ≡ true → (c : CellName) → (c ≡ guess_cell g → ⊥) → SameCell c r (with_guess g r)
-guess_leaves (Present x) r within ready (cell.Presence y) other = elsewhere (λ b. b.presence) x (guessed (Present x)) r (λ z. cell.Presence z) y other
-guess_leaves (Present x) r within ready (cell.StartMin y) other = kept (λ b. b.smin) x (guessed (Present x)) r within refl y
-guess_leaves (Present x) r within ready (cell.StartMax y) other = kept (λ b. b.smax) x (guessed (Present x)) r within refl y
-guess_leaves (Present x) r within ready (cell.EndMin y) other = kept (λ b. b.emin) x (guessed (Present x)) r within refl y
-guess_leaves (Present x) r within ready (cell.EndMax y) other = kept (λ b. b.emax) x (guessed (Present x)) r within refl y
-guess_leaves (Absent x) r within ready (cell.Presence y) other = elsewhere (λ b. b.presence) x (guessed (Absent x)) r (λ z. cell.Presence z) y other
-guess_leaves (Absent x) r within ready (cell.StartMin y) other = kept (λ b. b.smin) x (guessed (Absent x)) r within refl y
-guess_leaves (Absent x) r within ready (cell.StartMax y) other = kept (λ b. b.smax) x (guessed (Absent x)) r within refl y
-guess_leaves (Absent x) r within ready (cell.EndMin y) other = kept (λ b. b.emin) x (guessed (Absent x)) r within refl y
-guess_leaves (Absent x) r within ready (cell.EndMax y) other = kept (λ b. b.emax) x (guessed (Absent x)) r within refl y
-guess_leaves (StartLe x t) r within ready (cell.Presence y) other = kept (λ b. b.presence) x (guessed (StartLe x t)) r within (ready_present (bounds_of r x) ready) y
-guess_leaves (StartLe x t) r within ready (cell.StartMin y) other = kept (λ b. b.smin) x (guessed (StartLe x t)) r within refl y
-guess_leaves (StartLe x t) r within ready (cell.StartMax y) other = elsewhere (λ b. b.smax) x (guessed (StartLe x t)) r (λ z. cell.StartMax z) y other
-guess_leaves (StartLe x t) r within ready (cell.EndMin y) other = kept (λ b. b.emin) x (guessed (StartLe x t)) r within refl y
-guess_leaves (StartLe x t) r within ready (cell.EndMax y) other = kept (λ b. b.emax) x (guessed (StartLe x t)) r within refl y
-guess_leaves (StartGe x t) r within ready (cell.Presence y) other = kept (λ b. b.presence) x (guessed (StartGe x t)) r within (ready_present (bounds_of r x) ready) y
-guess_leaves (StartGe x t) r within ready (cell.StartMin y) other = elsewhere (λ b. b.smin) x (guessed (StartGe x t)) r (λ z. cell.StartMin z) y other
-guess_leaves (StartGe x t) r within ready (cell.StartMax y) other = kept (λ b. b.smax) x (guessed (StartGe x t)) r within refl y
-guess_leaves (StartGe x t) r within ready (cell.EndMin y) other = kept (λ b. b.emin) x (guessed (StartGe x t)) r within refl y
-guess_leaves (StartGe x t) r within ready (cell.EndMax y) other = kept (λ b. b.emax) x (guessed (StartGe x t)) r within refl y
-guess_leaves (EndLe x t) r within ready (cell.Presence y) other = kept (λ b. b.presence) x (guessed (EndLe x t)) r within (ready_present (bounds_of r x) ready) y
-guess_leaves (EndLe x t) r within ready (cell.StartMin y) other = kept (λ b. b.smin) x (guessed (EndLe x t)) r within refl y
-guess_leaves (EndLe x t) r within ready (cell.StartMax y) other = kept (λ b. b.smax) x (guessed (EndLe x t)) r within refl y
-guess_leaves (EndLe x t) r within ready (cell.EndMin y) other = kept (λ b. b.emin) x (guessed (EndLe x t)) r within refl y
-guess_leaves (EndLe x t) r within ready (cell.EndMax y) other = elsewhere (λ b. b.emax) x (guessed (EndLe x t)) r (λ z. cell.EndMax z) y other
-guess_leaves (EndGe x t) r within ready (cell.Presence y) other = kept (λ b. b.presence) x (guessed (EndGe x t)) r within (ready_present (bounds_of r x) ready) y
-guess_leaves (EndGe x t) r within ready (cell.StartMin y) other = kept (λ b. b.smin) x (guessed (EndGe x t)) r within refl y
-guess_leaves (EndGe x t) r within ready (cell.StartMax y) other = kept (λ b. b.smax) x (guessed (EndGe x t)) r within refl y
-guess_leaves (EndGe x t) r within ready (cell.EndMin y) other = elsewhere (λ b. b.emin) x (guessed (EndGe x t)) r (λ z. cell.EndMin z) y other
-guess_leaves (EndGe x t) r within ready (cell.EndMax y) other = kept (λ b. b.emax) x (guessed (EndGe x t)) r within refl y
+pub refused_leaves : (t : Topic) (r : Region) → HasPairs r t → admits_topic r t ≡ true → (c : CellName) → (c ≡ refused_cell t → ⊥) → (c ≡ turned (refused_cell t) → ⊥) → SameCell c r (refused t r)
+refused_leaves (One x k) r pairs h c first second = denial_leaves x k r (claimed r x k h).within c first
+refused_leaves (Two p x y) r pairs h c first second = let ok = paired r p x y h in order_leaves p y x r pairs ok.within (open_turned (cells_of r p) x y ok.is_open) c first second
 
-fact_leaves : (g : Guess) (r : Region) → (subject g).0 < length r.bounds → (c : CellName) → (c ≡ fact_cell g → ⊥) → SameCell c r (with_fact g r)
-fact_leaves (Present x) r within (cell.Presence y) other = elsewhere (λ b. b.presence) x (denied (Present x)) r (λ z. cell.Presence z) y other
-fact_leaves (Present x) r within (cell.StartMin y) other = kept (λ b. b.smin) x (denied (Present x)) r within refl y
-fact_leaves (Present x) r within (cell.StartMax y) other = kept (λ b. b.smax) x (denied (Present x)) r within refl y
-fact_leaves (Present x) r within (cell.EndMin y) other = kept (λ b. b.emin) x (denied (Present x)) r within refl y
-fact_leaves (Present x) r within (cell.EndMax y) other = kept (λ b. b.emax) x (denied (Present x)) r within refl y
-fact_leaves (Absent x) r within (cell.Presence y) other = elsewhere (λ b. b.presence) x (denied (Absent x)) r (λ z. cell.Presence z) y other
-fact_leaves (Absent x) r within (cell.StartMin y) other = kept (λ b. b.smin) x (denied (Absent x)) r within refl y
-fact_leaves (Absent x) r within (cell.StartMax y) other = kept (λ b. b.smax) x (denied (Absent x)) r within refl y
-fact_leaves (Absent x) r within (cell.EndMin y) other = kept (λ b. b.emin) x (denied (Absent x)) r within refl y
-fact_leaves (Absent x) r within (cell.EndMax y) other = kept (λ b. b.emax) x (denied (Absent x)) r within refl y
-fact_leaves (StartLe x t) r within (cell.Presence y) other = kept (λ b. b.presence) x (denied (StartLe x t)) r within refl y
-fact_leaves (StartLe x t) r within (cell.StartMin y) other = elsewhere (λ b. b.smin) x (denied (StartLe x t)) r (λ z. cell.StartMin z) y other
-fact_leaves (StartLe x t) r within (cell.StartMax y) other = kept (λ b. b.smax) x (denied (StartLe x t)) r within refl y
-fact_leaves (StartLe x t) r within (cell.EndMin y) other = kept (λ b. b.emin) x (denied (StartLe x t)) r within refl y
-fact_leaves (StartLe x t) r within (cell.EndMax y) other = kept (λ b. b.emax) x (denied (StartLe x t)) r within refl y
-fact_leaves (StartGe x t) r within (cell.Presence y) other = kept (λ b. b.presence) x (denied (StartGe x t)) r within refl y
-fact_leaves (StartGe x t) r within (cell.StartMin y) other = kept (λ b. b.smin) x (denied (StartGe x t)) r within refl y
-fact_leaves (StartGe x t) r within (cell.StartMax y) other = elsewhere (λ b. b.smax) x (denied (StartGe x t)) r (λ z. cell.StartMax z) y other
-fact_leaves (StartGe x t) r within (cell.EndMin y) other = kept (λ b. b.emin) x (denied (StartGe x t)) r within refl y
-fact_leaves (StartGe x t) r within (cell.EndMax y) other = kept (λ b. b.emax) x (denied (StartGe x t)) r within refl y
-fact_leaves (EndLe x t) r within (cell.Presence y) other = kept (λ b. b.presence) x (denied (EndLe x t)) r within refl y
-fact_leaves (EndLe x t) r within (cell.StartMin y) other = kept (λ b. b.smin) x (denied (EndLe x t)) r within refl y
-fact_leaves (EndLe x t) r within (cell.StartMax y) other = kept (λ b. b.smax) x (denied (EndLe x t)) r within refl y
-fact_leaves (EndLe x t) r within (cell.EndMin y) other = elsewhere (λ b. b.emin) x (denied (EndLe x t)) r (λ z. cell.EndMin z) y other
-fact_leaves (EndLe x t) r within (cell.EndMax y) other = kept (λ b. b.emax) x (denied (EndLe x t)) r within refl y
-fact_leaves (EndGe x t) r within (cell.Presence y) other = kept (λ b. b.presence) x (denied (EndGe x t)) r within refl y
-fact_leaves (EndGe x t) r within (cell.StartMin y) other = kept (λ b. b.smin) x (denied (EndGe x t)) r within refl y
-fact_leaves (EndGe x t) r within (cell.StartMax y) other = kept (λ b. b.smax) x (denied (EndGe x t)) r within refl y
-fact_leaves (EndGe x t) r within (cell.EndMin y) other = kept (λ b. b.emin) x (denied (EndGe x t)) r within refl y
-fact_leaves (EndGe x t) r within (cell.EndMax y) other = elsewhere (λ b. b.emax) x (denied (EndGe x t)) r (λ z. cell.EndMax z) y other
+pub assumed_moves : (t : Topic) (r : Region) → HasPairs r t → admits_topic r t ≡ true → is_ready r t ≡ true → SameCell (assumed_cell t) r (assumed t r) → ⊥
+assumed_moves (One x k) r pairs h ready = let ok = claimed r x k h in claim_moves x k r ok.within ok.is_open
+assumed_moves (Two p x y) r pairs h ready = let ok = paired r p x y h in λ same. order_moves p x y r pairs ok.within ok.is_open (subst (λ q. SameCell (cell.Order p x y) r q) (ready_order r p x y ready) same)
 
--- the cell itself does
-moves : {A : Type 0} → (field : Bounds → A) (x : Itv) (f : Bounds → Bounds) (r : Region) → x.0 < length r.bounds → (field (bounds_of r x) ≡ field (f (bounds_of r x)) → ⊥) → field (bounds_of r x) ≡ field (bounds_of (with_bounds x f r) x) → ⊥
-moves field x f r within differs same = differs (same ∙ ap field (bounds_there x f r within))
+pub refused_moves : (t : Topic) (r : Region) → HasPairs r t → admits_topic r t ≡ true → SameCell (refused_cell t) r (refused t r) → ⊥
+refused_moves (One x k) r pairs h = let ok = claimed r x k h in denial_moves x k r ok.within ok.is_open
+refused_moves (Two p x y) r pairs h = let ok = paired r p x y h in order_moves p y x r pairs ok.within (open_turned (cells_of r p) x y ok.is_open)
 
-maybe_is_open : (p q : Presence) → says_maybe q ≡ false → says_maybe p ≡ true → p ≡ q → ⊥
-maybe_is_open p q known h e = true≢false (sym (subst (λ z. says_maybe z ≡ true) e h) ∙ known)
+pub splitting : (r : Region) (g : Guess) → splits r g ≡ true → (admits r g ≡ true) × (is_ready r (topic g) ≡ true)
+splitting r g h = both_true (admits r g) (is_ready r (topic g)) h
 
-lowered : (p : Bool) (a t b : ℤ) → (p && int_le a t && int_lt t b) ≡ true → b ≡ t → ⊥
-lowered p a t b h e = grind (arith, ints)
+pub guess_narrows : (r : Region) (g : Guess) → HasPairs r (topic g) → splits r g ≡ true → Narrows (guess_cell g) (guess_holds g) r (with_guess g r)
+guess_narrows r g pairs h = let two = splitting r g h in
+    record { changed = assumed_moves (topic g) r pairs two.0 two.1; others = assumed_leaves (topic g) r pairs two.0 two.1; allowed = λ m a of domain. guess_allows g r two.0 m a of domain; of = λ m. guess_stays g m r two.0 }
 
-raised : (p : Bool) (a t b : ℤ) → (p && int_lt a t && int_le t b) ≡ true → a ≡ t → ⊥
-raised p a t b h e = grind (arith, ints)
-
-past : (p : Bool) (a t b : ℤ) → (p && int_le a t && int_lt t b) ≡ true → a ≡ t +ℤ pos 1 → ⊥
-past p a t b h e = grind (arith, ints)
-
-before : (p : Bool) (a t b : ℤ) → (p && int_lt a t && int_le t b) ≡ true → b ≡ t -ℤ pos 1 → ⊥
-before p a t b h e = grind (arith, ints)
-
-guess_moves : (g : Guess) (r : Region) → (subject g).0 < length r.bounds → is_open_at g (bounds_of r (subject g)) ≡ true → SameCell (guess_cell g) r (with_guess g r) → ⊥
-guess_moves (Present x) r within h = moves (λ b. b.presence) x (guessed (Present x)) r within (maybe_is_open (bounds_of r x).presence presence.Present refl h)
-guess_moves (Absent x) r within h = moves (λ b. b.presence) x (guessed (Absent x)) r within (maybe_is_open (bounds_of r x).presence presence.Absent refl h)
-guess_moves (StartLe x t) r within h = moves (λ b. b.smax) x (guessed (StartLe x t)) r within (lowered (not (says_absent (bounds_of r x).presence)) (bounds_of r x).smin t (bounds_of r x).smax h)
-guess_moves (StartGe x t) r within h = moves (λ b. b.smin) x (guessed (StartGe x t)) r within (raised (not (says_absent (bounds_of r x).presence)) (bounds_of r x).smin t (bounds_of r x).smax h)
-guess_moves (EndLe x t) r within h = moves (λ b. b.emax) x (guessed (EndLe x t)) r within (lowered (not (says_absent (bounds_of r x).presence)) (bounds_of r x).emin t (bounds_of r x).emax h)
-guess_moves (EndGe x t) r within h = moves (λ b. b.emin) x (guessed (EndGe x t)) r within (raised (not (says_absent (bounds_of r x).presence)) (bounds_of r x).emin t (bounds_of r x).emax h)
-
-fact_moves : (g : Guess) (r : Region) → (subject g).0 < length r.bounds → is_open_at g (bounds_of r (subject g)) ≡ true → SameCell (fact_cell g) r (with_fact g r) → ⊥
-fact_moves (Present x) r within h = moves (λ b. b.presence) x (denied (Present x)) r within (maybe_is_open (bounds_of r x).presence presence.Absent refl h)
-fact_moves (Absent x) r within h = moves (λ b. b.presence) x (denied (Absent x)) r within (maybe_is_open (bounds_of r x).presence presence.Present refl h)
-fact_moves (StartLe x t) r within h = moves (λ b. b.smin) x (denied (StartLe x t)) r within (past (not (says_absent (bounds_of r x).presence)) (bounds_of r x).smin t (bounds_of r x).smax h)
-fact_moves (StartGe x t) r within h = moves (λ b. b.smax) x (denied (StartGe x t)) r within (before (not (says_absent (bounds_of r x).presence)) (bounds_of r x).smin t (bounds_of r x).smax h)
-fact_moves (EndLe x t) r within h = moves (λ b. b.emin) x (denied (EndLe x t)) r within (past (not (says_absent (bounds_of r x).presence)) (bounds_of r x).emin t (bounds_of r x).emax h)
-fact_moves (EndGe x t) r within h = moves (λ b. b.emax) x (denied (EndGe x t)) r within (before (not (says_absent (bounds_of r x).presence)) (bounds_of r x).emin t (bounds_of r x).emax h)
-
--- a guess that splits narrows one cell, and so does the fact of one that is admitted
-pub splitting : (r : Region) (g : Guess) → splits r g ≡ true → (admits r g ≡ true) × (is_ready_at g (bounds_of r (subject g)) ≡ true)
-splitting r g h = both_true (admits r g) (is_ready_at g (bounds_of r (subject g))) h
-
-pub guess_narrows : (r : Region) (g : Guess) → splits r g ≡ true → Narrows (guess_cell g) (guess_holds g) r (with_guess g r)
-guess_narrows r g h = let two = splitting r g h in let ok = admitted r g two.0 in
-    record { changed = guess_moves g r ok.within ok.is_open; others = guess_leaves g r ok.within two.1; allowed = λ a. guess_allows g r a two.0; of = λ m. guess_stays g m r two.0 }
-
-pub fact_narrows : (r : Region) (g : Guess) → admits r g ≡ true → Narrows (fact_cell g) (λ a. not (guess_holds g a)) r (with_fact g r)
-fact_narrows r g h = let ok = admitted r g h in
-    record { changed = fact_moves g r ok.within ok.is_open; others = fact_leaves g r ok.within; allowed = λ a. fact_allows g r a h; of = λ m. fact_stays g m r h }
+pub fact_narrows : (r : Region) (g : Guess) → HasPairs r (topic g) → admits r g ≡ true → Narrows (fact_cell g) (λ a. not (guess_holds g a)) r (with_fact g r)
+fact_narrows r g pairs h =
+    record { changed = refused_moves (topic g) r pairs h; others = refused_leaves (topic g) r pairs h; allowed = λ m a of domain. fact_allows g r h m a of domain; of = λ m. fact_stays g m r h }
 
 -- what a look allows, under an admitted guess or under none
-pub looked_allows : (o : Option Guess) (r : Region) (a : Assignment) → IsTrue (passes_if_any (admits r) o) → Allows (looked_at o r) a ↔ (Allows r a × IsTrue (passes_if_any (λ g. guess_holds g a) o))
-looked_allows None r a h = ((λ allows. (allows, refl)), (λ both. both.0))
-looked_allows (Some g) r a h = guess_allows g r a h
+pub looked_allows : (o : Option Guess) (r : Region) → IsTrue (passes_if_any (admits r) o) → Leaves (λ a. passes_if_any (λ g. guess_holds g a) o) r (looked_at o r)
+looked_allows None r h m a of domain = ((λ allows. (allows, refl)), (λ both. both.0))
+looked_allows (Some g) r h m a of domain = guess_allows g r h m a of domain
 
 pub looked_stays : (o : Option Guess) (m : Data) (r : Region) → IsTrue (passes_if_any (admits r) o) → IsRegionOf m r → IsRegionOf m (looked_at o r)
 looked_stays None m r h of = of

@@ -12,7 +12,6 @@ use Rattle.sched_model.specs.declared.types.Assignment.{Assignment}
 use Rattle.sched_model.specs.declared.types.Constraint.{Constraint}
 use Rattle.sched_model.specs.declared.types.Constraint.TheVariants.{Temporal, Logic, Span, Alternative, Synchronize, NoOverlap, First, Last, Before, Prev, CumulIn, AlwaysEqual, AlwaysNoState}
 use Rattle.sched_model.specs.declared.types.Objective.{Objective}
-use Rattle.sched_model.specs.declared.types.Slot.{Slot}
 use Rattle.sched_model.specs.Words.{◌implies◌, passes, passes_if_any, is_empty, placewise}
 use Rattle.sched_model.specs.Data.{Data}
 use Rattle.sched_model.specs.Value.{value_of}
@@ -23,9 +22,11 @@ use Rattle.sched_model.specs.Valid.{IsValid}
 use Rattle.region.specs.declared.types.Presence.{Presence}
 use Rattle.region.specs.declared.types.Presence.TheVariants as presence
 use Rattle.region.specs.declared.types.Bounds.{Bounds}
-use Rattle.region.specs.Cells.{Region, is_fixed, is_settled, settled_slot, settled_slots, fits_bounds, allows}
+use Rattle.region.specs.Orders.{SequenceCells, allows_order}
+use Rattle.region.specs.Cells.{Region, is_fixed, is_ordered, is_settled, settled_slot, settled_slots, fits_bounds, allows}
 use Rattle.region.specs.Looks.{Seen, IsRegionOf, is_narrowed}
 use Rattle.region.specs.laws.Lists.{both_true, true_both, placewise-length}
+use Rattle.region.specs.laws.Narrowing.{as_many}
 use Rattle.refute_basic.specs.declared.witness.BasicWitness.TheVariants.{Leaf}
 use Rattle.refute_basic.specs.Witness.{is_number}
 use Rattle.refute_basic.specs.Served.{is_served_constraint, is_served}
@@ -48,11 +49,17 @@ each_fits (b ∷ bs) fixed =
     let two = both_true (is_fixed b) (list_all is_fixed bs) fixed in
     true_both (fits_bounds b (settled_slot b)) _ (fits_itself b.presence b.smin b.smax b.emin b.emax b.pmin b.pmax two.0) (each_fits bs two.1)
 
-pub settled_allowed : (m : Data) (r : Region) → is_settled r ≡ true → allows r (settled_assignment m r) ≡ true
-settled_allowed m r settled = each_fits r.bounds settled
+-- in an empty order none stand against what is told
+empty_allowed : {X : Type 0} (ss : List SequenceCells) (ds : List X) → length ss ≡ length ds → placewise allows_order ss (empty_for_each ds) ≡ true
+empty_allowed [] [] same = refl
+empty_allowed [] (d ∷ ds) same = absurd (omega (arith, same))
+empty_allowed (s ∷ ss) [] same = absurd (omega (arith, same))
+empty_allowed (s ∷ ss) (d ∷ ds) same = empty_allowed ss ds (omega (arith, same))
 
-pub slots_allowed : (r : Region) (ss : List Slot) → is_settled r ≡ true → ss ≡ settled_slots r → placewise fits_bounds r.bounds ss ≡ true
-slots_allowed r ss settled same = ap (placewise fits_bounds r.bounds) same ∙ each_fits r.bounds settled
+pub settled_allowed : (m : Data) (r : Region) → IsRegionOf m r → is_settled r ≡ true → allows r (settled_assignment m r) ≡ true
+settled_allowed m r of settled = true_both (placewise fits_bounds r.bounds (settled_slots r)) (placewise allows_order r.orders (empty_for_each m.sequences))
+    (each_fits r.bounds (both_true (list_all is_fixed r.bounds) (list_all (is_ordered r) r.orders) settled).0)
+    (empty_allowed r.orders m.sequences (as_many m r of))
 
 -- where the sizes are right, it is in the domain
 
@@ -114,7 +121,7 @@ passes_solves m l of served settled passed =
     let two = both_true (is_empty m.sequences) (list_all is_served_constraint m.constraints) served in
     record {
       solution = true_both (is_in_domain m (settled_assignment m l.region)) _ (settled_in_domain m l.region of two.0 settled passed.sized) (all_hold m l.region m.constraints two.1 passed.kept);
-      allowed = settled_allowed m l.region settled;
+      allowed = settled_allowed m l.region of settled;
       better = beats_best m l m.objective refl l.best refl passed.better;
     }
 

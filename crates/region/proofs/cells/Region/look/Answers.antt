@@ -1,8 +1,0 @@
-use Rattle.region.specs.laws.Narrowing.{looked_allows, looked_stays}
-use Rattle.region.proofs.cells.Region.look.Goals as goal
-
-pub returns-clause-allows : goal.returns-clause-allows
-returns-clause-allows c = rw c.shown.ensures (λ a. looked_allows c.args.guess c.args.self.now.region a c.requires)
-
-pub returns-clause-of : goal.returns-clause-of
-returns-clause-of c = rw c.shown.ensures (λ m of. looked_stays c.args.guess m c.args.self.now.region c.requires of)

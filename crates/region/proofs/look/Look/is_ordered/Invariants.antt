@@ -1,0 +1,7 @@
+use Rattle.std.proofs.Common.{◌≡◌, drop}
+use Rattle.sched_model.specs.Words.{pairwise}
+use Rattle.region.specs.Cells.{cells_of, is_known_order}
+use Rattle.region.proofs.look.Look.is_ordered.Given as goal
+
+abbrev pub invariant-loop-i : goal.invariant-loop-i
+invariant-loop-i l = pairwise (is_known_order l.self.region (cells_of l.self.region l.p)) (drop l.i l.members) ≡ pairwise (is_known_order l.self.region (cells_of l.self.region l.p)) l.members
