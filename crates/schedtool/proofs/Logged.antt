@@ -14,7 +14,7 @@ use Rattle.kernel.specs.declared.types.Line.TheVariants.{Derive, Fail, Split, So
 use Rattle.kernel.specs.declared.types.Found.{Found}
 use Rattle.kernel.specs.declared.types.StepFault.{StepFault}
 use Rattle.kernel.specs.declared.types.Verdict.TheVariants.{Unclosed}
-use Rattle.kernel.specs.Refuting.{Refuting}
+use Rattle.region.specs.Looks.{Refuting}
 use Rattle.kernel.specs.Steps.{LogState, Node, Outcome, Steps, step, step_at, unless, best_of, best_verdict, closed_verdict}
 use Rattle.kernel.specs.Steps.Steps.{done, more}
 use Rattle.solver.specs.Answers.{verdict_in, is_unfinished}

@@ -14,33 +14,28 @@ mod run;
 mod showing;
 mod solving;
 mod stop;
+mod streams;
 #[cfg(test)]
 mod tests;
 #[cfg(test)]
 mod told;
 #[cfg(test)]
 mod word_tests;
+mod words;
 
 pub use ended::Ended;
 pub use real::RealDesk;
 pub use run::run;
 pub use solver::solve;
 use std::process::ExitCode;
-use std::rt::Env;
-use std::{env, io};
 
-/// The words behind the program's name.
-fn words(rt: &(impl Env + AllocGlobal)) -> io::Result<Vec<String>> {
-    let mut words = Vec::new(rt.alloc());
-    for word in env::args(rt)?.skip(1) {
-        words.push(word)?;
-    }
-    Ok(words)
-}
-
-fn main(rt: HostRuntime) -> io::Result<ExitCode> {
-    let words = words(&rt)?;
-    let mut desk = RealDesk::new(rt.clone()?, rt.stdout(), rt.stderr());
-    let ended = run(rt.alloc(), words.as_slice(), &mut desk);
-    Ok(ExitCode::from(ended.status()))
+fn main(rt: HostRuntime) -> ExitCode {
+    // Where a file of the run could take the place of a closed stream, none is opened.
+    let files = match streams::hold(&rt) {
+        Ok(()) => Some(&rt),
+        Err(_) => None,
+    };
+    let mut desk = RealDesk::new(files, rt.stdout(), rt.stderr());
+    let ended = run(rt.alloc(), words::given(&rt), &mut desk);
+    ExitCode::from(ended.status())
 }

@@ -6,10 +6,11 @@ use std::io::{Read, Write};
 use std::rt::Files;
 
 /// The desk over real files and two writers, the trusted edge of the program: it tells nothing of
-/// what they hold. A write that takes nothing of a piece counts as a fault.
+/// what they hold. A write that takes nothing of a piece counts as a fault, and so does each file
+/// that is to be opened or created where the desk has no files.
 #[derive(Drop)]
 pub struct RealDesk<R: Files + Drop, O: Write + Drop, E: Write + Drop> {
-    rt: R,
+    files: Option<R>,
     out: O,
     err: E,
     model: Option<R::File>,
@@ -36,6 +37,26 @@ fn write_whole<W: Write>(writer: &mut W, bytes: &[u8]) -> Result<(), Failed> {
     Ok(())
 }
 
+fn opened<R: Files>(files: &Option<R>, name: &str) -> Result<R::File, Failed> {
+    let Some(files) = files else {
+        return Err(Failed);
+    };
+    match fs::open(files, name) {
+        Ok(file) => Ok(file),
+        Err(_) => Err(Failed),
+    }
+}
+
+fn created<R: Files>(files: &Option<R>, name: &str) -> Result<R::File, Failed> {
+    let Some(files) = files else {
+        return Err(Failed);
+    };
+    match fs::create(files, name) {
+        Ok(file) => Ok(file),
+        Err(_) => Err(Failed),
+    }
+}
+
 fn read_from<F: Read>(file: &mut Option<F>, into: &mut [u8]) -> Result<usize, Failed>
     ensures within { IfOk result (λ n. n ≤ length into.old) }
     ensures same { length into.new ≡ length into.old }
@@ -51,10 +72,10 @@ fn read_from<F: Read>(file: &mut Option<F>, into: &mut [u8]) -> Result<usize, Fa
 }
 
 impl<R: Files + Drop, O: Write + Drop, E: Write + Drop> RealDesk<R, O, E> {
-    /// A desk over the files of `rt`, and over the two writers as standard output and error.
-    pub fn new(rt: R, out: O, err: E) -> RealDesk<R, O, E> {
+    /// A desk over these files, or over none, and over the two writers as standard output and error.
+    pub fn new(files: Option<R>, out: O, err: E) -> RealDesk<R, O, E> {
         RealDesk {
-            rt,
+            files,
             out,
             err,
             model: None,
@@ -73,7 +94,7 @@ impl<R: Files + Drop, O: Write + Drop, E: Write + Drop> Desk for RealDesk<R, O, 
     ghost state = { λ d. real_state (is_some d.model) (is_some d.log) (is_some d.schedule) (is_some d.logged) d.faults };
 
     fn open_in(&mut self, slot: Inlet, name: &str) -> Result<(), Failed> {
-        match fs::open(&self.rt, name) {
+        match opened(&self.files, name) {
             Err(_) => {
                 self.faults = self.faults.saturating_add(1);
                 Err(Failed)
@@ -102,7 +123,7 @@ impl<R: Files + Drop, O: Write + Drop, E: Write + Drop> Desk for RealDesk<R, O, 
     }
 
     fn create_log(&mut self, name: &str) -> Result<(), Failed> {
-        match fs::create(&self.rt, name) {
+        match created(&self.files, name) {
             Err(_) => {
                 self.faults = self.faults.saturating_add(1);
                 Err(Failed)

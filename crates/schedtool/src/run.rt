@@ -1,4 +1,4 @@
-ghost use Rattle.std.specs.Prelude.{◌≡◌, map, string_bytes};
+ghost use Rattle.std.specs.Prelude.{◌≡◌, Err, IfOk, map, string_bytes};
 ghost use Rattle.schedtool.specs.Runs.{Runs};
 ghost use Rattle.schedtool.specs.Told.{Reports, memory_line, usage_line};
 ghost use Rattle.schedtool.specs.declared.ended.Ended.TheVariants as end;
@@ -28,14 +28,27 @@ fn end_no_memory<D: Desk>(desk: &mut D) -> Ended
     Ended::NoMemory
 }
 
-/// Carries out the command that the words are, over a desk.
-pub fn run<D: Desk>(alloc: Global, words: &[String], desk: &mut D) -> Ended
+fn run_words<D: Desk>(alloc: Global, words: &[String], desk: &mut D) -> Ended
     ensures { Runs (map string_bytes words.now) result (D.state desk.old) (D.state desk.new) }
 {
     match read_command(alloc, words) {
         Ok(Command::Solve { model, log, nodes }) => run_solve(alloc, desk, model, log, nodes),
         Ok(Command::Check { model, log }) => run_check(alloc, desk, model, log),
         Ok(Command::Show { model }) => run_show(alloc, desk, model),
+        Err(WordsFault::Usage) => end_usage(desk),
+        Err(WordsFault::NoMemory) => end_no_memory(desk),
+    }
+}
+
+/// Carries out the command that the words are, over a desk. Where there are no words, since one of
+/// them isn't UTF-8 or memory was refused for them, it only says so.
+pub fn run<D: Desk>(alloc: Global, words: Result<Vec<String>, WordsFault>, desk: &mut D) -> Ended
+    ensures words { IfOk words (λ ws. Runs (map string_bytes ws.items) result (D.state desk.old) (D.state desk.new)) }
+    ensures usage { words ≡ Err WordsFault.Usage → (result ≡ end.Usage) × Reports usage_line (D.state desk.old) (D.state desk.new) }
+    ensures no_memory { words ≡ Err WordsFault.NoMemory → (result ≡ end.NoMemory) × Reports memory_line (D.state desk.old) (D.state desk.new) }
+{
+    match words {
+        Ok(words) => run_words(alloc, words.as_slice(), desk),
         Err(WordsFault::Usage) => end_usage(desk),
         Err(WordsFault::NoMemory) => end_no_memory(desk),
     }

@@ -68,7 +68,7 @@ fn strings(alloc: Global, words: &[&str]) -> Result<Vec<String>, NoMemory> {
 
 fn run_words(alloc: Global, words: &[&str], desk: &mut MemDesk) -> Result<Ended, NoMemory> {
     let list = strings(alloc, words)?;
-    Ok(run(alloc, list.as_slice(), desk))
+    Ok(run(alloc, Ok(list), desk))
 }
 
 /// What a run leaves behind: its status, what it wrote to the two streams, its log, and the names of

@@ -2,7 +2,7 @@ use Rattle.std.proofs.Common.{map, string_bytes, sym, subst}
 use Rattle.command_line.specs.Commands.{command_of}
 use Rattle.schedtool.specs.Runs.{RunPromise}
 use Rattle.schedtool.proofs.Ending.{words_unread}
-use Rattle.schedtool.proofs.run.run.Goals as goal
+use Rattle.schedtool.proofs.run.run_words.Goals as goal
 
 pub returns-in-Err-NoMemory : goal.returns-in-Err-NoMemory
 returns-in-Err-NoMemory g c =
