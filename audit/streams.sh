@@ -34,8 +34,8 @@ got() {
   [[ $1 == *$2* ]] || cmp -s "$3" "$4"
 }
 
-# row CLOSED STATUS OUT ERR WORDS..: what the run has to end with and to write where the streams are open.
-row() {
+# expect CLOSED STATUS OUT ERR WORDS..: what the run has to end with and to write where the streams are open.
+expect() {
   local closed=$1 status=$2 out=$3 err=$4 ended=0
   shift 4
   run "$closed" "$@" || ended=$?
@@ -81,29 +81,29 @@ for closed in none 0 1 2 01 02 12 012; do
     told=$'fault\n'
   fi
   rm -f log
-  row "$closed" $done "$solved" "$told" solve model log
+  expect "$closed" $done "$solved" "$told" solve model log
   same "closed: $closed  solve: the log has other bytes" log kept_log
-  row "$closed" $done "$checked" "$told" check model kept_log
-  row "$closed" $done "$shown" "$told" show model
-  row "$closed" 2 '' "$usage" solve model
-  row "$closed" 3 '' $'model refused 8 statement 1 at 0\n' solve refused log
-  row "$closed" 4 '' $'fault\n' solve missing log
-  row "$closed" 4 '' $'fault\n' check model missing
-  row "$closed" 2 '' "$usage" solve model log $'\xff'
+  expect "$closed" $done "$checked" "$told" check model kept_log
+  expect "$closed" $done "$shown" "$told" show model
+  expect "$closed" 2 '' "$usage" solve model
+  expect "$closed" 3 '' $'model refused 8 statement 1 at 0\n' solve refused log
+  expect "$closed" 4 '' $'fault\n' solve missing log
+  expect "$closed" 4 '' $'fault\n' check model missing
+  expect "$closed" 2 '' "$usage" solve model log $'\xff'
   same "closed: $closed  the log was changed" log kept_log
   same "closed: $closed  the model was changed" model kept_model
 done
 
 # The program's own name is no word of a command.
 name=$'\xff'
-row none 0 "$solved" '' solve model log
+expect none 0 "$solved" '' solve model log
 name=schedtool
 
 # A closed stream has no name either.
-row 0 4 '' $'fault\n' show /dev/stdin
-row 1 4 '' $'fault\n' solve model /dev/stdout
-row 12 4 '' $'fault\n' solve model /dev/stderr
-row 012 4 '' $'fault\n' solve model /dev/stdout
+expect 0 4 '' $'fault\n' show /dev/stdin
+expect 1 4 '' $'fault\n' solve model /dev/stdout
+expect 12 4 '' $'fault\n' solve model /dev/stderr
+expect 012 4 '' $'fault\n' solve model /dev/stdout
 same 'the model was written over by a log that a closed stream names' model kept_model
 echo "$rows looks, $wrong wrong"
 [ $wrong = 0 ]
