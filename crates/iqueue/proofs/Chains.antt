@@ -189,3 +189,8 @@ taken_is slice items new ends result first ks q value view same was is =
     let below : length items ≡ length new = sym (same ∙ ap length value) in
     let list : numbers items ends ≡ first ∷ numbers new result = sym (ap (λ s. numbers s ends) value) ∙ was ∙ ap (λ js. first ∷ js) (sym (numbers_are new result ks is)) in
     sym view ∙ rw (list, below) refl
+
+-- the first number of a queue
+pub first_is : (places : List Place) (ends : Option Ends) (ks : List ℕ) → IsLinked places ends ks → first_of ends ≡ slice_get ks 0
+first_is places ends [] linked = linked.chain
+first_is places ends (k ∷ ks) linked = linked.chain.0

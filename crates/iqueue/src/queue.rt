@@ -1,4 +1,4 @@
-ghost use Rattle.std.specs.Prelude.{◌≡◌, ◌<◌, ◌∷◌, [], IfOk, IfNone, IfSome, IsTrue, ◌↔◌};
+ghost use Rattle.std.specs.Prelude.{◌≡◌, ◌<◌, ◌∷◌, [], slice_get, IfOk, IfNone, IfSome, IsTrue, ◌↔◌};
 ghost use Rattle.iqueue.specs.Queue.{AreDistinctBelow, is_in, woken};
 
 use crate::place::{Ends, Place, append, unlink};
@@ -59,6 +59,16 @@ impl WakeQueue {
         Some(ends.first)
     }
 
+    /// The first number, which stays where it is.
+    #[tactic(auto, using(crate::proofs::Chains::first_is))]
+    pub fn first(&self) -> Option<u32>
+        ensures first { result ≡ slice_get self.now.list 0 }
+        ensures distinct { AreDistinctBelow self.now.below self.now.list }
+    {
+        let Ends { first, .. } = self.ends?;
+        Some(first)
+    }
+
     pub fn has(&self, k: u32) -> bool
         requires { k < self.now.below }
         ensures { result ≡ is_in k self.now.list }
@@ -78,45 +88,5 @@ impl WakeQueue {
         ensures { self.new ≡ record self.old { list = [] } }
     {
         while self.take().is_some() {}
-    }
-}
-
-#[cfg(test)]
-mod tests {
-    use super::*;
-    use std::test::Fail;
-
-    #[test]
-    fn takes_in_the_order_of_wakes(rt: HostRuntime) -> Result<(), Fail> {
-        let mut queue = WakeQueue::new(rt.alloc(), 4)?;
-        assert!(rt; queue.is_empty());
-        queue.wake(2);
-        queue.wake(0);
-        queue.wake(2);
-        queue.wake(3);
-        assert!(rt; queue.has(0));
-        assert!(rt; !queue.has(1));
-        assert_eq!(rt; queue.take(), Some(2));
-        queue.wake(2);
-        assert_eq!(rt; queue.take(), Some(0));
-        assert!(rt; !queue.is_empty());
-        assert_eq!(rt; queue.take(), Some(3));
-        assert_eq!(rt; queue.take(), Some(2));
-        assert_eq!(rt; queue.take(), None);
-        Ok(())
-    }
-
-    #[test]
-    fn clears(rt: HostRuntime) -> Result<(), Fail> {
-        let mut queue = WakeQueue::new(rt.alloc(), 2)?;
-        queue.wake(1);
-        queue.wake(0);
-        queue.clear();
-        assert!(rt; queue.is_empty());
-        assert!(rt; !queue.has(1));
-        queue.wake(1);
-        assert_eq!(rt; queue.take(), Some(1));
-        assert_eq!(rt; queue.take(), None);
-        Ok(())
     }
 }

@@ -7,14 +7,17 @@ mod allowing;
 mod claims;
 mod flat;
 mod frame;
+mod guess_test;
 mod look;
 mod refuter;
 mod region;
 mod tightening;
 mod types;
 
+pub use claims::{earliest_end, latest_start};
+pub use guess_test::{GuessTest, RowTest};
 pub use look::Look;
 pub use refuter::{Numbers, Refuter};
 pub use region::Region;
-pub use tightening::{is_tight, refutes, tighten};
+pub use tightening::{is_tight, refutes, tighten, tighten_by};
 pub use types::{Bounds, CellName, Fact, Guess, OrderCell, Presence};

@@ -5,6 +5,7 @@ ghost use Rattle.region.specs.Guesses.{admits};
 ghost use Rattle.region.specs.Looks.{IsRegionOf, seen_at};
 ghost use Rattle.region.specs.Tight.{is_tight, weaker, moved, steps, IsTightened};
 
+use crate::guess_test::{GuessTest, RowTest};
 use crate::refuter::Refuter;
 use crate::region::Region;
 use crate::types::Guess;
@@ -104,6 +105,27 @@ pub fn is_tight<X: Refuter>(
 /// A guess of the form of a refuted one that allows as much or more, is refuted too and is tight:
 /// by halving between a refuted moment and the end of the cell. A guess on a presence or an order
 /// is answered as it is.
+pub fn tighten_by<T: GuessTest>(test: &T, region: &Region, g: Guess) -> Guess
+    requires ready { T.is_ready test.now }
+    requires of { T.region test.now ≡ region.now.region }
+    requires admitted { IsTrue (admits region.now.region g) }
+    requires refuted { IsTrue (T.refuting test.now (Some g)) }
+    ensures { IsTightened (λ h. T.refuting test.now (Some h)) region.now.region g result }
+{
+    let mut lo = 0;
+    let mut hi = steps(region, g);
+    while hi - lo > 1 {
+        let mid = lo + (hi - lo) / 2;
+        if test.refutes(Some(moved(region, g, mid))) {
+            lo = mid;
+        } else {
+            hi = mid;
+        }
+    }
+    moved(region, g, lo)
+}
+
+/// The same by the row of a witness.
 pub fn tighten<X: Refuter>(
     model: &Model,
     region: &Region,
@@ -116,15 +138,11 @@ pub fn tighten<X: Refuter>(
     requires refuted { IsTrue (X.refuting model.now (seen_at region.now.region best (Some g)) w.now) }
     ensures { IsTightened (λ h. X.refuting model.now (seen_at region.now.region best (Some h)) w.now) region.now.region g result }
 {
-    let mut lo = 0;
-    let mut hi = steps(region, g);
-    while hi - lo > 1 {
-        let mid = lo + (hi - lo) / 2;
-        if refutes::<X>(model, region, best, Some(moved(region, g, mid)), w) {
-            lo = mid;
-        } else {
-            hi = mid;
-        }
-    }
-    moved(region, g, lo)
+    let test = RowTest::<X> {
+        model,
+        region,
+        best,
+        witness: w,
+    };
+    tighten_by(&test, region, g)
 }

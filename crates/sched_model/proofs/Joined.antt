@@ -7,7 +7,8 @@ use Rattle.sched_model.specs.declared.types.Expr.{Expr}
 use Rattle.sched_model.specs.Words.{all_of, total}
 use Rattle.sched_model.specs.Ranges.{Ends, lows, highs, times_range, greatest_range, least_range}
 use Rattle.sched_model.specs.Hull.{limited, of_all, truth_of}
-use Rattle.sched_model.specs.laws.Products.{Near, near_product, near_saturated, saturated_range}
+use Rattle.sched_model.specs.Saturated.{saturated_range}
+use Rattle.sched_model.specs.laws.Products.{Near, near_product, near_saturated}
 
 of_all_more : (f g : List Ends → Ends) (r : Ends) (os : List (Option Ends)) → ((rs : List Ends) → limited (f (r ∷ rs)) ≡ limited (g rs)) → of_all f (Some r ∷ os) ≡ of_all g os
 of_all_more f g r os same = elim (all_of os) as (λ v. option_and_then (λ rs. limited (f rs)) (option_map (λ rs. r ∷ rs) v) ≡ option_and_then (λ rs. limited (g rs)) v) [

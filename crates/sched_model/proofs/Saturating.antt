@@ -1,5 +1,5 @@
 -- Arithmetic that saturates doesn't change the value of an expression that has a hull.
-use Rattle.std.proofs.Common.{◌≡◌, ℤ, pos, negsuc, neg_ℤ, ◌-ℤ◌, Bool, true, false, not, List, [], ◌∷◌, map, Option, Some, None, option_map, is_some, get_or, refl, ap, subst, ◌∙◌, arith}
+use Rattle.std.proofs.Common.{◌≡◌, ℤ, pos, neg_ℤ, ◌-ℤ◌, Bool, true, false, not, List, [], ◌∷◌, map, Option, Some, None, is_some, get_or, refl, ap, subst, ◌∙◌, arith}
 use Rattle.std.specs.List.{list_all, list_any}
 use Rattle.std.specs.Int.{saturate_signed, w64}
 use Rattle.std.proofs.lemmas.Int.{ints}
@@ -20,13 +20,9 @@ use Rattle.sched_model.specs.Ranges.{Ends}
 use Rattle.sched_model.specs.Hull.{truth_of, hull_step, hull_of}
 use Rattle.sched_model.specs.Value.{size_or, truth, is_true, compared, value_step, value_of}
 use Rattle.sched_model.specs.Saturated.{saturated_step, saturated_size, saturated_value, saturated_product}
-use Rattle.sched_model.specs.laws.Held.{held_small, all_of_first, composed, value_held}
+use Rattle.sched_model.specs.laws.Held.{held_small, all_of_first, truth_some, composed, value_held}
+use Rattle.sched_model.specs.laws.Small.{small_kept}
 use Rattle.sched_model.specs.laws.Products.{product_same}
-
--- 64 bits hold what is within the limits
-kept : (z : ℤ) → is_small z ≡ true → saturate_signed w64 z ≡ z
-kept (pos n) h = grind (arith, ints)
-kept (negsuc n) h = grind (arith, ints)
 
 zero_less : (z : ℤ) → pos 0 -ℤ z ≡ neg_ℤ z
 zero_less z = omega (arith, ints)
@@ -42,13 +38,6 @@ each_same m a [] rs h = refl
 each_same m a (p ∷ ps) rs h =
     let w = all_of_first (hull_of m p.0) (map (λ q. hull_of m q.0) ps) rs h in
     ap (λ z. z ∷ map (λ q. saturated_value a q.0) ps) (p.1 w.0 w.2) ∙ ap (λ zs. value_of a p.0 ∷ zs) (each_same m a ps w.1 w.3)
-
-truth_some : (os : List (Option Ends)) (r : Ends) → truth_of os ≡ Some r → (rs : List Ends) × (all_of os ≡ Some rs)
-truth_some os r h = there (all_of os) r h
-  where
-    there : (o : Option (List Ends)) (r : Ends) → option_map (λ rs. let e : Ends = (pos 0, pos 1) in e) o ≡ Some r → (rs : List Ends) × (o ≡ Some rs)
-    there None r h = cc
-    there (Some rs) r h = (rs, refl)
 
 -- what is said of one value, and of two
 abbrev of_one_value : (ℤ → Bool) → List ℤ → Bool
@@ -66,7 +55,7 @@ truth_same m a ps r g h = let w = truth_some (map (λ p. hull_of m p.0) ps) r h 
 
 size_kept : (s : Slot) (d : ℤ) → is_small (size_or d s) ≡ true → saturated_size d s ≡ size_or d s
 size_kept Absent d h = refl
-size_kept (Present s e) d h = kept (e -ℤ s) h
+size_kept (Present s e) d h = small_kept (e -ℤ s) h
 
 level : (m : Data) (a : Assignment) (y : Expr-F (Part m a)) (r : Ends) → hull_step m (map-Expr (Part m a) (Option Ends) (λ p. hull_of m p.0) y) ≡ Some r
     → is_small (value_step a (map-Expr (Part m a) ℤ (λ p. value_of a p.0) y)) ≡ true
@@ -78,11 +67,11 @@ level m a (SizeOf x d) r h small = size_kept (get_or a.slots x.0 Absent) d small
 level m a (LengthOf x d) r h small = size_kept (get_or a.slots x.0 Absent) d small
 level m a (PresenceOf x) r h small = refl
 level m a (Neg p) r h small = option_and_then_some _ (hull_of m p.0) r h (λ x is limit.
-    ap (λ z. saturate_signed w64 (pos 0 -ℤ z)) (p.1 x is) ∙ ap (saturate_signed w64) (zero_less (value_of a p.0)) ∙ kept _ small)
+    ap (λ z. saturate_signed w64 (pos 0 -ℤ z)) (p.1 x is) ∙ ap (saturate_signed w64) (zero_less (value_of a p.0)) ∙ small_kept _ small)
 level m a (Sum ps) r h small = option_and_then_some _ (all_of (map (λ p. hull_of m p.0) ps)) r h (λ rs is limit.
-    ap (λ zs. saturate_signed w64 (total zs)) (each_same m a ps rs is) ∙ kept _ small)
+    ap (λ zs. saturate_signed w64 (total zs)) (each_same m a ps rs is) ∙ small_kept _ small)
 level m a (Product ps) r h small = option_and_then_some _ (all_of (map (λ p. hull_of m p.0) ps)) r h (λ rs is limit.
-    ap (λ zs. saturate_signed w64 (saturated_product zs)) (each_same m a ps rs is) ∙ ap (saturate_signed w64) (product_same (map (λ p. value_of a p.0) ps) small) ∙ kept _ small)
+    ap (λ zs. saturate_signed w64 (saturated_product zs)) (each_same m a ps rs is) ∙ ap (saturate_signed w64) (product_same (map (λ p. value_of a p.0) ps) small) ∙ small_kept _ small)
 level m a (Max ps) r h small = option_and_then_some _ (all_of (map (λ p. hull_of m p.0) ps)) r h (λ rs is limit. ap greatest (each_same m a ps rs is))
 level m a (Min ps) r h small = option_and_then_some _ (all_of (map (λ p. hull_of m p.0) ps)) r h (λ rs is limit. ap least (each_same m a ps rs is))
 level m a (Compare op p q) r h small = truth_same m a (p ∷ q ∷ []) r (of_two_values (compared op)) h

@@ -14,6 +14,7 @@ pub mod Ranges
 pub mod Hull
 pub mod Valid
 pub mod Saturated
+pub mod Names
 pub mod Sweep
 pub mod Whole
 pub mod laws

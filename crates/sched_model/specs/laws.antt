@@ -7,3 +7,5 @@ pub mod Small
 pub mod Same
 pub mod Limits
 pub mod Members
+pub mod Names
+pub mod Listed

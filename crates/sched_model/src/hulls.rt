@@ -1,10 +1,8 @@
-ghost use Rattle.std.specs.Prelude.{◌≡◌, ◌∷◌, [], ◌++◌, map, pos, ◌*ℤ◌};
-ghost use Rattle.std.specs.Int.{saturate_signed, w128};
-ghost use Rattle.std.specs.Option.{option_to_list};
+ghost use Rattle.std.specs.Prelude.{◌≡◌, ◌∷◌, [], map, pos};
 ghost use Rattle.sched_model.specs.Hull.{end_range, hull_of, interval_hull, joined_hull, limited, presence_range, size_range, start_range, truth_of, widened};
-ghost use Rattle.sched_model.specs.Words.{greatest, least};
-ghost use Rattle.sched_model.specs.Ranges.{greatest_range, least_range, negated, product_range, spread, total_range};
+ghost use Rattle.sched_model.specs.Ranges.{greatest_range, least_range, negated, product_range, total_range};
 
+use crate::ranges::{greater, lesser, times};
 use crate::types::Expr;
 use crate::whole::Model;
 use sched_base::{Itv, at};
@@ -74,54 +72,6 @@ fn negated(ends: (i64, i64)) -> Option<(i64, i64)>
     ensures { result ≡ limited (negated ends) }
 {
     limited(-i128::from(ends.1), -i128::from(ends.0))
-}
-
-fn greater(so_far: Option<(i64, i64)>, part: (i64, i64)) -> (i64, i64)
-    ensures { result ≡ greatest_range (option_to_list so_far ++ part ∷ []) }
-{
-    match so_far {
-        None => part,
-        Some(ends) => (ends.0.max(part.0), ends.1.max(part.1)),
-    }
-}
-
-fn lesser(so_far: Option<(i64, i64)>, part: (i64, i64)) -> (i64, i64)
-    ensures { result ≡ least_range (option_to_list so_far ++ part ∷ []) }
-{
-    match so_far {
-        None => part,
-        Some(ends) => (ends.0.min(part.0), ends.1.min(part.1)),
-    }
-}
-
-/// The product, or the nearest number of 128 bits.
-pub fn scaled(x: i128, y: i64) -> i128
-    ensures { result ≡ saturate_signed w128 (x *ℤ y) }
-{
-    x.saturating_mul(i128::from(y))
-}
-
-fn least_of_four(a: i128, b: i128, c: i128, d: i128) -> i128
-    ensures { result ≡ least (a ∷ b ∷ c ∷ d ∷ []) }
-{
-    a.min(b).min(c).min(d)
-}
-
-fn greatest_of_four(a: i128, b: i128, c: i128, d: i128) -> i128
-    ensures { result ≡ greatest (a ∷ b ∷ c ∷ d ∷ []) }
-{
-    a.max(b).max(c).max(d)
-}
-
-/// The least and the greatest of the four products of ends, each saturated.
-fn times(so_far: (i128, i128), part: (i64, i64)) -> (i128, i128)
-    ensures { result ≡ spread (saturate_signed w128 (so_far.0 *ℤ part.0) ∷ saturate_signed w128 (so_far.0 *ℤ part.1) ∷ saturate_signed w128 (so_far.1 *ℤ part.0) ∷ saturate_signed w128 (so_far.1 *ℤ part.1) ∷ []) }
-{
-    let a = scaled(so_far.0, part.0);
-    let b = scaled(so_far.0, part.1);
-    let c = scaled(so_far.1, part.0);
-    let d = scaled(so_far.1, part.1);
-    (least_of_four(a, b, c, d), greatest_of_four(a, b, c, d))
 }
 
 /// The two ends of the hull of an expression, whose values are whole numbers; none exactly where

@@ -8,15 +8,12 @@ mod distances;
 mod domain;
 mod hierarchy;
 mod hulls;
-#[cfg(test)]
-mod sentence_tests;
+pub mod ranges;
 mod sentences;
 mod sequence;
 mod slots;
 mod states;
 mod temporal;
-#[cfg(test)]
-mod tests;
 mod types;
 mod values;
 mod whole;

@@ -8,7 +8,7 @@ ghost use Rattle.sched_model.specs.Hull.{hull_of};
 ghost use Rattle.sched_model.specs.Value.{compared, end_or, is_true, start_or, truth, value_of};
 ghost use Rattle.sched_model.specs.Saturated.{saturated_product, saturated_size, saturated_value};
 
-use crate::hulls::scaled;
+use crate::ranges::{nearest, scaled};
 use crate::slots::{Slots, is_here};
 use crate::types::{CompareOp, Expr, Slot};
 use crate::whole::Model;
@@ -38,19 +38,6 @@ fn size_or(slot: Slot, d: i64) -> i64
         Slot::Absent => d,
         Slot::Present { s, e } => e.saturating_sub(s),
     }
-}
-
-/// The nearest number of 64 bits.
-fn saturated(z: i128) -> i64
-    ensures { result ≡ saturate_signed w64 z }
-{
-    if z > i128::from(i64::MAX) {
-        return i64::MAX;
-    }
-    if z < i128::from(i64::MIN) {
-        return i64::MIN;
-    }
-    z as i64
 }
 
 fn truth(yes: bool) -> i64
@@ -150,7 +137,7 @@ fn sum_of<S: Slots>(slots: &S, parts: &[Expr]) -> i64
     for part in parts {
         sum += i128::from(value_of(slots, part));
     }
-    saturated(sum)
+    nearest(sum)
 }
 
 #[cycle(value_of)]
@@ -161,7 +148,7 @@ fn product_of<S: Slots>(slots: &S, parts: &[Expr]) -> i64
     for part in parts {
         product = scaled(product, value_of(slots, part));
     }
-    saturated(product)
+    nearest(product)
 }
 
 #[cycle(value_of)]

@@ -36,7 +36,8 @@ record StandsIn (c : Bounds) (s : Slot) : Type 0 where
 equal : (a b : ℤ) → int_eq a b ≡ true → a ≡ b
 equal a b h = grind (arith, ints)
 
-least_is : (d : IntervalDef) (c : Bounds) → is_narrowed d c ≡ true → d.size_lo ≡ c.pmin
+-- the sizes that a region shows are the declared ones
+pub least_is : (d : IntervalDef) (c : Bounds) → is_narrowed d c ≡ true → d.size_lo ≡ c.pmin
 least_is d c h = equal d.size_lo c.pmin (both_true _ _ (both_true _ _ h).0).1
 
 between : (lo hi z : ℤ) → is_between lo hi z ≡ true → (lo ≤ℤ z) × (z ≤ℤ hi)
@@ -78,7 +79,7 @@ pub record SameFive (x : Itv) (r q : Region) : Type 0 where
   pub emin : SameCell (cell.EndMin x) r q
   pub emax : SameCell (cell.EndMax x) r q
 
-greatest_is : (d : IntervalDef) (c : Bounds) → is_narrowed d c ≡ true → d.size_hi ≡ c.pmax
+pub greatest_is : (d : IntervalDef) (c : Bounds) → is_narrowed d c ≡ true → d.size_hi ≡ c.pmax
 greatest_is d c h = equal d.size_hi c.pmax (both_true _ _ h).1
 
 bounds_are : (b c : Bounds) → b.presence ≡ c.presence → b.smin ≡ c.smin → b.smax ≡ c.smax → b.emin ≡ c.emin → b.emax ≡ c.emax → b.pmin ≡ c.pmin → b.pmax ≡ c.pmax → b ≡ c

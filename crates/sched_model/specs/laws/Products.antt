@@ -8,7 +8,7 @@ use Rattle.std.proofs.lemmas.Bool.{and_parts}
 use Rattle.sched_model.specs.Ranges.{Ends, times_range, product_range, spread}
 use Rattle.sched_model.specs.Bounds.{is_small}
 use Rattle.sched_model.specs.Words.{product, least, greatest}
-use Rattle.sched_model.specs.Saturated.{saturated_product}
+use Rattle.sched_model.specs.Saturated.{saturated_product, saturated_range}
 use Rattle.sched_model.specs.Hull.{limited}
 
 -- one more than the limit
@@ -94,9 +94,6 @@ near_times r s f h = near_spread (r.0 *ℤ f.0) (r.0 *ℤ f.1) (r.1 *ℤ f.0) (r
 
 abbrev saturated : ℤ → ℤ
 saturated z = saturate_to_bits 127 z
-
-abbrev pub saturated_range : Ends → Ends → Ends
-saturated_range r f = spread (saturated (r.0 *ℤ f.0) ∷ saturated (r.0 *ℤ f.1) ∷ saturated (r.1 *ℤ f.0) ∷ saturated (r.1 *ℤ f.1) ∷ [])
 
 -- the product by saturation is near the product
 pub near_saturated : (r f : Ends) → Near (times_range r f) (saturated_range r f)

@@ -1,5 +1,6 @@
 -- Moments and amounts are small numbers, and small numbers fit 63 bits.
-use Rattle.std.proofs.Common.{◌≡◌, ◌^◌, ◌<◌, ℤ, true, arith}
+use Rattle.std.proofs.Common.{◌≡◌, ◌^◌, ◌<◌, ℤ, pos, negsuc, true, arith}
+use Rattle.std.specs.Int.{saturate_signed, w64}
 use Rattle.std.specs.Fmt.{signed_decimal}
 use Rattle.std.proofs.lemmas.Fmt.{signed_decimal_injective}
 use Rattle.std.proofs.lemmas.Int.{ints}
@@ -26,3 +27,8 @@ moments_small lo hi z span h = grind (arith, ints)
 -- small numbers are told by their spellings
 pub small_told : (s t : ℤ) → is_small s ≡ true → is_small t ≡ true → signed_decimal s ≡ signed_decimal t → s ≡ t
 small_told s t hs ht e = signed_decimal_injective s t (small_mag s hs) (small_mag t ht) e
+
+-- 64 bits hold what is within the limits
+pub small_kept : (z : ℤ) → is_small z ≡ true → saturate_signed w64 z ≡ z
+small_kept (pos n) h = grind (arith, ints)
+small_kept (negsuc n) h = grind (arith, ints)

@@ -1,0 +1,4 @@
+pub mod Members
+pub mod Alike
+pub mod Kept
+pub mod Everywhere

@@ -1,0 +1,80 @@
+//! What a witness gives of a region.
+ghost use Rattle.std.specs.Prelude.{◌≡◌, ◌&&◌, Some, None, IsTrue, IfSome, IfNone};
+ghost use Rattle.region.specs.Looks.{IsRegionOf, seen_at};
+ghost use Rattle.findings.specs.Found.{IsFound, IsFinding};
+ghost use Rattle.findings.specs.Reads.{AreUnrefuted, IsUnrefuted, is_among};
+ghost use Rattle.findings.specs.Search.{IsRefutedEnd, NoEndRefuted};
+
+use crate::finding::Pair;
+use crate::searching::{refuted_interval, refuted_order};
+use region::{Guess, GuessTest, Refuter, Region, RowTest, tighten_by};
+use sched_base::Itv;
+use sched_model::Model;
+
+/// The first guess on one of these intervals, or else on the order of one of these pairs.
+#[tactic(auto, using(crate::proofs::Both::interval_end, crate::proofs::Both::order_end, crate::proofs::Both::none_of_both))]
+fn refuted_end<T: GuessTest>(
+    test: &T,
+    region: &Region,
+    intervals: &[Itv],
+    pairs: &[Pair],
+) -> Option<Guess>
+    requires ready { T.is_ready test.now }
+    requires of { T.region test.now ≡ region.now.region }
+    ensures some { IfSome result (IsRefutedEnd (T.refuting test.now) region.now.region (is_among intervals.now pairs.now)) }
+    ensures none { IfNone result (NoEndRefuted (T.refuting test.now) region.now.region (is_among intervals.now pairs.now)) }
+{
+    if let Some(g) = refuted_interval(test, region, intervals) {
+        return Some(g);
+    }
+    refuted_order(test, region, pairs)
+}
+
+/// What a test gives: nothing, or that the region is refuted as it stands, or the tight guess on one
+/// of these intervals, or on the order of one of these pairs, under which it is refuted.
+#[tactic(auto, using(crate::proofs::Both::unrefuted_all, crate::proofs::Both::plain_busy, crate::proofs::Both::end_busy, crate::proofs::Both::plain_found, crate::proofs::Both::tight_found))]
+pub fn ask_by<T: GuessTest>(
+    test: &T,
+    region: &Region,
+    intervals: &[Itv],
+    pairs: &[Pair],
+) -> Option<Option<Guess>>
+    requires ready { T.is_ready test.now }
+    requires of { T.region test.now ≡ region.now.region }
+    ensures none { IfNone result (AreUnrefuted (T.refuting test.now) region.now.region intervals.now pairs.now) }
+    ensures some { IfSome result (IsFound (T.refuting test.now) region.now.region) }
+    ensures busy { IfSome result (λ guess. AreUnrefuted (T.refuting test.now) region.now.region intervals.now pairs.now → ⊥) }
+{
+    if test.refutes(None) {
+        return Some(None);
+    }
+    if let Some(g) = refuted_end(test, region, intervals, pairs) {
+        return Some(Some(tighten_by(test, region, g)));
+    }
+    None
+}
+
+/// What a witness gives: nothing, or that it refutes the region as it stands, or the tight guess on
+/// one of these intervals, or on the order of one of these pairs, under which it refutes the region.
+/// It costs up to six tests an interval and two a pair, and those of the halving.
+pub fn ask<X: Refuter>(
+    model: &Model,
+    region: &Region,
+    best: Option<i64>,
+    w: &X::Witness,
+    intervals: &[Itv],
+    pairs: &[Pair],
+) -> Option<Option<Guess>>
+    requires of { IsRegionOf model.now region.now.region }
+    ensures none { IfNone result (IsUnrefuted X.refuting model.now region.now.region best w.now intervals.now pairs.now) }
+    ensures some { IfSome result (λ guess. IsFinding X.refuting model.now region.now.region best (record { guess = guess; witness = w.now })) }
+    ensures busy { IfSome result (λ guess. IsUnrefuted X.refuting model.now region.now.region best w.now intervals.now pairs.now → ⊥) }
+{
+    let test = RowTest::<X> {
+        model,
+        region,
+        best,
+        witness: w,
+    };
+    ask_by(&test, region, intervals, pairs)
+}

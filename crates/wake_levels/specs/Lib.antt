@@ -1,0 +1,4 @@
+pub mod Waking
+pub mod Queues
+pub mod Calm
+pub mod laws

@@ -1,0 +1,10 @@
+-- The levels of wake queues.
+use Rattle.std.specs.Prelude.{◌≡◌, ℕ, List, [], ◌∷◌, map}
+use Rattle.iqueue.specs.Queue.{Queue}
+
+abbrev pub lists_of : List Queue → List (List ℕ)
+lists_of qs = map (λ q. q.list) qs
+
+abbrev pub AreBelow : ℕ → List Queue → Type 0
+AreBelow n [] = Unit {0}
+AreBelow n (q ∷ qs) = (q.below ≡ n) × AreBelow n qs

@@ -1,0 +1,59 @@
+-- What keeps those that aren't awake quiet.
+use Rattle.std.specs.Prelude.{◌≡◌, ℕ, ◌<◌, Bool, true, false, IsTrue, length, Some, None, nat_eq}
+use Rattle.std.proofs.Common.{refl, sym, subst, ◌∙◌, arith}
+use Rattle.std.proofs.lemmas.Bool.Decides.{nat_tests}
+use Rattle.std.proofs.lemmas.Bool.{true≢false}
+use Rattle.wake_levels.specs.declared.levels.Turn.{Turn}
+use Rattle.wake_levels.specs.Waking.{Waking, is_awake, first_turn, without_first, woken_on}
+use Rattle.wake_levels.specs.Calm.{IsCalm}
+use Rattle.wake_levels.specs.laws.Turning.{kept_on, has_on, none_in, kept_without, count_without}
+
+-- what isn't awake now wasn't
+asleep_before : (p q : Bool) → (p ≡ true → q ≡ true) → q ≡ false → p ≡ false
+asleep_before true q f h = absurd (true≢false (sym (f refl) ∙ h))
+asleep_before false q f h = refl
+
+same_or_not : (k j : ℕ) {X : Type 0} → (k ≡ j → X) → ((k ≡ j → ⊥) → X) → X
+same_or_not k j {X = X} same other = by_case (nat_eq k j) refl
+  where
+    by_case : (b : Bool) → nat_eq k j ≡ b → X
+    by_case true is = same (grind (arith, nat_tests))
+    by_case false is = other (λ e. grind (arith, nat_tests))
+
+-- where whoever was awake is, but perhaps one that is quiet
+pub calm_but : (k n : ℕ) (quiet : ℕ → Type 0) (a b : Waking) → IsCalm n quiet a → b.below ≡ a.below → ((j : ℕ) → (j ≡ k → ⊥) → IsTrue (is_awake a j) → IsTrue (is_awake b j)) → (is_awake b k ≡ false → quiet k) → IsCalm n quiet b
+calm_but k n quiet a b calm below kept here = record {
+  below = below ∙ calm.below;
+  others = λ j within asleep. same_or_not j k
+      (λ e. subst quiet (sym e) (here (subst (λ i. is_awake b i ≡ false) e asleep)))
+      (λ other. calm.others j within (asleep_before (is_awake a j) (is_awake b j) (kept j other) asleep));
+}
+
+pub calm_more : (n : ℕ) (quiet : ℕ → Type 0) (a b : Waking) → IsCalm n quiet a → b.below ≡ a.below → ((j : ℕ) → IsTrue (is_awake a j) → IsTrue (is_awake b j)) → IsCalm n quiet b
+calm_more n quiet a b calm below kept = record {
+  below = below ∙ calm.below;
+  others = λ j within asleep. calm.others j within (asleep_before (is_awake a j) (is_awake b j) (kept j) asleep);
+}
+
+-- the turn of one that is quiet may be dropped
+pub calm_dropped : (n : ℕ) (quiet : ℕ → Type 0) (a : Waking) (t : Turn) → first_turn a.levels ≡ Some t → quiet t.k → IsCalm n quiet a → IsCalm n quiet (record a { levels = without_first a.levels })
+calm_dropped n quiet a t turn here calm = calm_but t.k n quiet a (record a { levels = without_first a.levels }) calm refl (kept_without a.levels t turn) (λ asleep. here)
+
+-- and the turn of any may be put off to another level
+pub calm_later : (n level : ℕ) (quiet : ℕ → Type 0) (a : Waking) (t : Turn) → first_turn a.levels ≡ Some t → level < length a.levels → IsCalm n quiet a
+    → IsCalm n quiet (record a { levels = woken_on t.k level (without_first a.levels) })
+calm_later n level quiet a t turn within calm = calm_but t.k n quiet a (record a { levels = woken_on t.k level (without_first a.levels) }) calm refl
+    (λ j other awake. kept_on t.k level j (without_first a.levels) (kept_without a.levels t turn j other awake))
+    (λ asleep. absurd (true≢false (sym (has_on t.k level (without_first a.levels) (omega (arith, within, count_without a.levels))) ∙ asleep)))
+
+-- where none is awake all are quiet
+pub all_quiet : (n : ℕ) (quiet : ℕ → Type 0) (a : Waking) → first_turn a.levels ≡ None → IsCalm n quiet a → (k : ℕ) → k < n → quiet k
+all_quiet n quiet a none calm k within = calm.others k within (none_in a.levels none k)
+
+-- where all are quiet it doesn't matter who is awake
+pub calm_all : (n : ℕ) (quiet : ℕ → Type 0) (a : Waking) → a.below ≡ n → ((k : ℕ) → k < n → quiet k) → IsCalm n quiet a
+calm_all n quiet a below all = record { below = below; others = λ k within asleep. all k within }
+
+-- and where all are awake, what quiet is
+pub calm_awake : (n : ℕ) (quiet : ℕ → Type 0) (a : Waking) → a.below ≡ n → ((k : ℕ) → k < n → IsTrue (is_awake a k)) → IsCalm n quiet a
+calm_awake n quiet a below all = record { below = below; others = λ k within asleep. absurd (true≢false (sym (all k within) ∙ asleep)) }

@@ -1,0 +1,131 @@
+-- What a wake, and what a turn that is dropped, do to the levels.
+use Rattle.std.specs.Prelude.{◌≡◌, ℕ, zero, suc, ◌+◌, ◌-◌, ◌*◌, ◌<◌, ◌≤◌, Bool, true, false, ◌||◌, List, [], ◌∷◌, ◌++◌, length, Option, Some, None, nat_eq, option_map}
+use Rattle.std.proofs.Common.{refl, sym, ap, ◌∙◌, arith}
+use Rattle.std.proofs.lemmas.Bool.Decides.{nat_tests}
+use Rattle.std.proofs.lemmas.List.{length_push}
+use Rattle.iqueue.specs.Queue.{is_in, woken}
+use Rattle.wake_levels.specs.declared.levels.Turn.{Turn}
+use Rattle.wake_levels.specs.Waking.{is_in_any, weight, next_level, first_turn, without_first, woken_on}
+
+or_first : (p q : Bool) → p ≡ true → (p || q) ≡ true
+or_first true q h = refl
+or_first false q h = cc
+
+or_second : (p q : Bool) → q ≡ true → (p || q) ≡ true
+or_second true q h = refl
+or_second false q h = h
+
+or_map : (p q s t : Bool) → (p ≡ true → s ≡ true) → (q ≡ true → t ≡ true) → (p || q) ≡ true → (s || t) ≡ true
+or_map true q s t f g h = or_first s t (f refl)
+or_map false q s t f g h = or_second s t (g h)
+
+in_push : (k j : ℕ) (ks : List ℕ) → is_in j ks ≡ true → is_in j (ks ++ k ∷ []) ≡ true
+in_push k j [] h = cc
+in_push k j (i ∷ ks) h = or_map (nat_eq j i) (is_in j ks) (nat_eq j i) (is_in j (ks ++ k ∷ [])) (λ e. e) (in_push k j ks) h
+
+last_in : (k : ℕ) (ks : List ℕ) → is_in k (ks ++ k ∷ []) ≡ true
+last_in k [] = or_first (nat_eq k k) false (grind (arith, nat_tests))
+last_in k (i ∷ ks) = or_second (nat_eq k i) (is_in k (ks ++ k ∷ [])) (last_in k ks)
+
+-- a list after a wake
+record Grows (k : ℕ) (ks new : List ℕ) : Type 0 where
+  kept : (j : ℕ) → is_in j ks ≡ true → is_in j new ≡ true
+  has : is_in k new ≡ true
+  few : length new ≤ length ks + 1
+
+grows : (k : ℕ) (ks : List ℕ) → Grows k ks (woken k ks)
+grows k ks = by_case (is_in k ks) refl
+  where
+    by_case : (b : Bool) → is_in k ks ≡ b → Grows k ks (woken k ks)
+    by_case true is = rw is (record { kept = λ j h. h; has = is; few = omega arith })
+    by_case false is = rw is (record { kept = λ j h. in_push k j ks h; has = last_in k ks; few = omega (arith, length_push ks k) })
+
+-- after a wake whatever was awake is
+pub kept_on : (k level j : ℕ) (kss : List (List ℕ)) → is_in_any j kss ≡ true → is_in_any j (woken_on k level kss) ≡ true
+kept_on k level j [] h = h
+kept_on k zero j (ks ∷ kss) h = or_map (is_in j ks) (is_in_any j kss) (is_in j (woken k ks)) (is_in_any j kss) ((grows k ks).kept j) (λ e. e) h
+kept_on k (suc level) j (ks ∷ kss) h = or_map (is_in j ks) (is_in_any j kss) (is_in j ks) (is_in_any j (woken_on k level kss)) (λ e. e) (kept_on k level j kss) h
+
+-- and the number woken is, where there is such a level
+pub has_on : (k level : ℕ) (kss : List (List ℕ)) → level < length kss → is_in_any k (woken_on k level kss) ≡ true
+has_on k level [] within = absurd (omega (arith, within))
+has_on k zero (ks ∷ kss) within = or_first (is_in k (woken k ks)) (is_in_any k kss) (grows k ks).has
+has_on k (suc level) (ks ∷ kss) within = or_second (is_in k ks) (is_in_any k (woken_on k level kss)) (has_on k level kss (omega (arith, within)))
+
+pub count_on : (k level : ℕ) (kss : List (List ℕ)) → length (woken_on k level kss) ≡ length kss
+count_on k level [] = refl
+count_on k zero (ks ∷ kss) = refl
+count_on k (suc level) (ks ∷ kss) = ap suc (count_on k level kss)
+
+mul_step : (c a b : ℕ) → a ≤ b + 1 → c * a ≤ c * b + c
+mul_step zero a b h = omega arith
+mul_step (suc c) a b h = let rest = mul_step c a b h in omega (arith, rest, h)
+
+pub weight_on : (k level : ℕ) (kss : List (List ℕ)) → level < length kss → weight (woken_on k level kss) ≤ weight kss + (length kss - level)
+weight_on k level [] within = absurd (omega (arith, within))
+weight_on k zero (ks ∷ kss) within = let one = mul_step (length kss + 1) (length (woken k ks)) (length ks) (grows k ks).few in omega (arith, one)
+weight_on k (suc level) (ks ∷ kss) within =
+    let same : (length (woken_on k level kss) + 1) * length ks ≡ (length kss + 1) * length ks = ap (λ (n : ℕ). (n + 1) * length ks) (count_on k level kss) in
+    omega (arith, same, weight_on k level kss (omega (arith, within)))
+
+no_turn : (o : Option Turn) → option_map next_level o ≡ None → o ≡ None
+no_turn None h = refl
+no_turn (Some t) h = cc
+
+-- where no number has its turn, none is awake
+pub none_in : (kss : List (List ℕ)) → first_turn kss ≡ None → (k : ℕ) → is_in_any k kss ≡ false
+none_in [] none k = refl
+none_in ([] ∷ kss) none k = none_in kss (no_turn (first_turn kss) none) k
+none_in ((j ∷ ks) ∷ kss) none k = cc
+
+-- and dropping changes nothing
+pub dropped_none : (kss : List (List ℕ)) → first_turn kss ≡ None → without_first kss ≡ kss
+dropped_none [] none = refl
+dropped_none ([] ∷ kss) none = ap (λ jss. [] ∷ jss) (dropped_none kss (no_turn (first_turn kss) none))
+dropped_none ((k ∷ ks) ∷ kss) none = cc
+
+-- the turn behind an empty level
+later_turn : (o : Option Turn) (t : Turn) → option_map next_level o ≡ Some t → (u : Turn) × (o ≡ Some u) × (t ≡ next_level u)
+later_turn None t h = cc
+later_turn (Some u) t h = (u, refl, cc)
+
+here_turn : (k : ℕ) (t : Turn) → Some (record { k = k; level = 0 }) ≡ Some t → (t.k ≡ k) × (t.level ≡ 0)
+here_turn k t h = (cc, cc)
+
+-- of the levels without a turn every other number is awake as before
+not_first : (j k : ℕ) (ks : List ℕ) → (j ≡ k → ⊥) → is_in j (k ∷ ks) ≡ true → is_in j ks ≡ true
+not_first j k ks other h = by_case (nat_eq j k) refl h
+  where
+    by_case : (b : Bool) → nat_eq j k ≡ b → (b || is_in j ks) ≡ true → is_in j ks ≡ true
+    by_case true is e = absurd (other (grind (arith, nat_tests)))
+    by_case false is e = e
+
+pub kept_without : (kss : List (List ℕ)) (t : Turn) → first_turn kss ≡ Some t → (j : ℕ) → (j ≡ t.k → ⊥) → is_in_any j kss ≡ true → is_in_any j (without_first kss) ≡ true
+kept_without [] t turn j other h = cc
+kept_without ([] ∷ kss) t turn j other h = let u = later_turn (first_turn kss) t turn in kept_without kss u.0 u.1 j (λ e. other (e ∙ sym (ap (λ (v : Turn). v.k) u.2))) h
+kept_without ((k ∷ ks) ∷ kss) t turn j other h =
+    or_map (is_in j (k ∷ ks)) (is_in_any j kss) (is_in j ks) (is_in_any j kss) (not_first j k ks (λ e. other (e ∙ sym (here_turn k t turn).0))) (λ e. e) h
+
+pub count_without : (kss : List (List ℕ)) → length (without_first kss) ≡ length kss
+count_without [] = refl
+count_without ([] ∷ kss) = ap suc (count_without kss)
+count_without ((k ∷ ks) ∷ kss) = refl
+
+mul_one : (c a : ℕ) → c * suc a ≡ c * a + c
+mul_one c a = omega arith
+
+-- and they weigh less
+pub weight_without : (kss : List (List ℕ)) (t : Turn) → first_turn kss ≡ Some t → (t.level < length kss) × (weight (without_first kss) + (length kss - t.level) ≡ weight kss)
+weight_without [] t turn = cc
+weight_without ([] ∷ kss) t turn =
+    let u = later_turn (first_turn kss) t turn in
+    let rest = weight_without kss u.0 u.1 in
+    let level : t.level ≡ u.0.level + 1 = ap (λ (v : Turn). v.level) u.2 in
+    (omega (arith, rest.0, level), let none = mul_none (length (without_first kss) + 1) in let zero' = mul_none (length kss + 1) in omega (arith, rest.0, rest.1, level, none, zero'))
+  where
+    mul_none : (c : ℕ) → c * 0 ≡ 0
+    mul_none c = omega arith
+weight_without ((k ∷ ks) ∷ kss) t turn =
+    let level : t.level ≡ 0 = (here_turn k t turn).1 in
+    let one = mul_one (length kss + 1) (length ks) in
+    (omega (arith, level), omega (arith, level, one))
