@@ -17,7 +17,7 @@ use Rattle.region.specs.laws.Lists.{both_true}
 use Rattle.region.specs.laws.Narrowing.{guess_stays}
 use Rattle.region.specs.laws.Counts.{some_point}
 use Rattle.region.specs.laws.Rooted.{root_of, root_allows}
-use Rattle.refute_basic.specs.laws.Settled.{sound_law}
+use Rattle.refute_basic.specs.laws.Sound.{sound_law}
 use Rattle.kernel.specs.declared.types.Witness.{Witness}
 use Rattle.kernel.specs.declared.types.Witness.TheVariants.{Basic, Extra}
 use Rattle.kernel.specs.declared.types.Line.{Line}

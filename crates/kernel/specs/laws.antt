@@ -1,3 +1,4 @@
 pub mod NoExtra
 pub mod Pending
 pub mod Derives
+pub mod Fits

@@ -16,6 +16,3 @@ pub use log::Kernel;
 pub use no_extra::{NoExtra, NoWitness};
 pub use pending::Pending;
 pub use types::{Found, Line, StepFault, Verdict, Witness};
-
-#[cfg(test)]
-mod tests;

@@ -12,8 +12,6 @@ mod step;
 mod value;
 mod words;
 mod writer;
-#[cfg(test)]
-mod writer_tests;
 
 pub use entry::{Entry, EntryFault};
 pub use laws::spelling_is_determined;

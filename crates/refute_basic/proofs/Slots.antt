@@ -1,24 +1,20 @@
 -- The settled slots, one by one.
-use Rattle.std.specs.Prelude.{◌≡◌, ℕ, zero, suc, ◌+◌, ◌^◌, ◌<◌, ◌≤◌, ◌-ℤ◌, Bool, true, false, not, ◌&&◌, is_some, List, [], ◌∷◌, None, Some, map, length, slice_get, drop}
+use Rattle.std.specs.Prelude.{◌≡◌, ℕ, zero, suc, ◌+◌, ◌^◌, ◌<◌, ◌≤◌, ◌-ℤ◌, Bool, true, false, not, ◌&&◌, List, [], ◌∷◌, None, Some, map, length, slice_get, drop}
 use Rattle.std.specs.List.{list_all}
 use Rattle.std.proofs.Common.{refl, sym, ap, subst, ◌∙◌, arith, get_or, add-one}
 use Rattle.std.proofs.lemmas.Bool.{not-false}
 use Rattle.std.proofs.lemmas.List.{get_or_past}
 use Rattle.std.proofs.lemmas.Option.{slice_get_past, slice_get-get_or}
 use Rattle.sched_model.specs.declared.types.Constraint.{Constraint}
-use Rattle.sched_model.specs.declared.types.Expr.{Expr}
-use Rattle.sched_model.specs.declared.types.Expr.TheFolds.{fold-Expr}
-use Rattle.sched_model.specs.declared.types.Objective.{Objective}
 use Rattle.sched_model.specs.Data.{Data}
-use Rattle.sched_model.specs.Hull.{hull_of}
 use Rattle.sched_model.specs.Sentences.{holds}
-use Rattle.sched_model.specs.Valid.{IsValid, expr_step, is_expr, is_constraint}
+use Rattle.sched_model.specs.Valid.{IsValid}
 use Rattle.region.specs.Looks.{IsRegionOf, is_narrowed}
-use Rattle.region.specs.laws.Lists.{both_true, placewise-length}
+use Rattle.region.specs.laws.Lists.{placewise-length}
 use Rattle.sched_base.specs.declared.ids.Itv.{Itv}
 use Rattle.sched_model.specs.declared.types.Slot.{Slot}
 use Rattle.sched_model.specs.declared.types.Slot.TheVariants as slot
-use Rattle.sched_model.specs.Words.{◌implies◌, is_between, is_empty, passes, passes_if_any}
+use Rattle.sched_model.specs.Words.{◌implies◌, is_between, is_empty, passes}
 use Rattle.sched_model.specs.Value.{slot_of}
 use Rattle.region.specs.declared.types.Bounds.{Bounds}
 use Rattle.region.specs.declared.types.Presence.TheVariants as presence
@@ -53,12 +49,6 @@ as_many (b ∷ bs) = ap suc (as_many bs)
 pub absent_past : (r : Region) (x : Itv) → length r.bounds ≤ x.0 → slot.Absent ≡ slot_of (settled_alone r) x
 absent_past r x past = sym (get_or_past (map settled_slot r.bounds) x.0 slot.Absent (subst (λ n. n ≤ x.0) (sym (as_many r.bounds)) past))
 
--- what a valid model says of a constraint that is listed
-listed : {X : Type 0} → (p : X → Bool) (xs : List X) (i : ℕ) (x : X) → list_all p xs ≡ true → slice_get xs i ≡ Some x → p x ≡ true
-listed p [] i x h is = cc
-listed p (y ∷ ys) zero x h is = let same : y ≡ x = cc in subst (λ z. p z ≡ true) same (both_true (p y) (list_all p ys) h).0
-listed p (y ∷ ys) (suc i) x h is = listed p ys i x (both_true (p y) (list_all p ys) h).1 is
-
 pub same_count : (m : Data) (r : Region) → IsRegionOf m r → length m.intervals ≡ length r.bounds
 same_count m r of = placewise-length is_narrowed m.intervals r.bounds of.bounds
 
@@ -67,16 +57,6 @@ few_intervals m r valid of = omega (arith, (few_of m valid).0, same_count m r of
 
 pub few_constraints : (m : Data) → IsValid m → length m.constraints < 2 ^ 32
 few_constraints m valid = omega (arith, (few_of m valid).1)
-
-pub valid_at : (m : Data) (cs : List Constraint) (i : ℕ) (c : Constraint) → IsValid m → cs ≡ m.constraints → slice_get cs i ≡ Some c → is_constraint m c ≡ true
-valid_at m cs i c valid same is = listed (is_constraint m) cs i c (subst (λ xs. list_all (is_constraint m) xs ≡ true) (sym same) valid.constraints) is
-
-pub valid_objective : (m : Data) (o : Objective) → IsValid m → m.objective ≡ Some o → is_expr m o.expr ≡ true
-valid_objective m o valid is = subst (λ q. passes_if_any (λ p. is_expr m p.expr) q ≡ true) is valid.objective
-
--- a valid expression has a hull
-pub has_hull : (m : Data) (e : Expr) → is_expr m e ≡ true → is_some (hull_of m e) ≡ true
-has_hull m e h = (both_true (fold-Expr Bool (expr_step m) e) (is_some (hull_of m e)) h).1
 
 -- a constraint that is listed fails where it is found to
 pub failing_at : (m : Data) (r : Region) (cs : List Constraint) (u : ℕ) (c : Constraint) (b : Bool) → cs ≡ m.constraints → slice_get cs u ≡ Some c → b ≡ (is_leaf_constraint c && not (holds m (settled_alone r) c)) → b ≡ fails_at m r u

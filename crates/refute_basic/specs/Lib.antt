@@ -1,5 +1,9 @@
 pub mod Witness
 pub mod Served
+pub mod Size
+pub mod Expr
+pub mod Obj
 pub mod Leaf
 pub mod Basic
+pub mod Listed
 pub mod laws

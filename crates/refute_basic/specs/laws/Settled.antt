@@ -1,9 +1,7 @@
 -- LEAF leaves no better solution.
-use Rattle.std.specs.Prelude.{◌≡◌, ℕ, zero, suc, ℤ, ◌-ℤ◌, true, not, ◌&&◌, IsTrue, List, [], ◌∷◌, Option, Some, None, map, length, slice_get, All}
+use Rattle.std.specs.Prelude.{◌≡◌, ℕ, zero, suc, ℤ, true, not, ◌&&◌, IsTrue, List, [], ◌∷◌, Option, Some, None, map, slice_get, All}
 use Rattle.std.specs.List.{list_all}
-use Rattle.std.specs.Ordering.{int_eq}
-use Rattle.std.proofs.Common.{refl, sym, ap, subst, ◌∙◌, arith}
-use Rattle.std.proofs.lemmas.Int.{ints}
+use Rattle.std.proofs.Common.{refl, sym, ap, subst, ◌∙◌}
 use Rattle.std.proofs.lemmas.Bool.{true≢false, both_ways, not-true}
 use Rattle.std.proofs.lemmas.Option.{slice_get_within, get_or_from_slice_get}
 use Rattle.sched_model.specs.declared.types.IntervalDef.{IntervalDef}
@@ -11,13 +9,12 @@ use Rattle.sched_model.specs.declared.types.Assignment.{Assignment}
 use Rattle.sched_model.specs.declared.types.Constraint.{Constraint}
 use Rattle.sched_model.specs.declared.types.Constraint.TheVariants.{Temporal, Logic, Span, Alternative, Synchronize, NoOverlap, First, Last, Before, Prev, CumulIn, AlwaysEqual, AlwaysNoState}
 use Rattle.sched_model.specs.declared.types.Objective.{Objective}
-use Rattle.sched_model.specs.Words.{passes, is_between, placewise}
+use Rattle.sched_model.specs.Words.{passes, placewise}
 use Rattle.sched_model.specs.Data.{Data}
 use Rattle.sched_model.specs.Value.{value_of}
 use Rattle.sched_model.specs.Domain.{fits_def}
 use Rattle.sched_model.specs.Sentences.{Holds, holds}
 use Rattle.sched_model.specs.Solution.{IsSolution, is_better, beats}
-use Rattle.sched_model.specs.Valid.{IsValid}
 use Rattle.region.specs.declared.types.Presence.{Presence}
 use Rattle.region.specs.declared.types.Presence.TheVariants as presence
 use Rattle.region.specs.declared.types.Bounds.{Bounds}
@@ -25,11 +22,8 @@ use Rattle.region.specs.Cells.{Region, is_settled, settled_slot, settled_slots, 
 use Rattle.region.specs.Looks.{Seen, IsRegionOf, is_narrowed, HasNone}
 use Rattle.region.specs.laws.Lists.{both_true, true_both}
 use Rattle.region.specs.laws.Settling.{slots_fit, settled_slots_are}
-use Rattle.refute_basic.specs.declared.witness.BasicWitness.{BasicWitness}
-use Rattle.refute_basic.specs.declared.witness.BasicWitness.TheVariants.{Leaf}
-use Rattle.refute_basic.specs.Witness.{is_valid}
+use Rattle.region.specs.laws.Standing.{least_is, greatest_is}
 use Rattle.refute_basic.specs.Leaf.{is_leaf_constraint, settled_alone, has_size, all_sized, fails_at, is_no_better, leaf_case, leaf_row}
-use Rattle.refute_basic.specs.Basic.{refutes, row_of}
 use Rattle.refute_basic.specs.laws.SameSlots.{value_same, holds_same}
 
 -- a solution that a settled region of its model allows has the settled slots
@@ -38,18 +32,10 @@ slots_settled m r a of settled solution allows = settled_slots_are m r a settled
 
 -- its sizes are in their ranges
 sized_slot : (p : Presence) (d : IntervalDef) (a b e f lo hi : ℤ)
-    → let c : Bounds = record { presence = p; smin = a; smax = b; emin = e; emax = f; pmin = lo; pmax = hi } in int_eq d.size_lo lo ≡ true → int_eq d.size_hi hi ≡ true → fits_def d (settled_slot c) ≡ true → has_size c ≡ true
+    → let c : Bounds = record { presence = p; smin = a; smax = b; emin = e; emax = f; pmin = lo; pmax = hi } in d.size_lo ≡ lo → d.size_hi ≡ hi → fits_def d (settled_slot c) ≡ true → has_size c ≡ true
 sized_slot presence.Absent d a b e f lo hi h k fits = refl
 sized_slot presence.Maybe d a b e f lo hi h k fits = refl
-sized_slot presence.Present d a b e f lo hi h k fits = ranges d.size_lo d.size_hi lo hi (e -ℤ a) h k (both_true _ _ fits).1
-  where
-    ranges : (l h lo hi z : ℤ) → int_eq l lo ≡ true → int_eq h hi ≡ true → is_between l h z ≡ true → is_between lo hi z ≡ true
-    ranges l h lo hi z i j k = grind (arith, ints)
-
-sizes_of : (d : IntervalDef) (c : Bounds) → is_narrowed d c ≡ true → (int_eq d.size_lo c.pmin ≡ true) × (int_eq d.size_hi c.pmax ≡ true)
-sizes_of d c h =
-    let two = both_true _ (int_eq d.size_hi c.pmax) h in
-    ((both_true _ (int_eq d.size_lo c.pmin) two.0).1, two.1)
+sized_slot presence.Present d a b e f lo hi h k fits = rw (sym h, sym k) (both_true _ _ fits).1
 
 fits_settled : (ds : List IntervalDef) (bs : List Bounds) → placewise is_narrowed ds bs ≡ true → placewise fits_def ds (map settled_slot bs) ≡ true → list_all has_size bs ≡ true
 fits_settled [] [] h k = refl
@@ -58,8 +44,7 @@ fits_settled [] (b ∷ bs) h k = cc
 fits_settled (d ∷ ds) (b ∷ bs) h k =
     let first = both_true (is_narrowed d b) (placewise is_narrowed ds bs) h in
     let second = both_true (fits_def d (settled_slot b)) (placewise fits_def ds (map settled_slot bs)) k in
-    let sizes = sizes_of d b first.0 in
-    true_both (has_size b) (list_all has_size bs) (sized_slot b.presence d b.smin b.smax b.emin b.emax b.pmin b.pmax sizes.0 sizes.1 second.0) (fits_settled ds bs first.1 second.1)
+    true_both (has_size b) (list_all has_size bs) (sized_slot b.presence d b.smin b.smax b.emin b.emax b.pmin b.pmax (least_is d b first.0) (greatest_is d b first.0) second.0) (fits_settled ds bs first.1 second.1)
 
 -- so no interval has a wrong one
 none_unsized : (bs : List Bounds) (n : ℕ) → list_all has_size bs ≡ true → passes (λ c. not (has_size c)) (slice_get bs n) ≡ true → ⊥
@@ -118,6 +103,3 @@ leaf_sound m l k u of h a solution better allows =
     let same = slots_settled m l.region a of two.0 solution allows in
     let fit : placewise fits_def m.intervals (settled_slots l.region) ≡ true = subst (λ ss. placewise fits_def m.intervals ss ≡ true) same (slots_fit m a solution.domain) in
     refuted_case m l a k u solution better same (fits_settled m.intervals l.region.bounds of.bounds fit) two.1
-
-pub sound_law : (m : Data) (l : Seen) (w : BasicWitness) → IsValid m → IsRegionOf m l.region → IsTrue (refutes m l w) → HasNone m l
-sound_law m l (Leaf k u) valid of h = leaf_sound m l k u of (both_true (is_valid (Leaf k u)) (row_of m l (Leaf k u)) h).1

@@ -8,26 +8,57 @@ use Rattle.region.specs.Looks.{Seen}
 use Rattle.region.specs.Spelled.{AreSmall}
 use Rattle.region.specs.laws.Lists.{both_true}
 use Rattle.refute_basic.specs.declared.witness.BasicWitness.{BasicWitness}
-use Rattle.refute_basic.specs.declared.witness.BasicWitness.TheVariants.{Leaf}
+use Rattle.refute_basic.specs.declared.witness.BasicWitness.TheVariants.{Size, Expr, Obj, Leaf}
 use Rattle.refute_basic.specs.Witness.{numbers_of, is_number, is_valid}
 use Rattle.refute_basic.specs.Basic.{refutes, row_of}
 
 pub few_numbers : (w : BasicWitness) → IsTrue (is_valid w) → length (numbers_of w) < 2 ^ 32
+few_numbers (Size x) h = omega arith
+few_numbers (Expr c) h = omega arith
+few_numbers Obj h = omega arith
 few_numbers (Leaf k u) h = omega arith
 
 small_number : (n : ℕ) → is_number n ≡ true → is_small (pos n) ≡ true
 small_number n h = grind (arith, ints)
 
+-- one number behind the place of the kind, and two
+one_small : (p n : ℕ) → is_number p ≡ true → is_number n ≡ true → AreSmall (pos p ∷ pos n ∷ [])
+one_small p n place first zero d within = small_number p place
+one_small p n place first (suc zero) d within = small_number n first
+one_small p n place first (suc (suc i)) d within = absurd (omega (arith, within))
+
+two_small : (p n k : ℕ) → is_number p ≡ true → is_number n ≡ true → is_number k ≡ true → AreSmall (pos p ∷ pos n ∷ pos k ∷ [])
+two_small p n k place first second zero d within = small_number p place
+two_small p n k place first second (suc zero) d within = small_number n first
+two_small p n k place first second (suc (suc zero)) d within = small_number k second
+two_small p n k place first second (suc (suc (suc i))) d within = absurd (omega (arith, within))
+
+none_small : (p : ℕ) → is_number p ≡ true → AreSmall (pos p ∷ [])
+none_small p place zero d within = small_number p place
+none_small p place (suc i) d within = absurd (omega (arith, within))
+
 pub small_numbers : (w : BasicWitness) → IsTrue (is_valid w) → AreSmall (numbers_of w)
-small_numbers (Leaf k u) h = let two = both_true (is_number k) (is_number u) h in at k u two.0 two.1
-  where
-    at : (k u : ℕ) → is_number k ≡ true → is_number u ≡ true → AreSmall (pos 5 ∷ pos k ∷ pos u ∷ [])
-    at k u first second zero d within = refl
-    at k u first second (suc zero) d within = small_number k first
-    at k u first second (suc (suc zero)) d within = small_number u second
-    at k u first second (suc (suc (suc n))) d within = absurd (omega (arith, within))
+small_numbers (Size x) h = one_small 0 x refl h
+small_numbers (Expr c) h = one_small 3 c refl h
+small_numbers Obj h = none_small 4 refl
+small_numbers (Leaf k u) h = let two = both_true (is_number k) (is_number u) h in two_small 5 k u refl two.0 two.1
 
 pub told_apart : (v w : BasicWitness) → IsTrue (is_valid v) → IsTrue (is_valid w) → numbers_of v ≡ numbers_of w → v ≡ w
+told_apart (Size x) (Size x') hv hw same = cc
+told_apart (Size x) (Expr c') hv hw same = cc
+told_apart (Size x) Obj hv hw same = cc
+told_apart (Size x) (Leaf k' u') hv hw same = cc
+told_apart (Expr c) (Size x') hv hw same = cc
+told_apart (Expr c) (Expr c') hv hw same = cc
+told_apart (Expr c) Obj hv hw same = cc
+told_apart (Expr c) (Leaf k' u') hv hw same = cc
+told_apart Obj (Size x') hv hw same = cc
+told_apart Obj (Expr c') hv hw same = cc
+told_apart Obj Obj hv hw same = refl
+told_apart Obj (Leaf k' u') hv hw same = cc
+told_apart (Leaf k u) (Size x') hv hw same = cc
+told_apart (Leaf k u) (Expr c') hv hw same = cc
+told_apart (Leaf k u) Obj hv hw same = cc
 told_apart (Leaf k u) (Leaf k' u') hv hw same = cc
 
 pub refuting_valid : (m : Data) (l : Seen) (w : BasicWitness) → IsTrue (refutes m l w) → IsTrue (is_valid w)

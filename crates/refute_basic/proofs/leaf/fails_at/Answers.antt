@@ -1,6 +1,7 @@
 use Rattle.std.proofs.Common.{sym}
 use Rattle.refute_basic.specs.laws.Fits.{settled_fits}
-use Rattle.refute_basic.proofs.Slots.{valid_at, failing_at}
+use Rattle.sched_model.specs.laws.Listed.{valid_at}
+use Rattle.refute_basic.proofs.Slots.{failing_at}
 use Rattle.refute_basic.proofs.leaf.fails_at.Goals as goal
 
 pub fails-requires-clause-valid : goal.fails-requires-clause-valid

@@ -1,0 +1,4 @@
+pub mod LookHull
+pub mod Saturated
+pub mod Known
+pub mod laws
