@@ -1,0 +1,6 @@
+mod Noting
+mod Waking
+mod Turning
+mod Leading
+mod Settled
+mod Counting

@@ -1,0 +1,17 @@
+//! Propagators, and the engine that runs them until none finds anything.
+#![tactic(auto)]
+
+mod both;
+mod engine;
+mod late;
+mod lines;
+mod propagator;
+mod stops;
+mod turns;
+mod watchers;
+
+pub use both::Both;
+pub use engine::Engine;
+pub use lines::Lines;
+pub use propagator::Propagator;
+pub use stops::{EngineFault, Stop};

@@ -1,0 +1,71 @@
+use findings::Finding;
+use kernel::{NoWitness, Witness};
+use region::Region;
+use sched_base::{Itv, NoMemory, Seq};
+use sched_model::Model;
+
+/// Propagators of one model, by number.
+pub trait Propagator: Drop {
+    ghost use Rattle.std.specs.Prelude.{◌≡◌, ◌<◌, ℕ, ℤ, Bool, IsTrue, Option, IfOk, IfSome, IfNone};
+    ghost use Rattle.sched_model.specs.Data.{Data};
+    ghost use Rattle.region.specs.Cells.{Region as Cells};
+    ghost use Rattle.region.specs.declared.types.CellName.{CellName};
+    ghost use Rattle.region.specs.Guesses.{SameCell};
+    ghost use Rattle.region.specs.Looks.{IsRegionOf};
+    ghost use Rattle.findings.specs.Found.{IsFinding};
+    ghost use Rattle.engine.specs.Plain.{refutes_plain};
+    ghost use Rattle.engine.specs.Watched.{names_cell, names_order};
+
+    /// What it is to be made for a model, and how many there are then.
+    ghost is_of: { Self → Data → Type 0 };
+
+    ghost size: { Data → ℕ };
+
+    /// Whether one of them is quiet for a region and a best value.
+    ghost quiet: { Data → ℕ → Cells → Option ℤ → Type 0 };
+
+    /// What each watches.
+    ghost watching: { Data → ℕ → CellName → Bool };
+
+    ghost watching_best: { Data → ℕ → Bool };
+
+    /// How many there are.
+    fn count(&self) -> u32
+        ensures { (m : Data) → is_of self.now m → result ≡ size m };
+
+    /// What one of them finds; nothing exactly where it is quiet.
+    fn next(
+        &mut self,
+        k: u32,
+        model: &Model,
+        region: &Region,
+        best: Option<i64>,
+    ) -> Result<Option<Finding<Witness<NoWitness>>>, NoMemory>
+        requires of { is_of self.old model.now }
+        requires below { k < size model.now }
+        requires region { IsRegionOf model.now region.now.region }
+        ensures kept { (m : Data) → is_of self.old m → is_of self.new m }
+        ensures none { IfOk result (λ o. IfNone o (quiet model.now k region.now.region best)) }
+        ensures some { IfOk result (λ o. IfSome o (λ f. IsFinding refutes_plain model.now region.now.region best f)) }
+        ensures busy { IfOk result (λ o. IfSome o (λ f. quiet model.now k region.now.region best → ⊥)) };
+
+    /// The intervals that have a cell which it watches, and perhaps others.
+    fn watched(&self, k: u32) -> &[Itv]
+        requires { (m : Data) × is_of self.now m × (k < size m) }
+        ensures { (m : Data) → is_of self.now m → (c : CellName) → IsTrue (watching m k c) → names_cell result.now c };
+
+    /// The sequences that have an order which it watches, and perhaps others.
+    fn watched_orders(&self, k: u32) -> &[Seq]
+        requires { (m : Data) × is_of self.now m × (k < size m) }
+        ensures { (m : Data) → is_of self.now m → (c : CellName) → IsTrue (watching m k c) → names_order result.now c };
+
+    /// Whether it watches the best value.
+    fn watches_best(&self, k: u32) -> bool
+        ensures { (m : Data) → is_of self.now m → result ≡ watching_best m k };
+
+    /// The level on which it is woken; nothing hangs on it.
+    fn level(&self, k: u32) -> u8;
+
+    /// Quiet stays quiet where what is watched is the same.
+    ghost unwatched: { (m : Data) (k : ℕ) (r q : Cells) (b c : Option ℤ) → IsRegionOf m r → IsRegionOf m q → ((cell : CellName) → IsTrue (watching m k cell) → SameCell cell r q) → (IsTrue (watching_best m k) → b ≡ c) → quiet m k r b → quiet m k q c };
+}

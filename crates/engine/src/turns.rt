@@ -1,0 +1,54 @@
+//! Whose turn it is, and what it finds.
+ghost use Rattle.std.specs.Prelude.{◌≡◌, ◌<◌, false, ℕ, IfOk, IfSome, IfNone};
+ghost use Rattle.region.specs.Looks.{IsRegionOf};
+ghost use Rattle.findings.specs.Found.{IsFinding};
+ghost use Rattle.wake_levels.specs.Waking.{is_awake};
+ghost use Rattle.wake_levels.specs.Calm.{IsCalm};
+ghost use Rattle.engine.specs.Plain.{refutes_plain};
+
+use crate::late::is_late;
+use crate::propagator::Propagator;
+use findings::Finding;
+use kernel::{NoWitness, Witness};
+use region::Region;
+use sched_base::NoMemory;
+use sched_model::Model;
+use wake_levels::WakeLevels;
+
+/// Asks those that are awake, the most urgent first, until one finds something; nothing once none is
+/// awake. Whoever finds nothing leaves its level. What is late is asked again on the last level.
+/// Whoever found what is answered stays the first of its level.
+pub fn find<P: Propagator>(
+    propagators: &mut P,
+    levels: &mut WakeLevels,
+    model: &Model,
+    region: &Region,
+    best: Option<i64>,
+) -> Result<Option<Finding<Witness<NoWitness>>>, NoMemory>
+    requires of { P.is_of propagators.old model.now }
+    requires region { IsRegionOf model.now region.now.region }
+    requires calm { IsCalm (P.size model.now) (λ k. P.quiet model.now k region.now.region best) levels.old }
+    ensures of { P.is_of propagators.new model.now }
+    ensures below { levels.new.below ≡ levels.old.below }
+    ensures calm { IsCalm (P.size model.now) (λ k. P.quiet model.now k region.now.region best) levels.new }
+    ensures none { IfOk result (λ o. IfNone o ((k : ℕ) → k < P.size model.now → P.quiet model.now k region.now.region best)) }
+    ensures asleep { IfOk result (λ o. IfNone o ((k : ℕ) → is_awake levels.new k ≡ false)) }
+    ensures some { IfOk result (λ o. IfSome o (λ f. IsFinding refutes_plain model.now region.now.region best f)) }
+{
+    let last = levels.levels() - 1;
+    'awake: loop {
+        let Some(turn) = levels.first() else {
+            return Ok(None);
+        };
+        let Some(f) = propagators.next(turn.k, model, region, best)? else {
+            levels.drop_first();
+            continue;
+        };
+        if turn.level < last && is_late(region, &f) {
+            levels.drop_first();
+            levels.wake(turn.k, last);
+            continue;
+        }
+        return Ok(Some(f));
+    }
+}

@@ -1,0 +1,5 @@
+pub mod Growing
+pub mod Placing
+pub mod Meant
+pub mod Found
+pub mod Whole

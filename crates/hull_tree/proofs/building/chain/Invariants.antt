@@ -1,0 +1,10 @@
+use Rattle.hull_tree.specs.Nodes.{AreNodes, Grown}
+use Rattle.hull_tree.specs.Meaning.{IsProductFrom}
+use Rattle.hull_tree.proofs.building.chain.Given as goal
+
+abbrev pub invariant-loop-x : goal.invariant-loop-x
+invariant-loop-x l = record {
+  nodes : AreNodes l.nodes.items l.firsts.items;
+  grown : Grown l.initial.nodes.items l.nodes.items;
+  product : IsProductFrom l.nodes.items l.list l.x-index l.so_far;
+}

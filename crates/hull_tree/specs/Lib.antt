@@ -1,0 +1,5 @@
+pub mod Nodes
+pub mod Meaning
+pub mod Atoms
+pub mod Trees
+pub mod laws

@@ -1,0 +1,154 @@
+//! The look hull of one expression, kept.
+ghost use Rattle.std.specs.Prelude.{◌≡◌, length, IfOk, IsTrue, is_some};
+ghost use Rattle.sched_model.specs.declared.types.Expr.{Expr};
+ghost use Rattle.sched_model.specs.Hull.{hull_of};
+ghost use Rattle.sched_model.specs.Words.{passes_if_any};
+ghost use Rattle.region.specs.Guesses.{admits, looked_at, topic};
+ghost use Rattle.region.specs.Looks.{IsRegionOf};
+ghost use Rattle.look_hull.specs.LookHull.{look_hull};
+ghost use Rattle.hull_tree.specs.Nodes.{DifferAt};
+ghost use Rattle.hull_tree.specs.Trees.{IsTreeOf, IsEvaluated, IsRootRange, changed};
+
+use crate::atoms::{Atom, atoms_of, intervals_of};
+use crate::building::build;
+use crate::combine::{Ends, narrowed};
+use crate::nodes::Node;
+use crate::walk::{Kept, evaluate, under};
+use region::{Guess, Look, Region};
+use sched_base::{Itv, NoMemory};
+use sched_model::{Expr, Model};
+use std::alloc::Global;
+
+/// An expression as nodes, and the range of each node in the region that was evaluated last.
+#[derive(Debug, Drop)]
+pub struct HullTree {
+    nodes: Vec<Node>,
+    firsts: Vec<u32>,
+    root: u32,
+    atoms: Vec<Atom>,
+    intervals: Vec<Itv>,
+    ends: Vec<Ends>,
+}
+
+impl std::marker::Model for HullTree {
+    ghost use Rattle.hull_tree.specs.Trees.{Tree, IsTree};
+
+    ghost Value = { Tree };
+
+    ghost view = { λ t. record { nodes = t.nodes.items; root = t.root; intervals = t.intervals.items; ends = t.ends.items } };
+
+    ghost invariant = { λ t. IsTree t.nodes.items t.firsts.items t.root t.atoms.items t.ends.items };
+}
+
+/// A range for each node.
+fn room(alloc: Global, n: usize) -> Result<Vec<Ends>, NoMemory>
+    ensures { IfOk result (λ v. length v.items ≡ n) }
+{
+    let mut ends = Vec::new(alloc);
+    ends.resize(n, (0, 0))?;
+    Ok(ends)
+}
+
+/// The two intervals whose bounds a guess changes; one and the same for a guess on an interval.
+fn changed(guess: Guess) -> (Itv, Itv)
+    ensures { result ≡ changed (topic guess) }
+{
+    match guess {
+        Guess::Present(x) => (x, x),
+        Guess::Absent(x) => (x, x),
+        Guess::StartLe(x, _) => (x, x),
+        Guess::StartGe(x, _) => (x, x),
+        Guess::EndLe(x, _) => (x, x),
+        Guess::EndGe(x, _) => (x, x),
+        Guess::Before(_, x, y) => (x, y),
+    }
+}
+
+impl HullTree {
+    /// The tree of an expression. Only this call asks for memory, as much as the expression has nodes.
+    pub fn new(alloc: Global, e: &Expr) -> Result<HullTree, NoMemory>
+        ensures { IfOk result (IsTreeOf e.now) }
+    {
+        let mut nodes = Vec::new(alloc);
+        let mut firsts = Vec::new(alloc);
+        let root = build(alloc, &mut nodes, &mut firsts, e)?;
+        let atoms = atoms_of(alloc, nodes.as_slice())?;
+        let intervals = intervals_of(alloc, atoms.as_slice())?;
+        let ends = room(alloc, nodes.len())?;
+        Ok(HullTree {
+            nodes,
+            firsts,
+            root,
+            atoms,
+            intervals,
+            ends,
+        })
+    }
+
+    /// The intervals that the expression names, each once.
+    pub fn intervals(&self) -> &[Itv]
+        ensures { result.now ≡ self.now.intervals }
+    {
+        self.intervals.as_slice()
+    }
+
+    /// Evaluates the expression in a region, in the time of its nodes.
+    pub fn evaluate(&mut self, model: &Model, region: &Region)
+        requires of { IsRegionOf model.now region.now.region }
+        ensures evaluated { IsEvaluated model.now region.now.region self.new }
+        ensures intervals { self.new.intervals ≡ self.old.intervals }
+        ensures kept { (e : Expr) → IsTreeOf e self.old → IsTreeOf e self.new }
+    {
+        let look = region.look(None, None);
+        evaluate(
+            model,
+            &look,
+            self.nodes.as_slice(),
+            self.firsts.as_slice(),
+            self.ends.as_mut_slice(),
+        );
+    }
+
+    /// The range of the root in a look that tells the same but of two intervals.
+    fn root_under(&self, model: &Model, look: &Look<'_>, x: Itv, y: Itv) -> Ends
+        requires of { IsRegionOf model.now look.now.region }
+        requires differ { DifferAt model.now self.now.nodes x y self.now.ends look.now.region }
+        ensures { IsRootRange model.now self.now look.now.region result }
+    {
+        let kept = Kept {
+            nodes: self.nodes.as_slice(),
+            firsts: self.firsts.as_slice(),
+            atoms: self.atoms.as_slice(),
+            ends: self.ends.as_slice(),
+        };
+        under(model, look, &kept, x, y, self.root)
+    }
+
+    fn root_ends(&self, model: &Model, region: &Region, guess: Option<Guess>) -> Ends
+        requires of { IsRegionOf model.now region.now.region }
+        requires evaluated { IsEvaluated model.now region.now.region self.now }
+        requires admitted { IsTrue (passes_if_any (admits region.now.region) guess) }
+        ensures { IsRootRange model.now self.now (looked_at guess region.now.region) result }
+    {
+        match guess {
+            None => self.ends[self.root as usize],
+            Some(g) => {
+                let (x, y) = changed(g);
+                self.root_under(model, &region.look(guess, None), x, y)
+            }
+        }
+    }
+
+    /// The range of the expression in the region that was evaluated last, under a guess or as it
+    /// stands: what interval arithmetic makes of it. Under a guess it costs the way from the root to
+    /// what tells of the guess's interval, and as it stands nothing.
+    pub fn range(&self, model: &Model, region: &Region, guess: Option<Guess>) -> (i64, i64)
+        requires of { IsRegionOf model.now region.now.region }
+        requires evaluated { IsEvaluated model.now region.now.region self.now }
+        requires admitted { IsTrue (passes_if_any (admits region.now.region) guess) }
+        ensures { (e : Expr) → IsTreeOf e self.now → IsTrue (is_some (hull_of model.now e)) → result ≡ look_hull model.now (looked_at guess region.now.region) e }
+    {
+        let _ = model.intervals();
+        narrowed(self.root_ends(model, region, guess))
+    }
+}

@@ -1,0 +1,5 @@
+pub mod Tasks
+pub mod Tables
+pub mod Ready
+pub mod Goals
+pub mod laws

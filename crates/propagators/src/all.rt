@@ -1,0 +1,32 @@
+ghost use Rattle.std.specs.Prelude.{ℤ, Option, IfOk};
+ghost use Rattle.sched_model.specs.Data.{Data};
+ghost use Rattle.region.specs.Cells.{Region};
+ghost use Rattle.region.specs.Looks.{IsRegionOf};
+ghost use Rattle.engine.specs.Engines.{IsFor, AreQuiet, AreAwake};
+ghost use Rattle.propagators.specs.Quiet.{IsQuietRegion};
+
+use crate::basic::FromBasic;
+use engine::{Engine, Propagator};
+use prop_basic::PropBasic;
+use sched_base::NoMemory;
+use sched_model::Model;
+use std::alloc::Global;
+
+/// All propagators. A further crate of propagators is joined to these by `engine::Both`.
+pub type All = FromBasic;
+
+/// The engine over all propagators of a model, each of them awake.
+pub fn start(alloc: Global, model: &Model) -> Result<Engine<All>, NoMemory>
+    ensures made { IfOk result (IsFor ⟦<All as Propagator>⟧ model.now) }
+    ensures awake { IfOk result (AreAwake ⟦<All as Propagator>⟧ model.now) }
+{
+    let basic = FromBasic(PropBasic::new(alloc, model)?);
+    Engine::new(alloc, basic, model)
+}
+
+/// Where all propagators are quiet, the region is: whatever witness of a kind that derives refutes
+/// it, or refutes it under an open end guess that the witness's row lists, has a propagator that
+/// finds this.
+pub fn covers()
+    ensures { (m : Data) (r : Region) (best : Option ℤ) → IsRegionOf m r → AreQuiet ⟦<All as Propagator>⟧ m r best → IsQuietRegion m r best }
+{}
