@@ -1,8 +1,1 @@
-pub mod CheckText
-pub mod Ended
-pub mod LastSchedule
 pub mod Real
-pub mod Runs
-pub mod Stops
-pub mod Told
-pub mod Tries

@@ -2,31 +2,12 @@
 //! streams, and ends with the status of the ending.
 #![tactic(auto)]
 
-mod accepted;
-mod checking;
-mod ended;
-mod load;
 mod real;
-mod report;
-#[cfg(test)]
-mod row_tests;
-mod run;
-mod showing;
-mod solving;
-mod stop;
 mod streams;
-#[cfg(test)]
-mod tests;
-#[cfg(test)]
-mod told;
-#[cfg(test)]
-mod word_tests;
 mod words;
 
-pub use ended::Ended;
-pub use real::RealDesk;
-pub use run::run;
-pub use solver::solve;
+use commands::run;
+use real::RealDesk;
 use std::process::ExitCode;
 
 fn main(rt: HostRuntime) -> ExitCode {

@@ -1,6 +1,6 @@
 -- The answer says what the log has shown.
 use Rattle.std.proofs.Common.{◌≡◌, ℕ, ℤ, Bool, true, false, List, [], ◌∷◌, Option, Some, None, refl, sym, ap, subst, ◌∙◌}
-use Rattle.std.specs.Prelude.{option_map, option_to_list, ◌++◌, if◌then◌else◌}
+use Rattle.std.specs.Prelude.{option_map, option_to_list, is_some, IfSome, ◌++◌, ◌≤◌, not, if◌then◌else◌}
 use Rattle.sched_base.specs.State.{State}
 use Rattle.sched_base.specs.Calls.{appended}
 use Rattle.sched_model.specs.declared.types.Assignment.{Assignment}
@@ -16,7 +16,9 @@ use Rattle.kernel.specs.Steps.{LogState, open_regions, best_of, closed_verdict, 
 use Rattle.logtext.specs.Logs.{PlainLine, plain_log}
 use Rattle.solver.specs.Answers.{IsAnswer, verdict_in, shown_in, is_unfinished, IfFound as IfValued}
 use Rattle.solver.specs.Solving.{Solves}
-use Rattle.solver.specs.Searching.{IsBetween, IsSearchLog, IsEnded, valued, best_answer, closed_answer, answer_from}
+use Rattle.engine.specs.declared.propagator.Propagator.{Ghosts}
+use Rattle.solver.specs.declared.state.Search.{Search}
+use Rattle.solver.specs.Searching.{IsSearchLog, IsReady, HasValue, state_in, valued, best_answer, closed_answer, answer_from}
 
 -- what has no value has no objective
 no_objective : (o : Option Objective) (value : Objective → ℤ) → option_map value o ≡ None → o ≡ None
@@ -39,14 +41,6 @@ best_shows (Some v) a = (refl, refl, refl)
 closed_shows : (found : Option Found) → (closed_verdict found ≡ verdict_in (closed_answer found)) × (option_map (λ f. f.assignment) found ≡ shown_in (closed_answer found)) × (is_unfinished (closed_answer found) ≡ false)
 closed_shows None = (refl, refl, refl)
 closed_shows (Some f) = best_shows f.value f.assignment
-
-from_best : (v : Option ℤ) (found : Option Found) → answer_from (best_verdict v) found ≡ closed_answer found
-from_best None found = refl
-from_best (Some v) found = refl
-
-from_closed : (found : Option Found) → answer_from (closed_verdict found) found ≡ closed_answer found
-from_closed None = refl
-from_closed (Some f) = from_best f.value (Some f)
 
 -- with one that isn't
 value_is : (m : Data) (f : Found) (v : Option ℤ) → f.value ≡ v → IsFound m f → IfValued m (option_map (λ (v : ℤ). (v, f.assignment)) v)
@@ -87,41 +81,76 @@ some_left : (rs : List Region) → is_empty rs ≡ false → rs ≡ [] → ⊥
 some_left [] h k = cc
 some_left (r ∷ rs) h k = cc
 
-by_waiting : (m : Data) (limit : ℕ) (s : LogState) (solved : Solved) (b : Bool) → IsBetween m s → IsEnded limit s → is_empty (open_regions s) ≡ b → open_regions s ≡ s.waiting
-    → Means m (if b then closed_verdict s.found else Unclosed (best_of s.found)) → solved.answer ≡ answer_from (if b then closed_verdict s.found else Unclosed (best_of s.found)) s.found → Shows m limit s solved
-by_waiting m limit s solved true between ended is waits means same =
-    let answer = same ∙ from_closed s.found in
+-- how the search ended: whether a region is left, and how many nodes were opened
+pub record Ended (limit : ℕ) (more : Bool) (s : LogState) : Type 0 where
+  pub closed : s.current ≡ None
+  pub none : more ≡ false → s.waiting ≡ []
+  pub some : more ≡ true → s.waiting ≡ [] → ⊥
+  pub few : s.nodes ≤ limit
+  pub limited : more ≡ true → s.nodes ≡ limit
+  pub valued : more ≡ true → (f : Found) → s.found ≡ Some f → f.value ≡ None → ⊥
+
+by_more : (m : Data) (limit : ℕ) (s : LogState) (solved : Solved) (more : Bool) → Ended limit more s → IfFound m s.found → is_empty (open_regions s) ≡ not more
+    → Means m (if not more then closed_verdict s.found else Unclosed (best_of s.found)) → solved.answer ≡ answer_from more s.found → Shows m limit s solved
+by_more m limit s solved false ended found is means same =
     let shows = closed_shows s.found in
     record {
-      verdict = ap (λ b. if b then closed_verdict s.found else Unclosed (best_of s.found)) is ∙ shows.0 ∙ ap verdict_in (sym answer);
-      shown = shows.1 ∙ ap shown_in (sym answer);
-      limited = λ h. not_false _ shows.2 (sym (ap is_unfinished answer) ∙ h);
-      answer = subst (IsAnswer m) (sym answer) (closed_is m s.found between.ready.loses_nothing.found_is means);
+      verdict = ap (λ b. if b then closed_verdict s.found else Unclosed (best_of s.found)) is ∙ shows.0 ∙ ap verdict_in (sym same);
+      shown = shows.1 ∙ ap shown_in (sym same);
+      limited = λ h. not_false _ shows.2 (sym (ap is_unfinished same) ∙ h);
+      answer = subst (IsAnswer m) (sym same) (closed_is m s.found found means);
     }
-by_waiting m limit s solved false between ended is waits means same =
-    let left : s.waiting ≡ [] → ⊥ = some_left s.waiting (sym (ap is_empty waits) ∙ is) in
+by_more m limit s solved true ended found is means same =
     record {
       verdict = ap (λ b. if b then closed_verdict s.found else Unclosed (best_of s.found)) is ∙ ap Unclosed (valued_best s.found) ∙ ap verdict_in (sym same);
-      shown = valued_shows s.found (λ f here none. left (between.last f here none)) ∙ ap shown_in (sym same);
-      limited = λ h. ended.limited left;
-      answer = subst (IsAnswer m) (sym same) (valued_is m s.found between.ready.loses_nothing.found_is);
+      shown = valued_shows s.found (ended.valued refl) ∙ ap shown_in (sym same);
+      limited = λ h. ended.limited refl;
+      answer = subst (IsAnswer m) (sym same) (valued_is m s.found found);
     }
 
 only_waiting : (s : LogState) → s.current ≡ None → open_regions s ≡ s.waiting
 only_waiting s closed = ap (λ c. option_to_list c ++ s.waiting) closed
 
-pub shows : (m : Data) (limit : ℕ) (s : LogState) (solved : Solved) → IsBetween m s → IsEnded limit s → Means m (verdict_of s) → solved.answer ≡ answer_from (verdict_of s) s.found → Shows m limit s solved
-shows m limit s solved between ended means same =
-    by_waiting m limit s solved (is_empty (open_regions s)) between ended refl (only_waiting s between.closed) means same
+not_empty : (rs : List Region) → (rs ≡ [] → ⊥) → is_empty rs ≡ false
+not_empty [] some = absurd (some refl)
+not_empty (r ∷ rs) some = refl
+
+empty_is : (limit : ℕ) (more : Bool) (s : LogState) → Ended limit more s → is_empty s.waiting ≡ not more
+empty_is limit false s ended = ap is_empty (ended.none refl)
+empty_is limit true s ended = not_empty s.waiting (ended.some refl)
+
+pub shows : (m : Data) (limit : ℕ) (more : Bool) (s : LogState) (solved : Solved) → Ended limit more s → IfFound m s.found → Means m (verdict_of s) → solved.answer ≡ answer_from more s.found → Shows m limit s solved
+shows m limit more s solved ended found means same =
+    let is : is_empty (open_regions s) ≡ not more = ap is_empty (only_waiting s ended.closed) ∙ empty_is limit more s ended in
+    by_more m limit s solved more ended found is (subst (λ b. Means m (if b then closed_verdict s.found else Unclosed (best_of s.found))) is means) same
+
+has_value : (m : Data) (found : Option Found) (f : Found) → IfSome found (HasValue m) → found ≡ Some f → f.value ≡ None → ⊥
+has_value m None f has is none = cc
+has_value m (Some k) f has is none = let same : k ≡ f = cc in no_value (ap (λ (x : Found). x.value) same ∙ none) has.some
+  where
+    no_value : {v : Option ℤ} → v ≡ None → is_some v ≡ true → ⊥
+    no_value h some = cc
+
+-- of what a search holds
+pub ended_is : {P : Type 0} (p : Ghosts P) (m : Data) (limit : ℕ) (more : Bool) (s : Search P) → s.nodes ≤ limit → (more ≡ true → s.nodes ≡ limit) → (more ≡ true → IsReady p m s) → Ended limit more (state_in more s)
+ended_is p m limit false s few limited ready = record { closed = refl; none = λ h. refl; some = λ h k. cc; few = few; limited = limited; valued = λ h f is none. cc }
+ended_is p m limit true s few limited ready = record {
+  closed = refl;
+  none = λ h. cc;
+  some = λ h k. cc;
+  few = few;
+  limited = limited;
+  valued = λ h f is none. has_value m s.found f (ready refl).holding.valued is none;
+}
 
 -- the whole log was written
-pub solved_with : (m : Data) (limit : ℕ) (s : LogState) (solved : Solved) (old new : State) → IsBetween m s → IsEnded limit s → Means m (verdict_of s) → solved.nodes ≡ s.nodes → solved.answer ≡ answer_from (verdict_of s) s.found
-    → (lines : List PlainLine) × IsSearchLog m lines s × (new ≡ record old { logged = appended (plain_log lines) old.logged }) → Solves m limit solved old new
-solved_with m limit s solved old new between ended means nodes same written =
-    let says = shows m limit s solved between ended means same in
+pub solved_with : (m : Data) (limit : ℕ) (more : Bool) (s : LogState) (lines : List PlainLine) (solved : Solved) (old new : State) → Ended limit more s → IfFound m s.found → Means m (verdict_of s)
+    → solved.nodes ≡ s.nodes → solved.answer ≡ answer_from more s.found → IsSearchLog m lines s → new ≡ record old { logged = appended (plain_log lines) old.logged } → Solves m limit solved old new
+solved_with m limit more s lines solved old new ended found means nodes same log written =
+    let says = shows m limit more s solved ended found means same in
     record {
-      lines = written.0;
+      lines = lines;
       state = s;
-      is = record { log = written.1.log; cuts = written.1.cuts; nodes = nodes; few = ended.few; closed = between.closed; verdict = says.verdict; shown = says.shown; limited = says.limited; answer = says.answer };
-      logged = written.2;
+      is = record { log = log.log; splits = log.splits; nodes = nodes; few = ended.few; closed = ended.closed; verdict = says.verdict; shown = says.shown; limited = says.limited; answer = says.answer };
+      logged = written;
     }

@@ -1,8 +1,13 @@
 pub mod Branching
 pub mod OpenOrders
 pub mod Fitting
-pub mod Samples
-pub mod Stepping
-pub mod Writing
 pub mod Answering
 pub mod Assigned
+pub mod Sifting
+pub mod Fixing
+pub mod Marking
+pub mod Closing
+pub mod Deriving
+pub mod Keeping
+pub mod Ending
+pub mod Whole

@@ -1,13 +1,11 @@
 -- Where the splits of a log cut.
-use Rattle.std.specs.Prelude.{◌≡◌, ℤ, ◌+ℤ◌, ◌-ℤ◌, ◌≤ℤ◌, ◌<ℤ◌, pos, List, [], ◌∷◌, Option, Some, None, Ok}
+use Rattle.std.specs.Prelude.{ℤ, ◌+ℤ◌, ◌-ℤ◌, ◌≤ℤ◌, ◌<ℤ◌, pos}
 use Rattle.sched_model.specs.Data.{Data}
 use Rattle.region.specs.declared.types.Guess.{Guess}
 use Rattle.region.specs.declared.types.Guess.TheVariants as guess
 use Rattle.region.specs.Cells.{Region, bounds_of}
-use Rattle.kernel.specs.declared.types.Line.TheVariants.{Derive, Fail, Split, Sol}
 use Rattle.kernel.specs.NoExtra.{refutes_none}
 use Rattle.kernel.specs.Refuting.{refutes_with}
-use Rattle.kernel.specs.Agenda.{first_in}
 use Rattle.kernel.specs.Steps.{LogState, Outcome, step}
 use Rattle.logtext.specs.Logs.{PlainLine}
 
@@ -27,16 +25,3 @@ IsCut r (guess.StartGe x t) = IsMiddle (bounds_of r x).smin (bounds_of r x).smax
 IsCut r (guess.EndLe x t) = IsMiddle (bounds_of r x).emin (bounds_of r x).emax t
 IsCut r (guess.EndGe x t) = IsMiddle (bounds_of r x).emin (bounds_of r x).emax (t -ℤ pos 1)
 IsCut r _ = Unit {0}
-
--- a split cuts the region that it is about so
-abbrev pub IsWellCut : PlainLine → Option Region → Type 0
-IsWellCut (Split g) (Some r) = IsCut r g
-IsWellCut (Split g) None = Unit {0}
-IsWellCut (Derive g w) o = Unit {0}
-IsWellCut (Fail w) o = Unit {0}
-IsWellCut (Sol a) o = Unit {0}
-
--- from this state on each split of these lines does
-abbrev pub CutFrom : Data → LogState → List PlainLine → Type 0
-CutFrom m s [] = Unit {0}
-CutFrom m s (line ∷ lines) = IsWellCut line (first_in s.current s.waiting) × ((t : LogState) → plain_step m line s ≡ Ok t → CutFrom m t lines)

@@ -7,16 +7,17 @@ use Rattle.sched_model.specs.Data.{Data}
 use Rattle.kernel.specs.Steps.{LogState, opening, verdict_of}
 use Rattle.logtext.specs.Logs.{PlainLine, IsPlainLog, plain_log}
 use Rattle.logtext.specs.Writing.{AppendedFrom}
-use Rattle.solver.specs.declared.search.SolveFault.{SolveFault}
-use Rattle.solver.specs.declared.search.SolveFault.TheVariants.{Fault, NoMemory}
-use Rattle.solver.specs.Cuts.{CutFrom}
+use Rattle.solver.specs.declared.fault.SolveFault.{SolveFault}
+use Rattle.solver.specs.declared.fault.SolveFault.TheVariants.{Fault, NoMemory}
+use Rattle.solver.specs.Splits.{SplitFrom}
 use Rattle.solver.specs.Answers.{IsAnswer, verdict_in, shown_in, is_unfinished}
 
--- the lines are a log of the model that ends with this answer, and each of its splits on a bound cuts at the middle; it is
+-- the lines are a log of the model that ends with this answer, each of its splits on a bound cuts at the middle, and each comes
+-- only where nothing is left to derive, or its node has as many lines that derive as it may; it is
 -- unfinished only once the limit of nodes was opened, each of them closed, and a region waits
 pub record IsSolved (m : Data) (limit : ℕ) (lines : List PlainLine) (s : LogState) (solved : Solved) : Type 0 where
   pub log : IsPlainLog m lines s
-  pub cuts : CutFrom m (opening m) lines
+  pub splits : SplitFrom m 0 (opening m) lines
   pub nodes : solved.nodes ≡ s.nodes
   pub few : s.nodes ≤ limit
   pub closed : s.current ≡ None
@@ -37,7 +38,7 @@ pub record BeginsLog (m : Data) (old new : State) : Type 0 where
   pub lines : List PlainLine
   pub state : LogState
   pub log : IsPlainLog m lines state
-  pub cuts : CutFrom m (opening m) lines
+  pub splits : SplitFrom m 0 (opening m) lines
   pub part : AppendedFrom (plain_log lines) old.logged new.logged
   pub only : new ≡ record old { logged = new.logged; faults = new.faults }
   pub later : old.faults ≤ new.faults

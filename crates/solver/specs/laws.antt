@@ -1,1 +1,2 @@
 pub mod NoLeaf
+pub mod Putting

@@ -1,7 +1,7 @@
 ghost use Rattle.std.specs.Prelude.{◌≡◌};
 ghost use Rattle.solver.specs.Searching.{valued, best_answer, closed_answer, answer_from};
 
-use kernel::{Found, Verdict};
+use kernel::Found;
 use sched_model::{Answer, Assignment};
 
 fn valued(found: Option<Found>) -> Option<(i64, Assignment)>
@@ -30,14 +30,12 @@ fn closed_answer(found: Option<Found>) -> Answer
     }
 }
 
-/// What a log with this verdict answers, by the solution that it found last.
-pub fn answer_from(verdict: Verdict, found: Option<Found>) -> Answer
-    ensures { result ≡ answer_from verdict found }
+/// The answer of a search, by whether a region is left, and the solution that it found last.
+pub fn answer_from(more: bool, found: Option<Found>) -> Answer
+    ensures { result ≡ answer_from more found }
 {
-    match verdict {
-        Verdict::Unclosed { best: _ } => Answer::Unfinished(valued(found)),
-        Verdict::Optimal(_) => closed_answer(found),
-        Verdict::Feasible => closed_answer(found),
-        Verdict::Infeasible => closed_answer(found),
+    if more {
+        return Answer::Unfinished(valued(found));
     }
+    closed_answer(found)
 }

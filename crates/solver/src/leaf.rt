@@ -1,9 +1,11 @@
 ghost use Rattle.std.specs.Prelude.{◌≡◌, ◌<◌, ◌^◌, [], length, ◌++◌, replicate, IsTrue, IfOk, OnOk};
 ghost use Rattle.region.specs.Cells.{is_settled, settled_slots, allows};
 ghost use Rattle.region.specs.Looks.{IsRegionOf};
-ghost use Rattle.solver.specs.Leaves.{settled_assignment};
+ghost use Rattle.refute_basic.specs.Served.{is_served};
+ghost use Rattle.solver.specs.Leaves.{settled_assignment, IsLeafLine};
 
-use refute_basic::settled_slot;
+use kernel::{Line, NoWitness, Witness};
+use refute_basic::{find_leaf, settled_slot};
 use region::Look;
 use sched_base::{Itv, List, NoMemory};
 use sched_model::{Assignment, Model, Slot};
@@ -32,11 +34,7 @@ fn empty_lists<T: Drop>(alloc: Global, n: usize) -> Result<List<List<T>>, NoMemo
 
 /// The assignment at the settled values, with an empty order for each sequence and no segment for
 /// any state function. A settled look of a model that is served allows no other solution.
-pub fn settled_assignment(
-    alloc: Global,
-    model: &Model,
-    look: &Look<'_>,
-) -> Result<Assignment, NoMemory>
+fn settled_assignment(alloc: Global, model: &Model, look: &Look<'_>) -> Result<Assignment, NoMemory>
     requires of { IsRegionOf model.now look.now.region }
     requires settled { IsTrue (is_settled look.now.region) }
     ensures value { IfOk result (λ a. a ≡ settled_assignment model.now look.now.region) }
@@ -50,4 +48,17 @@ pub fn settled_assignment(
         orders: empty_lists(alloc, model.sequences().len())?,
         segs: empty_lists(alloc, model.states().len())?,
     })
+}
+
+/// What closes a settled region: the witness that refutes it, or else its one solution.
+pub fn leaf_line(alloc: Global, model: &Model, look: &Look<'_>) -> Result<Line<NoWitness>, NoMemory>
+    requires served { IsTrue (is_served model.now) }
+    requires of { IsRegionOf model.now look.now.region }
+    requires settled { IsTrue (is_settled look.now.region) }
+    ensures { IfOk result (IsLeafLine model.now look.now) }
+{
+    if let Some(w) = find_leaf(model, look) {
+        return Ok(Line::Fail(Witness::Basic(w)));
+    }
+    Ok(Line::Sol(settled_assignment(alloc, model, look)?))
 }

@@ -3,12 +3,15 @@
 
 mod answer;
 mod branch;
+mod fault;
 mod leaf;
-mod line;
+mod log_lines;
+mod mark;
+mod open_intervals;
 mod order;
 mod search;
+mod solving;
+mod state;
 
-pub use search::{SolveFault, solve};
-
-#[cfg(test)]
-mod tests;
+pub use fault::SolveFault;
+pub use solving::solve;

@@ -1,152 +1,282 @@
-ghost use Rattle.std.specs.Prelude.{◌≡◌, ◌+◌, ◌<◌, ◌≤◌, ◌^◌, true, IsTrue, IfOk, OnOk};
-ghost use Rattle.sched_base.specs.State.{State};
+ghost use Rattle.std.specs.Prelude.{◌≡◌, Bool, Some, ◌<◌, ◌≤◌, ◌+◌, ◌^◌, ◌∷◌, true, false, ℤ, Option, Ok, IsTrue, IfOk, OnOk, IfSome, IfNone};
+ghost use Rattle.sched_model.specs.Data.{Data};
+ghost use Rattle.sched_model.specs.Domain.{is_in_domain};
+ghost use Rattle.sched_model.specs.Valid.{IsValid};
+ghost use Rattle.region.specs.declared.types.Guess.{Guess as GuessData};
+ghost use Rattle.region.specs.Cells.{Region as Cells, is_settled};
+ghost use Rattle.region.specs.Guesses.{splits, with_guess, with_fact};
+ghost use Rattle.region.specs.Looks.{IsRegionOf};
 ghost use Rattle.refute_basic.specs.Served.{is_served};
-ghost use Rattle.solver.specs.Solving.{Gives};
-ghost use Rattle.solver.specs.Searching.{IsBetween, IsNext, IsWritten, IsEnded, GoesOn, Opens};
+ghost use Rattle.kernel.specs.declared.types.Line.TheVariants as line_is;
+ghost use Rattle.kernel.specs.Steps.{best_of, step_at, left_after, found_in, opening};
+ghost use Rattle.engine.specs.Engines.{AreQuiet, AreAwake, IsCalm, IsFor};
+ghost use Rattle.engine.specs.Plain.{refutes_plain};
+ghost use Rattle.engine.specs.Runs.{Ends};
+ghost use Rattle.propagators.specs.Quiet.{IsQuietRegion};
+ghost use Rattle.solver.specs.Searching.{IsHolding, IsReady, Closes, RefutesIf, Derived, GoesOn, IsLogged, is_failed, is_capped, behind_in, left_in, state_in, node_in, CutsRegion};
 
-use crate::answer::answer_from;
-use crate::line::next_line;
-use kernel::{Kernel, Line, NoExtra, NoWitness};
-use logtext::LogWriter;
-use sched_base::{Desk, Failed, NoMemory};
-use sched_model::{Model, Solved};
+use crate::fault::SolveFault;
+use crate::leaf::leaf_line;
+use crate::mark::Mark;
+use crate::open_intervals::OpenIntervals;
+use crate::order::cut_orders;
+use crate::state::Search;
+use engine::{Engine, Lines, Propagator, Stop};
+use kernel::{Found, Line, NoWitness, Pending};
+use region::{Guess, Region};
+use sched_base::NoMemory;
+use sched_model::{Assignment, Model, value};
 use std::alloc::Global;
-use thiserror::Error;
 
-/// Why a search came to no answer.
-#[derive(Clone, Copy, Debug, PartialEq, Eq, Error)]
-pub enum SolveFault {
-    #[error("fault")]
-    Fault,
-    #[error("out of memory")]
-    NoMemory,
+fn is_capped(stop: &Stop) -> bool
+    ensures { result ≡ is_capped stop.now }
+{
+    matches!(stop, Stop::Capped)
 }
 
-impl From<Failed> for SolveFault {
-    ghost use Rattle.std.specs.Prelude.{◌≡◌};
-    ghost use Rattle.solver.specs.declared.search.SolveFault.TheVariants as fault;
-
-    ghost from_gives = { λ _ f. f ≡ fault.Fault };
-
-    fn from(_: Failed) -> SolveFault {
-        SolveFault::Fault
+impl<P: Propagator> Search<P> {
+    /// The root of the model is the first region that waits.
+    pub fn new(alloc: Global, model: &Model, engine: Engine<P>) -> Result<Search<P>, NoMemory>
+        requires made { IsFor P.Propagator model.now engine }
+        requires awake { AreAwake P.Propagator model.now engine }
+        ensures ready { IfOk result (IsReady P.Propagator model.now) }
+        ensures state { IfOk result (λ s. state_in true s ≡ opening model.now) }
+        ensures valid { IfOk result (λ s. IsValid model.now) }
+        ensures none { IfOk result (λ s. s.nodes ≡ 0) }
+    {
+        // The model is valid by its type.
+        let _ = model.intervals();
+        Ok(Search {
+            region: Region::root(alloc, model)?,
+            pending: Pending::new(alloc),
+            marks: Vec::new(alloc),
+            engine,
+            intervals: OpenIntervals::new(alloc, model)?,
+            found: None,
+            nodes: 0,
+        })
     }
-}
 
-impl From<NoMemory> for SolveFault {
-    ghost use Rattle.std.specs.Prelude.{◌≡◌};
-    ghost use Rattle.solver.specs.declared.search.SolveFault.TheVariants as fault;
-
-    ghost from_gives = { λ _ f. f ≡ fault.NoMemory };
-
-    fn from(_: NoMemory) -> SolveFault {
-        SolveFault::NoMemory
-    }
-}
-
-/// Writes the line that ends a node, and takes it.
-fn put<D: Desk>(
-    model: &Model,
-    line: Line<NoWitness>,
-    kernel: &mut Kernel<NoExtra>,
-    writer: &mut LogWriter,
-    desk: &mut D,
-) -> Result<(), SolveFault>
-    requires nodes { kernel.old.nodes < 2 ^ 63 }
-    requires between { IsBetween model.now kernel.old }
-    requires next { IsNext model.now kernel.old line }
-    requires created { (D.state desk.old).created ≡ true }
-    ensures between { OnOk result (IsBetween model.now kernel.new) }
-    ensures node { OnOk result (kernel.new.nodes ≡ kernel.old.nodes + 1) }
-    ensures created { OnOk result ((D.state desk.new).created ≡ true) }
-    ensures written { (start : State) → IsWritten model.now kernel.old writer.old start (D.state desk.old)
-        → GoesOn model.now result kernel.new writer.new start (D.state desk.new) }
-{
-    writer.write_line(&line, desk)?;
-    kernel.advance(model, line)?;
-    Ok(())
-}
-
-/// Opens a node and ends it; false where no region waits.
-fn visit<D: Desk>(
-    alloc: Global,
-    model: &Model,
-    kernel: &mut Kernel<NoExtra>,
-    writer: &mut LogWriter,
-    desk: &mut D,
-) -> Result<bool, SolveFault>
-    requires served { IsTrue (is_served model.now) }
-    requires nodes { kernel.old.nodes < 2 ^ 63 }
-    requires between { IsBetween model.now kernel.old }
-    requires created { (D.state desk.old).created ≡ true }
-    ensures between { OnOk result (IsBetween model.now kernel.new) }
-    ensures opens { IfOk result (λ more. Opens more kernel.old kernel.new) }
-    ensures created { OnOk result ((D.state desk.new).created ≡ true) }
-    ensures written { (start : State) → IsWritten model.now kernel.old writer.old start (D.state desk.old)
-        → GoesOn model.now result kernel.new writer.new start (D.state desk.new) }
-{
-    let Some(line) = next_line(alloc, model, kernel)? else {
-        return Ok(false);
-    };
-    put(model, line, kernel, writer, desk)?;
-    Ok(true)
-}
-
-/// Opens nodes until no region waits, but at most so many.
-fn search<D: Desk>(
-    alloc: Global,
-    model: &Model,
-    nodes: u64,
-    kernel: &mut Kernel<NoExtra>,
-    writer: &mut LogWriter,
-    desk: &mut D,
-) -> Result<(), SolveFault>
-    requires served { IsTrue (is_served model.now) }
-    requires few { nodes ≤ 2 ^ 62 }
-    requires none { kernel.old.nodes ≡ 0 }
-    requires between { IsBetween model.now kernel.old }
-    requires created { (D.state desk.old).created ≡ true }
-    ensures between { OnOk result (IsBetween model.now kernel.new) }
-    ensures ended { OnOk result (IsEnded nodes kernel.new) }
-    ensures created { OnOk result ((D.state desk.new).created ≡ true) }
-    ensures written { (start : State) → IsWritten model.now kernel.old writer.old start (D.state desk.old)
-        → GoesOn model.now result kernel.new writer.new start (D.state desk.new) }
-{
-    for _n in 0..nodes {
-        let more = visit(alloc, model, kernel, writer, desk)?;
-        if !more {
-            return Ok(());
+    /// The value of the solution found last.
+    fn best(&self) -> Option<i64>
+        ensures { result ≡ best_of self.now.found }
+    {
+        match &self.found {
+            None => None,
+            Some(f) => f.value,
         }
     }
-    Ok(())
-}
 
-/// Looks for a best solution of a model that is served (`refute_basic::is_served` tells) by branch
-/// and bound, and writes the log of the search. It opens at most `nodes` nodes, and keeps one region
-/// with saves, so its memory grows with the depth of the search. A region is split at its first open
-/// interval: at the presence, or else at the middle of the start, or else of the end, and its
-/// earlier half comes first; where no interval is open, at the first open order of two members of a
-/// sequence. `Fault` comes only where the desk failed; the log is then, as after `NoMemory`, a front
-/// part of a log's text.
-pub fn solve<D: Desk>(
-    alloc: Global,
-    model: &Model,
-    nodes: u64,
-    desk: &mut D,
-) -> Result<Solved, SolveFault>
-    requires served { IsTrue (is_served model.now) }
-    requires some { 0 < nodes }
-    requires few { nodes ≤ 2 ^ 62 }
-    requires created { (D.state desk.old).created ≡ true }
-    ensures { Gives model.now nodes result (D.state desk.old) (D.state desk.new) }
-{
-    let mut kernel = Kernel::<NoExtra>::new(alloc, model)?;
-    let mut writer = LogWriter::new(alloc)?;
-    writer.write_head(desk)?;
-    search(alloc, model, nodes, &mut kernel, &mut writer, desk)?;
-    writer.write_end(desk)?;
-    let nodes = kernel.nodes();
-    let verdict = kernel.verdict();
-    let answer = answer_from(verdict, kernel.into_found());
-    Ok(Solved { nodes, answer })
+    /// Derives what follows at the region.
+    fn derive<L: Lines>(&mut self, model: &Model, lines: &mut L) -> Result<Stop, SolveFault>
+        requires ready { IsReady P.Propagator model.now self.old }
+        requires lines { L.ready lines.old }
+        ensures ready { OnOk result (IsReady P.Propagator model.now self.new) }
+        ensures lines { OnOk result (L.ready lines.new) }
+        ensures nodes { self.new.nodes ≡ self.old.nodes }
+        ensures stop { IfOk result (Ends (AreQuiet P.Propagator model.now self.new.region.region (best_of self.new.found)) model.now (best_of self.new.found) self.new.region.region) }
+        ensures found { self.new.found ≡ self.old.found }
+        ensures derived { (from : L) → IsLogged L.Lines model.now from lines.old 0 (state_in true self.old)
+            → Derived P.Propagator L.Lines model.now from lines.new self.new result }
+    {
+        // The model is valid by its type.
+        let _ = model.intervals();
+        let best = self.best();
+        Ok(self.engine.run(model, &mut self.region, best, lines)?)
+    }
+
+    /// A guess that splits the region; none where it is settled.
+    fn choose(&mut self, model: &Model) -> Option<Guess>
+        requires ready { IsReady P.Propagator model.now self.old }
+        ensures ready { IsReady P.Propagator model.now self.new }
+        ensures same { self.new ≡ record self.old { intervals = self.new.intervals } }
+        ensures some { IfSome result (CutsRegion self.old.region.region) }
+        ensures none { IfNone result (IsTrue (is_settled self.old.region.region)) }
+    {
+        let look = self.region.look(None, None);
+        if let Some(g) = self.intervals.choose(model, &look) {
+            return Some(g);
+        }
+        cut_orders(model, &look)
+    }
+
+    /// The line that ends the node.
+    fn closing(
+        &mut self,
+        alloc: Global,
+        model: &Model,
+        stop: Stop,
+    ) -> Result<Line<NoWitness>, NoMemory>
+        requires served { IsTrue (is_served model.now) }
+        requires ready { IsReady P.Propagator model.now self.old }
+        requires stop { RefutesIf model.now self.old.region.region (best_of self.old.found) stop }
+        ensures ready { IsReady P.Propagator model.now self.new }
+        ensures same { self.new ≡ record self.old { intervals = self.new.intervals } }
+        ensures line { IfOk result (Closes model.now self.old.region.region (best_of self.old.found) (is_failed stop)) }
+    {
+        if let Stop::Failed(w) = stop {
+            return Ok(Line::Fail(w));
+        }
+        if let Some(g) = self.choose(model) {
+            return Ok(Line::Split(g));
+        }
+        let best = self.best();
+        leaf_line(alloc, model, &self.region.look(None, best))
+    }
+
+    /// Goes to the newest region that waits; false where none does.
+    fn back(&mut self) -> bool
+        requires { (m : Data) × IsHolding P.Propagator m self.old }
+        ensures left { left_in result self.new ≡ behind_in self.old }
+        ensures nodes { self.new.nodes ≡ self.old.nodes }
+        ensures found { self.new.found ≡ self.old.found }
+        ensures ready { (m : Data) → IsHolding P.Propagator m self.old → IsTrue result → IsReady P.Propagator m self.new }
+    {
+        let Some(mark) = self.marks.pop() else {
+            return false;
+        };
+        let Some(cell) = self.pending.next(&mut self.region) else {
+            return false;
+        };
+        self.intervals.restore(mark.count);
+        self.rouse(mark);
+        self.engine.wake(cell);
+        true
+    }
+
+    /// Wakes whoever may not be quiet for the region that was saved, at the best value of now.
+    fn rouse(&mut self, mark: Mark)
+        ensures same { self.new ≡ record self.old { engine = self.new.engine } }
+        ensures made { (m : Data) → IsFor P.Propagator m self.old.engine → IsFor P.Propagator m self.new.engine }
+        ensures calm { (m : Data) (r : Cells) → IsFor P.Propagator m self.old.engine → IsRegionOf m r → (mark.capped ≡ false → AreQuiet P.Propagator m r mark.best)
+            → IsCalm P.Propagator m r (best_of self.new.found) self.new.engine }
+    {
+        if mark.capped {
+            self.engine.wake_all();
+            return;
+        }
+        if mark.best != self.best() {
+            self.engine.wake_best();
+        }
+    }
+
+    /// Goes to the part with the guess; the part with its fact waits.
+    fn split(&mut self, g: Guess, capped: bool) -> Result<(), NoMemory>
+        requires ready { (m : Data) × IsReady P.Propagator m self.old }
+        requires splits { IsTrue (splits self.old.region.region g) }
+        ensures left { OnOk result (left_in true self.new ≡ with_guess g self.old.region.region ∷ with_fact g self.old.region.region ∷ behind_in self.old) }
+        ensures nodes { OnOk result (self.new.nodes ≡ self.old.nodes) }
+        ensures found { OnOk result (self.new.found ≡ self.old.found) }
+        ensures ready { (m : Data) → IsReady P.Propagator m self.old → (capped ≡ false → AreQuiet P.Propagator m self.old.region.region (best_of self.old.found))
+            → OnOk result (IsReady P.Propagator m self.new) }
+    {
+        let mark = Mark {
+            best: self.best(),
+            capped,
+            count: self.intervals.count(),
+        };
+        self.marks.reserve(1)?;
+        let cell = self.pending.split(&mut self.region, g)?;
+        let _ = self.marks.push(mark);
+        self.engine.wake(cell);
+        Ok(())
+    }
+
+    /// Keeps the solution, and goes to the newest region that waits; false where none does, or no
+    /// better one is wanted.
+    fn keep(&mut self, model: &Model, assignment: Assignment) -> bool
+        requires domain { is_in_domain model.now assignment ≡ true }
+        requires ready { IsReady P.Propagator model.now self.old }
+        ensures left { left_in result self.new ≡ left_after model.now (behind_in self.old) }
+        ensures nodes { self.new.nodes ≡ self.old.nodes }
+        ensures found { self.new.found ≡ Some (found_in model.now assignment) }
+        ensures ready { IsTrue result → IsReady P.Propagator model.now self.new }
+    {
+        let value = value(model, &assignment);
+        self.found = Some(Found { assignment, value });
+        if value.is_none() {
+            return false;
+        }
+        self.back()
+    }
+
+    /// What the line that ends the node leaves; false where no region is left.
+    fn close(
+        &mut self,
+        model: &Model,
+        line: Line<NoWitness>,
+        capped: bool,
+    ) -> Result<bool, NoMemory>
+        requires nodes { self.old.nodes < 2 ^ 63 }
+        requires ready { IsReady P.Propagator model.now self.old }
+        requires closes { (failed : Bool) × Closes model.now self.old.region.region (best_of self.old.found) failed line }
+        requires spent { (g : GuessData) → line ≡ line_is.Split g → capped ≡ false → AreQuiet P.Propagator model.now self.old.region.region (best_of self.old.found) }
+        ensures step { IfOk result (λ more. step_at refutes_plain model.now (node_in self.old) line ≡ Ok (state_in more self.new)) }
+        ensures ready { IfOk result (λ more. IsTrue more → IsReady P.Propagator model.now self.new) }
+        ensures nodes { OnOk result (self.new.nodes ≡ self.old.nodes + 1) }
+    {
+        self.nodes += 1;
+        match line {
+            Line::Split(g) => {
+                self.split(g, capped)?;
+                Ok(true)
+            }
+            Line::Sol(a) => Ok(self.keep(model, a)),
+            Line::Fail(_) | Line::Derive(..) => Ok(self.back()),
+        }
+    }
+
+    /// Opens a node and ends it; false where no region is left.
+    fn visit<L: Lines>(
+        &mut self,
+        alloc: Global,
+        model: &Model,
+        lines: &mut L,
+    ) -> Result<bool, SolveFault>
+        requires served { IsTrue (is_served model.now) }
+        requires covers { (r : Cells) (best : Option ℤ) → IsRegionOf model.now r → AreQuiet P.Propagator model.now r best → IsQuietRegion model.now r best }
+        requires nodes { self.old.nodes < 2 ^ 63 }
+        requires ready { IsReady P.Propagator model.now self.old }
+        requires lines { L.ready lines.old }
+        ensures ready { IfOk result (λ more. IsTrue more → IsReady P.Propagator model.now self.new) }
+        ensures lines { OnOk result (L.ready lines.new) }
+        ensures nodes { OnOk result (self.new.nodes ≡ self.old.nodes + 1) }
+        ensures logged { (from : L) → IsLogged L.Lines model.now from lines.old 0 (state_in true self.old) → GoesOn L.Lines model.now from lines.new self.new result }
+    {
+        // The model is valid by its type.
+        let _ = model.intervals();
+        let stop = self.derive(model, lines)?;
+        let capped = is_capped(&stop);
+        let line = self.closing(alloc, model, stop)?;
+        lines.put(&line)?;
+        Ok(self.close(model, line, capped)?)
+    }
+
+    /// Opens nodes until no region is left, but at most so many; whether one is left.
+    pub fn run<L: Lines>(
+        &mut self,
+        alloc: Global,
+        model: &Model,
+        nodes: u64,
+        lines: &mut L,
+    ) -> Result<bool, SolveFault>
+        requires served { IsTrue (is_served model.now) }
+        requires covers { (r : Cells) (best : Option ℤ) → IsRegionOf model.now r → AreQuiet P.Propagator model.now r best → IsQuietRegion model.now r best }
+        requires few { nodes ≤ 2 ^ 62 }
+        requires none { self.old.nodes ≡ 0 }
+        requires ready { IsReady P.Propagator model.now self.old }
+        requires lines { L.ready lines.old }
+        ensures ready { IfOk result (λ more. IsTrue more → IsReady P.Propagator model.now self.new) }
+        ensures lines { OnOk result (L.ready lines.new) }
+        ensures few { OnOk result (self.new.nodes ≤ nodes) }
+        ensures limited { IfOk result (λ more. IsTrue more → self.new.nodes ≡ nodes) }
+        ensures logged { (from : L) → IsLogged L.Lines model.now from lines.old 0 (state_in true self.old) → GoesOn L.Lines model.now from lines.new self.new result }
+    {
+        for _n in 0..nodes {
+            if !self.visit(alloc, model, lines)? {
+                return Ok(false);
+            }
+        }
+        Ok(true)
+    }
 }

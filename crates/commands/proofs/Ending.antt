@@ -1,0 +1,369 @@
+-- The promise of a command, by how it ended.
+use Rattle.std.proofs.Common.{◌≡◌, ◌≤◌, ◌+◌, ℕ, true, false, Option, Some, None, Ok, Err, refl, sym, ap, subst, ◌∙◌, inl, inr, arith}
+use Rattle.sched_base.specs.State.{State, Place}
+use Rattle.sched_base.specs.Calls.{Rose, appended}
+use Rattle.sched_model.specs.declared.types.Answer.{Answer}
+use Rattle.sched_model.specs.declared.types.Answer.TheVariants as answer
+use Rattle.cpo_text.specs.declared.text.Refusal.{Refusal}
+use Rattle.command_line.specs.Commands.{Command, Solve, Check, Show}
+use Rattle.textline.specs.Lines.{Bytes}
+use Rattle.logtext.specs.Writing.{AppendedFrom}
+use Rattle.checker.specs.Judgement.{log_limit}
+use Rattle.checker.specs.Checking.{ReadsAtMost}
+use Rattle.commands.specs.declared.ended.Ended.{Ended}
+use Rattle.commands.specs.declared.ended.Ended.TheVariants as end
+use Rattle.commands.specs.declared.stop.Stop.{Stop}
+use Rattle.commands.specs.declared.stop.Stop.TheVariants as stop
+use Rattle.sched_text.specs.Answers.{answer_text}
+use Rattle.sched_text.specs.Canonical.{canonical_text}
+use Rattle.commands.specs.CheckText.{check_text}
+use Rattle.commands.specs.Ended.{is_success}
+use Rattle.commands.specs.Told.{Tells, Reports, usage_line, fault_line, memory_line, refusal_line, log_line, too_long_line}
+use Rattle.commands.specs.Runs.{RunPromise, EveryRun, CommandPromise, HasFiles, FileRefuses, RefusesBy, FileDeserves, ShowsPart, LogPromise, HoldsBegunLog, CutShort, AnswerPromise, AcceptsPart, ending_of, SolveEnds, file_of, ReadsModel, ReadsLog}
+use Rattle.commands.specs.Runs.CutShort.{before_log, in_log, in_answer}
+use Rattle.cpo_elab.specs.Answers.Answer.{Refused}
+use Rattle.commands.specs.Runs.RefusesLog.{at_line, too_long}
+use Rattle.commands.specs.Tries.{OnlyReads, TriesSolve, TriesCheck, TriesShow, EndsStopped}
+
+-- A line on standard error behind whatever a command has done.
+
+tells_on : (text : Bytes) (old s new : State) → s.err ≡ old.err → old.faults ≤ s.faults → Reports text s new → Tells text old new
+tells_on text old s new err later reports = record {
+  part = subst (λ e. AppendedFrom text e new.err) err reports.tells.part;
+  whole = elim reports.tells.whole [
+    | inl rose ↦ inl (omega (arith, rose, later))
+    | inr is ↦ inr (subst (λ e. new.err ≡ appended text e) err is)
+  ];
+}
+
+-- What every run promises, by its ending.
+
+not_so : (e f : Ended) → is_success f ≡ false → is_success e ≡ true → e ≡ f → ⊥
+not_so e f other won is = let both : true ≡ false = sym won ∙ ap is_success is ∙ other in cc
+
+succeeded : (k : Command) (e : Ended) (old new : State) → is_success e ≡ true → new.faults ≡ old.faults → new.err ≡ old.err → EveryRun (Some k) e old new
+succeeded k e old new won kept err = record {
+  later = subst (λ n. old.faults ≤ n) (sym kept) (omega arith);
+  usage = λ enough. (λ h. absurd (not_so e end.Usage refl won h), λ h. cc);
+  unopened = λ h. absurd (not_so e end.Usage refl won h);
+  fault = λ h. absurd (not_so e end.Fault refl won h);
+  calm = λ calm there h. not_so e end.Fault refl won h;
+  kept = λ h. (kept, err);
+  quiet = λ other h. let both : true ≡ false = sym won ∙ other in cc;
+  fault_told = λ h. absurd (not_so e end.Fault refl won h);
+  memory_told = λ h. absurd (not_so e end.NoMemory refl won h);
+}
+
+faulted : (k : Command) (old s new : State) → s.err ≡ old.err → old.faults ≤ s.faults → Rose old.faults s.faults → (old.calm ≡ true → HasFiles (Some k) old → ⊥) → Reports fault_line s new → EveryRun (Some k) end.Fault old new
+faulted k old s new err later rose calm reports = record {
+  later = omega (arith, later, reports.later);
+  usage = λ enough. (λ h. cc, λ h. cc);
+  unopened = λ h. cc;
+  fault = λ h. omega (arith, rose, reports.later);
+  calm = λ is there h. calm is there;
+  kept = λ h. cc;
+  quiet = λ h other. absurd (other refl);
+  fault_told = λ h. tells_on fault_line old s new err later reports;
+  memory_told = λ h. cc;
+}
+
+no_memory : (k : Command) (old s new : State) → s.err ≡ old.err → s.out ≡ old.out → old.faults ≤ s.faults → Reports memory_line s new → EveryRun (Some k) end.NoMemory old new
+no_memory k old s new err out later reports = record {
+  later = omega (arith, later, reports.later);
+  usage = λ enough. (λ h. cc, λ h. cc);
+  unopened = λ h. cc;
+  fault = λ h. cc;
+  calm = λ is there h. cc;
+  kept = λ h. cc;
+  quiet = λ h other. ap (λ (x : State). x.out) reports.only ∙ out;
+  fault_told = λ h. cc;
+  memory_told = λ h. tells_on memory_line old s new err later reports;
+}
+
+model_refused : (k : Command) (text : Bytes) (old s new : State) → s.out ≡ old.out → old.faults ≤ s.faults → Reports text s new → EveryRun (Some k) end.ModelRefused old new
+model_refused k text old s new out later reports = record {
+  later = omega (arith, later, reports.later);
+  usage = λ enough. (λ h. cc, λ h. cc);
+  unopened = λ h. cc;
+  fault = λ h. cc;
+  calm = λ is there h. cc;
+  kept = λ h. cc;
+  quiet = λ h other. ap (λ (x : State). x.out) reports.only ∙ out;
+  fault_told = λ h. cc;
+  memory_told = λ h. cc;
+}
+
+log_refused : (k : Command) (text : Bytes) (old s new : State) → s.out ≡ old.out → old.faults ≤ s.faults → Reports text s new → EveryRun (Some k) end.LogRefused old new
+log_refused k text old s new out later reports = record {
+  later = omega (arith, later, reports.later);
+  usage = λ enough. (λ h. cc, λ h. cc);
+  unopened = λ h. cc;
+  fault = λ h. cc;
+  calm = λ is there h. cc;
+  kept = λ h. cc;
+  quiet = λ h other. ap (λ (x : State). x.out) reports.only ∙ out;
+  fault_told = λ h. cc;
+  memory_told = λ h. cc;
+}
+
+-- What only some of a desk has changed, after the line too.
+
+abbrev pub OnlySolves : State → State → Type 0
+OnlySolves old new = new ≡ record old { model = new.model; out = new.out; err = new.err; logged = new.logged; created = new.created; logs = new.logs; faults = new.faults }
+
+abbrev pub OnlyChecks : State → State → Type 0
+OnlyChecks old new = new ≡ record old { model = new.model; log = new.log; out = new.out; err = new.err; faults = new.faults }
+
+abbrev pub OnlyRefuses : State → State → Type 0
+OnlyRefuses old new = new ≡ record old { model = new.model; err = new.err; faults = new.faults }
+
+solve_only : (text : Bytes) (old s new : State) → s ≡ record old { model = s.model; out = s.out; logged = s.logged; created = s.created; logs = s.logs; faults = s.faults } → Reports text s new → OnlySolves old new
+solve_only text old s new only reports =
+    subst (OnlySolves old) (sym (reports.only ∙ ap (λ (x : State). record x { err = new.err; faults = new.faults }) only)) refl
+
+check_only : (text : Bytes) (old s new : State) → s ≡ record old { model = s.model; log = s.log; out = s.out; faults = s.faults } → Reports text s new → OnlyChecks old new
+check_only text old s new only reports =
+    subst (OnlyChecks old) (sym (reports.only ∙ ap (λ (x : State). record x { err = new.err; faults = new.faults }) only)) refl
+
+refused_only : (text : Bytes) (old s new : State) → OnlyReads old s → Reports text s new → OnlyRefuses old new
+refused_only text old s new reads reports =
+    subst (OnlyRefuses old) (sym (reports.only ∙ ap (λ (x : State). record x { err = new.err; faults = new.faults }) reads.only)) refl
+
+cut_told : (name log : Bytes) (limit : ℕ) (text : Bytes) (old s new : State) → CutShort name log limit old s → Reports text s new → CutShort name log limit old new
+cut_told name log limit text old s new (before_log only) reports =
+    before_log (subst (OnlyRefuses old) (sym (reports.only ∙ ap (λ (x : State). record x { err = new.err; faults = new.faults }) only)) refl)
+cut_told name log limit text old s new (in_log m deserved created holds out) reports =
+    in_log m deserved (ap (λ (x : State). x.created) reports.only ∙ created.0, ap (λ (x : State). x.logs) reports.only ∙ created.1) (subst (λ b. HoldsBegunLog m old.logged b) (sym (ap (λ (x : State). x.logged) reports.only)) holds)
+    (ap (λ (x : State). x.out) reports.only ∙ out)
+cut_told name log limit text old s new (in_answer m solved deserved answer created written part) reports =
+    in_answer m solved deserved answer (ap (λ (x : State). x.created) reports.only ∙ created.0, ap (λ (x : State). x.logs) reports.only ∙ created.1) (subst (λ b. LogPromise m limit solved old.logged b) (sym (ap (λ (x : State). x.logged) reports.only)) written)
+    (subst (λ b. AppendedFrom (answer_text m solved) old.out b) (sym (ap (λ (x : State). x.out) reports.only)) part)
+
+-- how far the files were read, after the line too
+model_read : (model text : Bytes) (old s new : State) → ReadsModel model old s → Reports text s new → ReadsModel model old new
+model_read model text old s new far reports = subst (λ (p : Place). ReadsAtMost 16777217 (file_of old model) p.left) (sym (ap (λ (x : State). x.model) reports.only)) far
+
+log_read : (log text : Bytes) (old s new : State) → ReadsLog log old s → Reports text s new → ReadsLog log old new
+log_read log text old s new far reports = subst (λ (p : Place). ReadsAtMost (log_limit + 1) (file_of old log) p.left) (sym (ap (λ (x : State). x.log) reports.only)) far
+
+part_told : (model log text : Bytes) (old s new : State) → AcceptsPart model log old s → Reports text s new → AcceptsPart model log old new
+part_told model log text old s new (inl out) reports = inl (ap (λ (x : State). x.out) reports.only ∙ out)
+part_told model log text old s new (inr part) reports = inr (part.0, part.1, part.2, subst (λ b. AppendedFrom (check_text part.0 part.1) old.out b) (sym (ap (λ (x : State). x.out) reports.only)) part.3)
+
+refuses : (IsDue : Refusal → Type 0) (old s new : State) → OnlyReads old s → (r : Refusal) → IsDue r → Reports (refusal_line r) s new → RefusesBy IsDue old new
+refuses IsDue old s new reads r due reports = record {
+  refusal = r;
+  due = due;
+  told = tells_on (refusal_line r) old s new (ap (λ (x : State). x.err) reads.only) reads.later reports;
+  only = refused_only (refusal_line r) old s new reads reports;
+}
+
+-- `solve`.
+
+never_accepted : (a : Answer) → end.Accepted ≡ ending_of a → ⊥
+never_accepted (answer.Optimal v a) is = cc
+never_accepted (answer.Feasible a) is = cc
+never_accepted answer.Infeasible is = cc
+never_accepted (answer.Unfinished found) is = cc
+
+solve_ends : (model log : Bytes) (limit : ℕ) (e : Ended) (old new : State) → is_success e ≡ true → AnswerPromise model log limit e old new → SolveEnds model log limit e old new
+solve_ends model log limit end.Done old new won promise = promise
+solve_ends model log limit end.Infeasible old new won promise = promise
+solve_ends model log limit end.Unfinished old new won promise = promise
+solve_ends model log limit end.Accepted old new won promise = never_accepted promise.solved.answer promise.ending
+solve_ends model log limit end.Usage old new won promise = cc
+solve_ends model log limit end.ModelRefused old new won promise = absurd cc
+solve_ends model log limit end.Fault old new won promise = absurd cc
+solve_ends model log limit end.LogRefused old new won promise = cc
+solve_ends model log limit end.NoMemory old new won promise = absurd cc
+
+pub solved : (model log : Bytes) (limit : ℕ) (e : Ended) (old new : State) → TriesSolve model log limit (Ok e) old new → RunPromise (Some (Solve model log limit)) e old new
+solved model log limit e old new tries = record {
+  every = succeeded (Solve model log limit) e old new tries.tried.1 tries.tried.0 (ap (λ (x : State). x.err) tries.only);
+  its_own = record {
+    only = subst (OnlySolves old) (sym tries.only) refl;
+    ends = solve_ends model log limit e old new tries.tried.1 tries.tried.2;
+  };
+  reads = λ no_fault enough. tries.tried.3;
+}
+
+solve_no_memory : (model log : Bytes) (limit : ℕ) (old s new : State) → s ≡ record old { model = s.model; out = s.out; logged = s.logged; created = s.created; logs = s.logs; faults = s.faults } → old.faults ≤ s.faults → s.out ≡ old.out → CutShort model log limit old s
+    → Reports memory_line s new → RunPromise (Some (Solve model log limit)) end.NoMemory old new
+solve_no_memory model log limit old s new only later out cut reports = record {
+  every = no_memory (Solve model log limit) old s new (ap (λ (x : State). x.err) only) out later reports;
+  its_own = record { only = solve_only memory_line old s new only reports; ends = cut_told model log limit memory_line old s new cut reports };
+  reads = λ no_fault enough. absurd (enough refl);
+}
+
+pub solve_stopped : (model log : Bytes) (limit : ℕ) (e : Stop) (ended : Ended) (old s new : State) → TriesSolve model log limit (Err e) old s → EndsStopped e ended s new → RunPromise (Some (Solve model log limit)) ended old new
+solve_stopped model log limit stop.Fault ended old s new tries ends = subst (λ x. RunPromise (Some (Solve model log limit)) x old new) (sym ends.0) (record {
+  every = faulted (Solve model log limit) old s new (ap (λ (x : State). x.err) tries.only) tries.later tries.tried.0.rose tries.tried.0.calm ends.1;
+  its_own = record { only = solve_only fault_line old s new tries.only ends.1; ends = cut_told model log limit fault_line old s new tries.tried.1 ends.1 };
+  reads = λ no_fault enough. absurd (no_fault refl);
+})
+solve_stopped model log limit stop.NoMemory ended old s new tries ends = subst (λ x. RunPromise (Some (Solve model log limit)) x old new) (sym ends.0)
+    (solve_no_memory model log limit old s new tries.only tries.later tries.tried.0 tries.tried.1 ends.1)
+solve_stopped model log limit (stop.ModelRefused r) ended old s new tries (inl ends) =
+    let reads = tries.tried.0 in
+    subst (λ x. RunPromise (Some (Solve model log limit)) x old new) (sym ends.0) (record {
+      every = model_refused (Solve model log limit) (refusal_line r) old s new (ap (λ (x : State). x.out) reads.only) reads.later ends.1;
+      its_own = record { only = solve_only (refusal_line r) old s new tries.only ends.1; ends = refuses (FileRefuses old model) old s new reads r tries.tried.2 ends.1 };
+      reads = λ no_fault enough. model_read model (refusal_line r) old s new tries.tried.3 ends.1;
+    })
+solve_stopped model log limit (stop.ModelRefused r) ended old s new tries (inr ends) =
+    let reads = tries.tried.0 in
+    subst (λ x. RunPromise (Some (Solve model log limit)) x old new) (sym ends.0)
+    (solve_no_memory model log limit old s new tries.only tries.later (ap (λ (x : State). x.out) reads.only) (before_log (subst (OnlyRefuses old) (sym reads.only) refl)) ends.1)
+solve_stopped model log limit (stop.LogRefused k) ended old s new tries ends = absurd tries.tried
+solve_stopped model log limit stop.LogTooLong ended old s new tries ends = absurd tries.tried
+
+-- `check`.
+
+pub checked : (model log : Bytes) (e : Ended) (old new : State) → TriesCheck model log (Ok e) old new → RunPromise (Some (Check model log)) e old new
+checked model log e old new tries = subst (λ x. RunPromise (Some (Check model log)) x old new) (sym tries.tried.1) (record {
+  every = succeeded (Check model log) end.Accepted old new refl tries.tried.0 (ap (λ (x : State). x.err) tries.only);
+  its_own = record { only = subst (OnlyChecks old) (sym tries.only) refl; ends = tries.tried.2 };
+  reads = λ no_fault enough. (tries.tried.3, λ served. tries.tried.4);
+})
+
+check_no_memory : (model log : Bytes) (old s new : State) → s ≡ record old { model = s.model; log = s.log; out = s.out; faults = s.faults } → old.faults ≤ s.faults → s.out ≡ old.out
+    → Reports memory_line s new → RunPromise (Some (Check model log)) end.NoMemory old new
+check_no_memory model log old s new only later out reports = record {
+  every = no_memory (Check model log) old s new (ap (λ (x : State). x.err) only) out later reports;
+  its_own = record { only = check_only memory_line old s new only reports; ends = ap (λ (x : State). x.out) reports.only ∙ out };
+  reads = λ no_fault enough. absurd (enough refl);
+}
+
+pub check_stopped : (model log : Bytes) (e : Stop) (ended : Ended) (old s new : State) → TriesCheck model log (Err e) old s → EndsStopped e ended s new → RunPromise (Some (Check model log)) ended old new
+check_stopped model log stop.Fault ended old s new tries ends = subst (λ x. RunPromise (Some (Check model log)) x old new) (sym ends.0) (record {
+  every = faulted (Check model log) old s new (ap (λ (x : State). x.err) tries.only) tries.later tries.tried.0 (λ calm there. tries.tried.1 calm there.0 there.1) ends.1;
+  its_own = record { only = check_only fault_line old s new tries.only ends.1; ends = part_told model log fault_line old s new tries.tried.2 ends.1 };
+  reads = λ no_fault enough. absurd (no_fault refl);
+})
+check_stopped model log stop.NoMemory ended old s new tries ends = subst (λ x. RunPromise (Some (Check model log)) x old new) (sym ends.0)
+    (check_no_memory model log old s new tries.only tries.later tries.tried ends.1)
+check_stopped model log (stop.ModelRefused r) ended old s new tries (inl ends) =
+    let reads = tries.tried.0 in
+    subst (λ x. RunPromise (Some (Check model log)) x old new) (sym ends.0) (record {
+      every = model_refused (Check model log) (refusal_line r) old s new (ap (λ (x : State). x.out) reads.only) reads.later ends.1;
+      its_own = record { only = check_only (refusal_line r) old s new tries.only ends.1; ends = refuses (FileRefuses old model) old s new reads r tries.tried.2 ends.1 };
+      reads = λ no_fault enough. (model_read model (refusal_line r) old s new tries.tried.3 ends.1, λ served. absurd (served refl));
+    })
+check_stopped model log (stop.ModelRefused r) ended old s new tries (inr ends) = subst (λ x. RunPromise (Some (Check model log)) x old new) (sym ends.0)
+    (check_no_memory model log old s new tries.only tries.later (ap (λ (x : State). x.out) tries.tried.0.only) ends.1)
+check_stopped model log (stop.LogRefused k) ended old s new tries (inl ends) = subst (λ x. RunPromise (Some (Check model log)) x old new) (sym ends.0) (record {
+  every = log_refused (Check model log) (log_line k) old s new tries.tried.0 tries.later ends.1;
+  its_own = record {
+    only = check_only (log_line k) old s new tries.only ends.1;
+    ends = at_line tries.tried.1.0 k tries.tried.1.1 tries.tried.1.2 (tells_on (log_line k) old s new (ap (λ (x : State). x.err) tries.only) tries.later ends.1);
+  };
+  reads = λ no_fault enough. (model_read model (log_line k) old s new tries.tried.2 ends.1, λ served. log_read log (log_line k) old s new tries.tried.3 ends.1);
+})
+check_stopped model log (stop.LogRefused k) ended old s new tries (inr ends) = subst (λ x. RunPromise (Some (Check model log)) x old new) (sym ends.0)
+    (check_no_memory model log old s new tries.only tries.later tries.tried.0 ends.1)
+check_stopped model log stop.LogTooLong ended old s new tries ends = subst (λ x. RunPromise (Some (Check model log)) x old new) (sym ends.0) (record {
+  every = log_refused (Check model log) too_long_line old s new tries.tried.0 tries.later ends.1;
+  its_own = record {
+    only = check_only too_long_line old s new tries.only ends.1;
+    ends = too_long tries.tried.1.0 tries.tried.1.1 tries.tried.1.2 (tells_on too_long_line old s new (ap (λ (x : State). x.err) tries.only) tries.later ends.1);
+  };
+  reads = λ no_fault enough. (model_read model too_long_line old s new tries.tried.2 ends.1, λ served. log_read log too_long_line old s new tries.tried.3 ends.1);
+})
+
+-- `show`.
+
+abbrev pub OnlyShows : State → State → Type 0
+OnlyShows old new = new ≡ record old { model = new.model; out = new.out; err = new.err; faults = new.faults }
+
+show_only : (text : Bytes) (old s new : State) → s ≡ record old { model = s.model; out = s.out; faults = s.faults } → Reports text s new → OnlyShows old new
+show_only text old s new only reports =
+    subst (OnlyShows old) (sym (reports.only ∙ ap (λ (x : State). record x { err = new.err; faults = new.faults }) only)) refl
+
+shown_told : (model text : Bytes) (old s new : State) → ShowsPart model old s → Reports text s new → ShowsPart model old new
+shown_told model text old s new (inl out) reports = inl (ap (λ (x : State). x.out) reports.only ∙ out)
+shown_told model text old s new (inr part) reports = inr (part.0, part.1, subst (λ b. AppendedFrom (canonical_text part.0) old.out b) (sym (ap (λ (x : State). x.out) reports.only)) part.2)
+
+pub shown : (model : Bytes) (e : Ended) (old new : State) → TriesShow model (Ok e) old new → RunPromise (Some (Show model)) e old new
+shown model e old new tries = subst (λ x. RunPromise (Some (Show model)) x old new) (sym tries.tried.1) (record {
+  every = succeeded (Show model) end.Done old new refl tries.tried.0 (ap (λ (x : State). x.err) tries.only);
+  its_own = record { only = subst (OnlyShows old) (sym tries.only) refl; ends = tries.tried.2 };
+  reads = λ no_fault enough. tries.tried.3;
+})
+
+show_no_memory : (model : Bytes) (old s new : State) → s ≡ record old { model = s.model; out = s.out; faults = s.faults } → old.faults ≤ s.faults → s.out ≡ old.out
+    → Reports memory_line s new → RunPromise (Some (Show model)) end.NoMemory old new
+show_no_memory model old s new only later out reports = record {
+  every = no_memory (Show model) old s new (ap (λ (x : State). x.err) only) out later reports;
+  its_own = record { only = show_only memory_line old s new only reports; ends = ap (λ (x : State). x.out) reports.only ∙ out };
+  reads = λ no_fault enough. absurd (enough refl);
+}
+
+pub show_stopped : (model : Bytes) (e : Stop) (ended : Ended) (old s new : State) → TriesShow model (Err e) old s → EndsStopped e ended s new → RunPromise (Some (Show model)) ended old new
+show_stopped model stop.Fault ended old s new tries ends = subst (λ x. RunPromise (Some (Show model)) x old new) (sym ends.0) (record {
+  every = faulted (Show model) old s new (ap (λ (x : State). x.err) tries.only) tries.later tries.tried.0.rose tries.tried.0.calm ends.1;
+  its_own = record { only = show_only fault_line old s new tries.only ends.1; ends = shown_told model fault_line old s new tries.tried.1 ends.1 };
+  reads = λ no_fault enough. absurd (no_fault refl);
+})
+show_stopped model stop.NoMemory ended old s new tries ends = subst (λ x. RunPromise (Some (Show model)) x old new) (sym ends.0)
+    (show_no_memory model old s new tries.only tries.later tries.tried ends.1)
+show_stopped model (stop.ModelRefused r) ended old s new tries (inl ends) =
+    let reads = tries.tried.0 in
+    subst (λ x. RunPromise (Some (Show model)) x old new) (sym ends.0) (record {
+      every = model_refused (Show model) (refusal_line r) old s new (ap (λ (x : State). x.out) reads.only) reads.later ends.1;
+      its_own = record { only = show_only (refusal_line r) old s new tries.only ends.1; ends = refuses (λ k. FileDeserves old model (Refused k)) old s new reads r tries.tried.2 ends.1 };
+      reads = λ no_fault enough. model_read model (refusal_line r) old s new tries.tried.3 ends.1;
+    })
+show_stopped model (stop.ModelRefused r) ended old s new tries (inr ends) = subst (λ x. RunPromise (Some (Show model)) x old new) (sym ends.0)
+    (show_no_memory model old s new tries.only tries.later (ap (λ (x : State). x.out) tries.tried.0.only) ends.1)
+show_stopped model (stop.LogRefused k) ended old s new tries ends = absurd tries.tried
+show_stopped model stop.LogTooLong ended old s new tries ends = absurd tries.tried
+
+-- Words that are no command, and words for which memory was refused.
+
+pub no_command : (old new : State) → Reports usage_line old new → RunPromise None end.Usage old new
+no_command old new reports = record {
+  every = record {
+    later = reports.later;
+    usage = λ enough. (λ h. refl, λ h. refl);
+    unopened = λ h. reports;
+    fault = λ h. cc;
+    calm = λ is there h. cc;
+    kept = λ h. cc;
+    quiet = λ h other. ap (λ (x : State). x.out) reports.only;
+    fault_told = λ h. cc;
+    memory_told = λ h. cc;
+  };
+  its_own = reports;
+  reads = λ no_fault enough. tt;
+}
+
+unread : (command : Option Command) (old new : State) → Reports memory_line old new → EveryRun command end.NoMemory old new
+unread command old new reports = record {
+  later = reports.later;
+  usage = λ enough. absurd (enough refl);
+  unopened = λ h. cc;
+  fault = λ h. cc;
+  calm = λ is there h. cc;
+  kept = λ h. cc;
+  quiet = λ h other. ap (λ (x : State). x.out) reports.only;
+  fault_told = λ h. cc;
+  memory_told = λ h. reports.tells;
+}
+
+unread_own : (command : Option Command) (old new : State) → Reports memory_line old new → CommandPromise command end.NoMemory old new
+unread_own None old new reports = reports
+unread_own (Some (Solve model log limit)) old new reports = record {
+  only = subst (OnlySolves old) (sym reports.only) refl;
+  ends = before_log (subst (OnlyRefuses old) (sym reports.only) refl);
+}
+unread_own (Some (Check model log)) old new reports = record {
+  only = subst (OnlyChecks old) (sym reports.only) refl;
+  ends = ap (λ (x : State). x.out) reports.only;
+}
+unread_own (Some (Show model)) old new reports = record {
+  only = subst (OnlyShows old) (sym reports.only) refl;
+  ends = ap (λ (x : State). x.out) reports.only;
+}
+
+pub words_unread : (command : Option Command) (old new : State) → Reports memory_line old new → RunPromise command end.NoMemory old new
+words_unread command old new reports = record { every = unread command old new reports; its_own = unread_own command old new reports; reads = λ no_fault enough. absurd (enough refl) }

@@ -1,0 +1,46 @@
+-- What a search with a log has done, from what its steps did.
+use Rattle.std.proofs.Common.{◌≡◌, ◌≤◌, ℕ, true, List, [], Option, Some, None, Ok, refl, sym, ap, subst, ◌∙◌}
+use Rattle.std.specs.Prelude.{option_map}
+use Rattle.sched_base.specs.State.{State, with_log}
+use Rattle.sched_base.specs.Calls.{Creates, appended}
+use Rattle.sched_model.specs.declared.types.Solved.{Solved}
+use Rattle.sched_model.specs.Data.{Data}
+use Rattle.kernel.specs.NoExtra.{refutes_none}
+use Rattle.kernel.specs.Refuting.{refutes_with}
+use Rattle.kernel.specs.Steps.{LogState, opening}
+use Rattle.textline.specs.Lines.{Bytes}
+use Rattle.logtext.specs.Logs.{PlainLine, plain_log}
+use Rattle.solver.specs.Solving.{IsSolved, Solves}
+use Rattle.commands.specs.Runs.{LogPromise}
+use Rattle.commands.specs.Tries.{Searches}
+use Rattle.commands.proofs.Logged.{last_shown, one_waits, unclosed}
+
+created_empty : (text : Bytes) (before : Option Bytes) → appended text (option_map (λ bs. []) before) ≡ option_map (λ bs. text) before
+created_empty text None = refl
+created_empty text (Some bs) = refl
+
+log_promise : (m : Data) (limit : ℕ) (solved : Solved) (lines : List PlainLine) (state : LogState) (before : Option Bytes) → IsSolved m limit lines state solved → LogPromise m limit solved before (option_map (λ bs. plain_log lines) before)
+log_promise m limit solved lines state before is = record {
+  lines = lines;
+  state = state;
+  steps = is.log;
+  splits = is.splits;
+  written = refl;
+  accepted = record { lines = lines; state = state; log = is.log; text = refl; verdict = sym is.verdict; nodes = is.nodes };
+  schedule = last_shown (refutes_with refutes_none) m lines (opening m) state _ is.log.steps refl is.shown;
+  few = subst (λ n. n ≤ limit) (sym is.nodes) is.few;
+  limited = λ open_one. (
+    is.nodes ∙ is.limited open_one,
+    is.closed,
+    one_waits state.current state.waiting state.found (unclosed solved.answer open_one).0 is.closed (is.verdict ∙ (unclosed solved.answer open_one).1),
+  );
+}
+
+pub searched : (m : Data) (log : Bytes) (limit : ℕ) (solved : Solved) (s c t : State) (u : Unit {0}) → Creates log (Ok u) s c → Solves m limit solved c t → Searches m log limit (Ok solved) s t
+searched m log limit solved s c t u creates solves =
+    let text : Bytes = plain_log solves.lines in
+    let is : t ≡ record s { logged = option_map (λ bs. text) s.logged; created = true; logs = with_log log s.logs } =
+    solves.logged
+    ∙ ap (λ (x : State). record x { logged = appended text x.logged }) creates.created
+    ∙ ap (λ l. record s { logged = l; created = true; logs = with_log log s.logs }) (created_empty text s.logged) in
+    subst (Searches m log limit (Ok solved) s) (sym is) (log_promise m limit solved solves.lines solves.state s.logged solves.is, solves.is.answer, refl)

@@ -1,0 +1,9 @@
+use Rattle.commands.proofs.Ending.{checked, check_stopped}
+use Rattle.commands.proofs.checking.run_check.Goals as goal
+
+pub returns-in-Ok : goal.returns-in-Ok
+returns-in-Ok g c = checked c.args.model.now c.args.log.now c.in-Ok.ended (g.D.Desk.state c.args.desk.now) (g.D.Desk.state c.check_file.new.desk) c.in-Ok.ensures
+
+pub returns-in-Err : goal.returns-in-Err
+returns-in-Err g c = check_stopped c.args.model.now c.args.log.now c.in-Err.stop c.end_stopped.result (g.D.Desk.state c.args.desk.now) (g.D.Desk.state c.check_file.new.desk) (g.D.Desk.state c.end_stopped.new.desk)
+    c.in-Err.ensures c.end_stopped.ensures

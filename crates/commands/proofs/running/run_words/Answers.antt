@@ -1,0 +1,12 @@
+use Rattle.std.proofs.Common.{map, string_bytes, sym, subst}
+use Rattle.command_line.specs.Commands.{command_of}
+use Rattle.commands.specs.Runs.{RunPromise}
+use Rattle.commands.proofs.Ending.{words_unread}
+use Rattle.commands.proofs.running.run_words.Goals as goal
+
+pub returns-in-Err-NoMemory : goal.returns-in-Err-NoMemory
+returns-in-Err-NoMemory g c =
+    let command = command_of (map string_bytes c.args.words.now) in
+    let old = g.D.Desk.state c.args.desk.now in
+    let new = g.D.Desk.state c.end_no_memory.new.desk in
+    subst (λ e. RunPromise command e old new) (sym c.end_no_memory.ensures.ended) (words_unread command old new c.end_no_memory.ensures.told)

@@ -1,0 +1,299 @@
+-- What a run promises: which ending it has, and what it has done to the desk by then.
+use Rattle.std.specs.Prelude.{◌≡◌, ◌↔◌, ◌⊎◌, ℕ, ◌+◌, ◌≤◌, true, false, IsTrue, List, [], take, Option, Some, None, option_map, option_and_then, IfSome, IsSome, ⊤, if◌then◌else◌}
+use Rattle.sched_base.specs.declared.desk.File.{File}
+use Rattle.sched_base.specs.State.{State, bytes_of, with_log}
+use Rattle.sched_base.specs.Calls.{Rose, appended}
+use Rattle.sched_model.specs.declared.types.Answer.{Answer as Printed}
+use Rattle.sched_model.specs.declared.types.Answer.TheVariants as answer
+use Rattle.sched_model.specs.declared.types.Solved.{Solved}
+use Rattle.sched_model.specs.Words.{is_empty}
+use Rattle.sched_model.specs.Data.{Data}
+use Rattle.cpo_text.specs.declared.text.Refusal.{Refusal}
+use Rattle.cpo_elab.specs.Answers.{Answer}
+use Rattle.cpo_elab.specs.Answers.Answer.{Accepted, Refused}
+use Rattle.cpo_elab.specs.Deserves.{Deserves}
+use Rattle.refute_basic.specs.Served.{is_served}
+use Rattle.kernel.specs.declared.types.Verdict.{Verdict}
+use Rattle.kernel.specs.Steps.{LogState, opening}
+use Rattle.kernel.specs.Promises.{Means}
+use Rattle.command_line.specs.Commands.{Command, Solve, Check, Show, command_of}
+use Rattle.textline.specs.Lines.{Bytes}
+use Rattle.sched_text.specs.Answers.{answer_text}
+use Rattle.sched_text.specs.Canonical.{canonical_text}
+use Rattle.logtext.specs.Logs.{PlainLine, IsPlainLog, plain_log}
+use Rattle.logtext.specs.Writing.{AppendedFrom}
+use Rattle.checker.specs.Judgement.{IsAccepted, IsRefused, IsTooLong, log_limit}
+use Rattle.checker.specs.Checking.{log_bytes, ReadsAtMost}
+use Rattle.solver.specs.Splits.{SplitFrom}
+use Rattle.solver.specs.Answers.{IsAnswer, verdict_in, shown_in, is_unfinished}
+use Rattle.commands.specs.declared.ended.Ended.{Ended}
+use Rattle.commands.specs.declared.ended.Ended.TheVariants as end
+use Rattle.commands.specs.CheckText.{check_text}
+use Rattle.commands.specs.Ended.{is_success}
+use Rattle.commands.specs.LastSchedule.{last_schedule}
+use Rattle.commands.specs.Told.{Tells, Reports, usage_line, fault_line, memory_line, refusal_line, log_line, too_long_line}
+
+-- The files of a desk.
+
+-- where the desk tells its files, the file of this name is there, and this holds of its bytes
+abbrev pub IfFile : State → Bytes → (Bytes → Type 0) → Type 0
+IfFile s name P = IfSome s.files (λ files. IsSome (bytes_of files name)) × IfSome s.files (λ files. IfSome (bytes_of files name) P)
+
+-- of a longer file the first 16,777,217 bytes decide
+abbrev pub model_bytes : Bytes → Bytes
+model_bytes bytes = take 16777217 bytes
+
+-- of the file of this name, where the desk tells its files and this one is there, so many bytes were read at most, and the
+-- others are left in its slot: of the model one byte beyond its limit of 16,777,216, and of the log one beyond 2^62
+abbrev pub file_of : State → Bytes → Option Bytes
+file_of s name = option_and_then (λ files. bytes_of files name) s.files
+
+abbrev pub ReadsModel : Bytes → State → State → Type 0
+ReadsModel name old new = ReadsAtMost 16777217 (file_of old name) new.model.left
+
+abbrev pub ReadsLog : Bytes → State → State → Type 0
+ReadsLog name old new = ReadsAtMost (log_limit + 1) (file_of old name) new.log.left
+
+-- the text in the file of this name deserves this
+abbrev pub FileDeserves : State → Bytes → Answer → Type 0
+FileDeserves s name answer = IfFile s name (λ bytes. Deserves (model_bytes bytes) answer)
+
+-- what is told of a text that deserves this: its refusal; or number 15 where its model isn't one that the search serves
+abbrev pub not_served : Refusal
+not_served = record { number = 15; statement = 0; at = 0 }
+
+abbrev pub refusal_in : Answer → Option Refusal
+refusal_in (Accepted m) = if is_served m then None else Some not_served
+refusal_in (Refused r) = Some r
+
+-- the text in the file of this name deserves a model, which the search serves; or it is to be refused so
+abbrev pub FileServes : State → Bytes → Data → Type 0
+FileServes s name m = FileDeserves s name (Accepted m) × IsTrue (is_served m)
+
+abbrev pub FileRefuses : State → Bytes → Refusal → Type 0
+FileRefuses s name r = (answer : Answer) × FileDeserves s name answer × (refusal_in answer ≡ Some r)
+
+-- the desk tells its files, and this one is there
+abbrev pub HasFile : State → Bytes → Type 0
+HasFile s name = (files : List File) × (s.files ≡ Some files) × IsSome (bytes_of files name)
+
+-- so is each file that the command reads
+abbrev pub HasFiles : Option Command → State → Type 0
+HasFiles None s = ⊤
+HasFiles (Some (Solve model log limit)) s = HasFile s model
+HasFiles (Some (Check model log)) s = HasFile s model × HasFile s log
+HasFiles (Some (Show model)) s = HasFile s model
+
+-- What every run promises.
+
+pub record EveryRun (command : Option Command) (result : Ended) (old new : State) : Type 0 where
+  -- the count of faults never falls
+  pub later : old.faults ≤ new.faults
+  -- `Usage` comes exactly where the words are no command, want of memory aside; then standard error got its line, and
+  -- nothing else has changed
+  pub usage : (result ≡ end.NoMemory → ⊥) → (result ≡ end.Usage) ↔ (command ≡ None)
+  pub unopened : result ≡ end.Usage → Reports usage_line old new
+  -- `Fault` comes only where the count rose, and never over a calm desk that has the files which the command reads
+  pub fault : result ≡ end.Fault → Rose old.faults new.faults
+  pub calm : old.calm ≡ true → HasFiles command old → result ≡ end.Fault → ⊥
+  -- a success comes only where the count is what it was; then standard error is as it was
+  pub kept : is_success result ≡ true → (new.faults ≡ old.faults) × (new.err ≡ old.err)
+  -- with every ending but a success and `Fault` standard output is as it was
+  pub quiet : is_success result ≡ false → (result ≡ end.Fault → ⊥) → new.out ≡ old.out
+  -- `Fault` and `NoMemory` have their lines on standard error
+  pub fault_told : result ≡ end.Fault → Tells fault_line old new
+  pub memory_told : result ≡ end.NoMemory → Tells memory_line old new
+
+-- A refusal that is due is told. Nothing else was opened, and no log was created.
+pub record RefusesBy (IsDue : Refusal → Type 0) (old new : State) : Type 0 where
+  pub refusal : Refusal
+  pub due : IsDue refusal
+  pub told : Tells (refusal_line refusal) old new
+  pub only : new ≡ record old { model = new.model; err = new.err; faults = new.faults }
+
+-- the one that the text deserves
+abbrev pub RefusesText : Bytes → State → State → Type 0
+RefusesText model old new = RefusesBy (λ r. FileDeserves old model (Refused r)) old new
+
+-- That one; or the text deserves a model that has a sequence, or a constraint that is neither a precedence nor an
+-- expression. Such a model isn't served yet, and its refusal is number 15 at statement 0 and place 0.
+abbrev pub RefusesModel : Bytes → State → State → Type 0
+RefusesModel model old new = RefusesBy (FileRefuses old model) old new
+
+-- What `solve` promises.
+
+-- one log was created, and it has this name
+abbrev pub CreatesLog : Bytes → State → State → Type 0
+CreatesLog log old new = (new.created ≡ true) × (new.logs ≡ with_log log old.logs)
+
+-- The log behind an answer, by the command's limit on nodes, from what stood on the port of the log before to what stands
+-- there after.
+pub record LogPromise (m : Data) (limit : ℕ) (solved : Solved) (before after : Option Bytes) : Type 0 where
+  pub lines : List PlainLine
+  pub state : LogState
+  -- the lines step one after another from the opening state of the model to this one
+  pub steps : IsPlainLog m lines state
+  -- each of them that splits on a bound cuts at the middle of what is open of it, and each that splits comes where nothing
+  -- is left to derive, or where as many lines derived at its node as may
+  pub splits : SplitFrom m 0 (opening m) lines
+  -- the log was created empty, and its bytes are exactly the text of these lines
+  pub written : after ≡ option_map (λ bytes. plain_log lines) before
+  -- the judgement of those bytes is that they are accepted, with the printed verdict and the printed count of nodes
+  pub accepted : IsAccepted m (plain_log lines) (verdict_in solved.answer) solved.nodes
+  -- the printed schedule is that of the last solution in the log
+  pub schedule : last_schedule lines ≡ shown_in solved.answer
+  -- no more nodes were opened than the limit; unfinished comes only once exactly that many were,
+  -- where no region is current and one waits
+  pub few : solved.nodes ≤ limit
+  pub limited : is_unfinished solved.answer ≡ true → (solved.nodes ≡ limit) × (state.current ≡ None) × (is_empty state.waiting ≡ false)
+
+abbrev pub ending_of : Printed → Ended
+ending_of (answer.Optimal v a) = end.Done
+ending_of (answer.Feasible a) = end.Done
+ending_of answer.Infeasible = end.Infeasible
+ending_of (answer.Unfinished found) = end.Unfinished
+
+-- The main promise.
+pub record AnswerPromise (model log : Bytes) (limit : ℕ) (result : Ended) (old new : State) : Type 0 where
+  pub m : Data
+  pub solved : Solved
+  -- the text of the model's file deserves this model, which is one that the search serves
+  pub deserved : FileServes old model m
+  -- the answer is so. Optimal: the schedule is a solution of this exact value, and no solution is better. Feasible: it is a
+  -- solution. Infeasible: there is none. Unfinished: the schedule, if there is one, is a solution of this exact value
+  pub answer : IsAnswer m solved.answer
+  -- the ending is that of the answer, whose whole text was printed
+  pub ending : result ≡ ending_of solved.answer
+  pub printed : new.out ≡ appended (answer_text m solved) old.out
+  -- the whole log was written under the name that the words give, and it is accepted
+  pub created : CreatesLog log old new
+  pub written : LogPromise m limit solved old.logged new.logged
+
+-- The log holds a front part of the text of a log of the model, whose lines all step, and which splits so too.
+pub record HoldsBegunLog (m : Data) (before after : Option Bytes) : Type 0 where
+  pub lines : List PlainLine
+  pub state : LogState
+  pub steps : IsPlainLog m lines state
+  pub splits : SplitFrom m 0 (opening m) lines
+  pub part : AppendedFrom (plain_log lines) (option_map (λ bytes. []) before) after
+
+-- How far `solve` came where it was cut short by a fault or for want of memory.
+pub data CutShort (model log : Bytes) (limit : ℕ) (old new : State) : Type 0 where
+  -- no log was created, and nothing was printed
+  before_log : new ≡ record old { model = new.model; err = new.err; faults = new.faults } → CutShort model log limit old new
+  -- the log of the model that the text deserves was begun, and nothing was printed
+  in_log : (m : Data) → FileServes old model m → CreatesLog log old new → HoldsBegunLog m old.logged new.logged → new.out ≡ old.out → CutShort model log limit old new
+  -- the log is whole, and a front part of the answer's text was printed
+  in_answer : (m : Data) (solved : Solved) → FileServes old model m → IsAnswer m solved.answer → CreatesLog log old new → LogPromise m limit solved old.logged new.logged
+      → AppendedFrom (answer_text m solved) old.out new.out → CutShort model log limit old new
+
+-- by its ending; no other comes
+abbrev pub SolveEnds : Bytes → Bytes → ℕ → Ended → State → State → Type 0
+SolveEnds model log limit end.Done old new = AnswerPromise model log limit end.Done old new
+SolveEnds model log limit end.Infeasible old new = AnswerPromise model log limit end.Infeasible old new
+SolveEnds model log limit end.Unfinished old new = AnswerPromise model log limit end.Unfinished old new
+SolveEnds model log limit end.ModelRefused old new = RefusesModel model old new
+SolveEnds model log limit end.Fault old new = CutShort model log limit old new
+SolveEnds model log limit end.NoMemory old new = CutShort model log limit old new
+SolveEnds model log limit _ old new = ⊥
+
+pub record SolvePromise (model log : Bytes) (limit : ℕ) (result : Ended) (old new : State) : Type 0 where
+  -- nothing but these has changed
+  pub only : new ≡ record old { model = new.model; out = new.out; err = new.err; logged = new.logged; created = new.created; logs = new.logs; faults = new.faults }
+  pub ends : SolveEnds model log limit result old new
+
+-- What `check` promises.
+
+-- The log in its file is accepted: its bytes are a whole log of the model that the text deserves, with this verdict and
+-- this count of nodes, and what the verdict says of the model is so, whoever wrote the log.
+pub record AcceptsLog (model log : Bytes) (v : Verdict) (n : ℕ) (s : State) : Type 0 where
+  pub m : Data
+  pub deserved : FileServes s model m
+  pub judged : IfFile s log (λ bytes. IsAccepted m (log_bytes bytes) v n × (IsTooLong m (log_bytes bytes) → ⊥))
+  pub means : Means m v
+
+-- it is, and exactly the text that says so was printed
+pub record AcceptPromise (model log : Bytes) (old new : State) : Type 0 where
+  pub verdict : Verdict
+  pub nodes : ℕ
+  pub accepts : AcceptsLog model log verdict nodes old
+  pub printed : new.out ≡ appended (check_text verdict nodes) old.out
+
+-- it is refused at the first line that is wrong or missing, or is too long without one; this is told
+pub data RefusesLog (model log : Bytes) (old new : State) : Type 0 where
+  at_line : (m : Data) (k : ℕ) → FileServes old model m → IfFile old log (λ bytes. IsRefused m (log_bytes bytes) k × (IsTooLong m (log_bytes bytes) → ⊥)) → Tells (log_line k) old new → RefusesLog model log old new
+  too_long : (m : Data) → FileServes old model m → IfFile old log (λ bytes. IsTooLong m (log_bytes bytes)) → Tells too_long_line old new → RefusesLog model log old new
+
+-- after a fault nothing was printed, or a front part of the text of a log that is accepted
+abbrev pub AcceptsPart : Bytes → Bytes → State → State → Type 0
+AcceptsPart model log old new = (new.out ≡ old.out) ⊎ ((v : Verdict) × (n : ℕ) × AcceptsLog model log v n old × AppendedFrom (check_text v n) old.out new.out)
+
+-- by its ending; no other comes
+abbrev pub CheckEnds : Bytes → Bytes → Ended → State → State → Type 0
+CheckEnds model log end.Accepted old new = AcceptPromise model log old new
+CheckEnds model log end.ModelRefused old new = RefusesModel model old new
+CheckEnds model log end.LogRefused old new = RefusesLog model log old new
+CheckEnds model log end.Fault old new = AcceptsPart model log old new
+CheckEnds model log end.NoMemory old new = new.out ≡ old.out
+CheckEnds model log _ old new = ⊥
+
+pub record CheckPromise (model log : Bytes) (result : Ended) (old new : State) : Type 0 where
+  -- nothing but these has changed; no log is created
+  pub only : new ≡ record old { model = new.model; log = new.log; out = new.out; err = new.err; faults = new.faults }
+  pub ends : CheckEnds model log result old new
+
+-- What `show` promises.
+
+-- the text of the model's file deserves this model, and exactly its canonical text was printed
+pub record ShowsModel (model : Bytes) (old new : State) : Type 0 where
+  pub m : Data
+  pub deserved : FileDeserves old model (Accepted m)
+  pub printed : new.out ≡ appended (canonical_text m) old.out
+
+-- after a fault nothing was printed, or a front part of that text
+abbrev pub ShowsPart : Bytes → State → State → Type 0
+ShowsPart model old new = (new.out ≡ old.out) ⊎ ((m : Data) × FileDeserves old model (Accepted m) × AppendedFrom (canonical_text m) old.out new.out)
+
+-- by its ending; no other comes
+abbrev pub ShowEnds : Bytes → Ended → State → State → Type 0
+ShowEnds model end.Done old new = ShowsModel model old new
+ShowEnds model end.ModelRefused old new = RefusesText model old new
+ShowEnds model end.Fault old new = ShowsPart model old new
+ShowEnds model end.NoMemory old new = new.out ≡ old.out
+ShowEnds model _ old new = ⊥
+
+pub record ShowPromise (model : Bytes) (result : Ended) (old new : State) : Type 0 where
+  -- nothing but these has changed; no log is opened or created
+  pub only : new ≡ record old { model = new.model; out = new.out; err = new.err; faults = new.faults }
+  pub ends : ShowEnds model result old new
+
+-- The promise of a run.
+
+-- what words that are no command end in; nothing but the line on standard error has changed
+abbrev pub NoCommandEnds : Ended → State → State → Type 0
+NoCommandEnds end.Usage old new = Reports usage_line old new
+NoCommandEnds end.NoMemory old new = Reports memory_line old new
+NoCommandEnds _ old new = ⊥
+
+abbrev pub CommandPromise : Option Command → Ended → State → State → Type 0
+CommandPromise None result old new = NoCommandEnds result old new
+CommandPromise (Some (Solve model log limit)) result old new = SolvePromise model log limit result old new
+CommandPromise (Some (Check model log)) result old new = CheckPromise model log result old new
+CommandPromise (Some (Show model)) result old new = ShowPromise model result old new
+
+-- how far a command reads its files; `check` opens the log only where the model isn't refused
+abbrev pub ReadsFiles : Option Command → Ended → State → State → Type 0
+ReadsFiles None result old new = ⊤
+ReadsFiles (Some (Solve model log limit)) result old new = ReadsModel model old new
+ReadsFiles (Some (Check model log)) result old new = ReadsModel model old new × ((result ≡ end.ModelRefused → ⊥) → ReadsLog log old new)
+ReadsFiles (Some (Show model)) result old new = ReadsModel model old new
+
+pub record RunPromise (command : Option Command) (result : Ended) (old new : State) : Type 0 where
+  pub every : EveryRun command result old new
+  pub its_own : CommandPromise command result old new
+  -- with every ending but `Fault` and `NoMemory` no file was read further than it decides
+  pub reads : (result ≡ end.Fault → ⊥) → (result ≡ end.NoMemory → ⊥) → ReadsFiles command result old new
+
+-- that of the command that the words are
+abbrev pub Runs : List Bytes → Ended → State → State → Type 0
+Runs words result old new = RunPromise (command_of words) result old new

@@ -1,0 +1,145 @@
+-- What each step of a command does to the desk on the way.
+use Rattle.std.specs.Prelude.{◌≡◌, ◌⊎◌, ℕ, ◌≤◌, true, false, IsTrue, List, Result, Ok, Err, ⊤}
+use Rattle.sched_base.specs.State.{State, with_log, with_faults}
+use Rattle.sched_base.specs.Calls.{Rose}
+use Rattle.sched_model.specs.declared.types.Solved.{Solved}
+use Rattle.sched_model.specs.Data.{Data}
+use Rattle.cpo_elab.specs.Answers.Answer.{Accepted, Refused}
+use Rattle.refute_basic.specs.Served.{is_served}
+use Rattle.kernel.specs.Promises.{Means}
+use Rattle.textline.specs.Lines.{Bytes}
+use Rattle.checker.specs.declared.judging.Checked.{Checked}
+use Rattle.checker.specs.Judgement.{IsAccepted, IsRefused, IsTooLong}
+use Rattle.checker.specs.Checking.{log_bytes}
+use Rattle.solver.specs.Answers.{IsAnswer}
+use Rattle.commands.specs.declared.ended.Ended.{Ended}
+use Rattle.commands.specs.declared.ended.Ended.TheVariants as end
+use Rattle.commands.specs.declared.stop.Stop.{Stop}
+use Rattle.commands.specs.declared.stop.Stop.TheVariants as stop
+use Rattle.commands.specs.Ended.{is_success}
+use Rattle.commands.specs.Told.{Reports, fault_line, memory_line, refusal_line, log_line, too_long_line}
+use Rattle.commands.specs.Runs.{IfFile, FileDeserves, FileServes, FileRefuses, not_served, HasFile, LogPromise, HoldsBegunLog, AnswerPromise, CutShort, AcceptsPart, AcceptPromise, ShowsModel, ShowsPart, model_bytes, ReadsModel, ReadsLog}
+
+-- Reading the model.
+
+-- only the slot of the model and the count of faults have changed
+pub record OnlyReads (old new : State) : Type 0 where
+  pub only : new ≡ record old { model = new.model; faults = new.faults }
+  pub later : old.faults ≤ new.faults
+
+-- a fault that was counted, and that no calm desk with the file makes
+pub record IsFault (name : Bytes) (old new : State) : Type 0 where
+  pub rose : Rose old.faults new.faults
+  pub calm : old.calm ≡ true → HasFile old name → ⊥
+
+-- why reading the text came to no model
+abbrev pub StopsText : Bytes → State → State → Stop → Type 0
+StopsText name old new stop.Fault = IsFault name old new
+StopsText name old new stop.NoMemory = ⊤
+StopsText name old new (stop.ModelRefused r) = (new.faults ≡ old.faults) × FileDeserves old name (Refused r) × ReadsModel name old new
+StopsText name old new _ = ⊥
+
+-- why there is no model that is served
+abbrev pub StopsReading : Bytes → State → State → Stop → Type 0
+StopsReading name old new stop.Fault = IsFault name old new
+StopsReading name old new stop.NoMemory = ⊤
+StopsReading name old new (stop.ModelRefused r) = (new.faults ≡ old.faults) × FileRefuses old name r × ReadsModel name old new
+StopsReading name old new _ = ⊥
+
+abbrev pub Fetches : Bytes → Result (List ℕ) Stop → State → State → Type 0
+Fetches name (Ok bytes) old new = (new.faults ≡ old.faults) × IfFile old name (λ bs. bytes ≡ model_bytes bs) × ReadsModel name old new
+Fetches name (Err s) old new = StopsText name old new s
+
+abbrev pub Reads : Bytes → Result Data Stop → State → State → Type 0
+Reads name (Ok m) old new = (new.faults ≡ old.faults) × FileDeserves old name (Accepted m) × ReadsModel name old new
+Reads name (Err s) old new = StopsText name old new s
+
+-- the model, where it is served
+abbrev pub Serves : Data → Result Data Stop → Type 0
+Serves m (Ok k) = (k ≡ m) × IsTrue (is_served m)
+Serves m (Err s) = (s ≡ stop.ModelRefused not_served) × (is_served m ≡ false)
+
+abbrev pub Loads : Bytes → Result Data Stop → State → State → Type 0
+Loads name (Ok m) old new = (new.faults ≡ old.faults) × FileServes old name m × ReadsModel name old new
+Loads name (Err s) old new = StopsReading name old new s
+
+-- Searching with a log.
+
+-- no log was created, or one was begun
+abbrev pub BeginsSearch : Data → Bytes → State → State → Type 0
+BeginsSearch m log old new = (new ≡ with_faults new.faults old) ⊎ (HoldsBegunLog m old.logged new.logged × (new ≡ record old { logged = new.logged; created = true; logs = with_log log old.logs; faults = new.faults }))
+
+abbrev pub Searches : Data → Bytes → ℕ → Result Solved Stop → State → State → Type 0
+Searches m log limit (Ok solved) old new = LogPromise m limit solved old.logged new.logged × IsAnswer m solved.answer × (new ≡ record old { logged = new.logged; created = true; logs = with_log log old.logs })
+Searches m log limit (Err stop.Fault) old new = Rose old.faults new.faults × (old.calm ≡ true → ⊥) × (old.faults ≤ new.faults) × BeginsSearch m log old new
+Searches m log limit (Err stop.NoMemory) old new = (old.faults ≤ new.faults) × BeginsSearch m log old new
+Searches m log limit (Err _) old new = ⊥
+
+abbrev pub SolveTried : Bytes → Bytes → ℕ → Result Ended Stop → State → State → Type 0
+SolveTried model log limit (Ok ended) old new = (new.faults ≡ old.faults) × (is_success ended ≡ true) × AnswerPromise model log limit ended old new × ReadsModel model old new
+SolveTried model log limit (Err stop.Fault) old new = IsFault model old new × CutShort model log limit old new
+SolveTried model log limit (Err stop.NoMemory) old new = (new.out ≡ old.out) × CutShort model log limit old new
+SolveTried model log limit (Err (stop.ModelRefused r)) old new = OnlyReads old new × (new.faults ≡ old.faults) × FileRefuses old model r × ReadsModel model old new
+SolveTried model log limit (Err _) old new = ⊥
+
+pub record TriesSolve (model log : Bytes) (limit : ℕ) (result : Result Ended Stop) (old new : State) : Type 0 where
+  pub only : new ≡ record old { model = new.model; out = new.out; logged = new.logged; created = new.created; logs = new.logs; faults = new.faults }
+  pub later : old.faults ≤ new.faults
+  pub tried : SolveTried model log limit result old new
+
+-- Checking a log.
+
+-- only the slot of the log and the count of faults have changed
+pub record OnlyJudges (old new : State) : Type 0 where
+  pub only : new ≡ record old { log = new.log; faults = new.faults }
+  pub later : old.faults ≤ new.faults
+
+-- what the log in a file is found to be
+abbrev pub JudgesFile : Data → Bytes → Result Checked Stop → State → State → Type 0
+JudgesFile m log (Ok c) old new = (new.faults ≡ old.faults) × IfFile old log (λ bytes. IsAccepted m (log_bytes bytes) c.verdict c.nodes × (IsTooLong m (log_bytes bytes) → ⊥)) × Means m c.verdict × ReadsLog log old new
+JudgesFile m log (Err (stop.LogRefused k)) old new = IfFile old log (λ bytes. IsRefused m (log_bytes bytes) k × (IsTooLong m (log_bytes bytes) → ⊥)) × ReadsLog log old new
+JudgesFile m log (Err stop.LogTooLong) old new = IfFile old log (λ bytes. IsTooLong m (log_bytes bytes)) × ReadsLog log old new
+JudgesFile m log (Err stop.Fault) old new = IsFault log old new
+JudgesFile m log (Err stop.NoMemory) old new = ⊤
+JudgesFile m log (Err (stop.ModelRefused r)) old new = ⊥
+
+abbrev pub CheckTried : Bytes → Bytes → Result Ended Stop → State → State → Type 0
+CheckTried model log (Ok ended) old new = (new.faults ≡ old.faults) × (ended ≡ end.Accepted) × AcceptPromise model log old new × ReadsModel model old new × ReadsLog log old new
+CheckTried model log (Err stop.Fault) old new = Rose old.faults new.faults × (old.calm ≡ true → HasFile old model → HasFile old log → ⊥) × AcceptsPart model log old new
+CheckTried model log (Err stop.NoMemory) old new = new.out ≡ old.out
+CheckTried model log (Err (stop.ModelRefused r)) old new = OnlyReads old new × (new.faults ≡ old.faults) × FileRefuses old model r × ReadsModel model old new
+CheckTried model log (Err (stop.LogRefused k)) old new = (new.out ≡ old.out) × ((m : Data) × FileServes old model m × IfFile old log (λ bytes. IsRefused m (log_bytes bytes) k × (IsTooLong m (log_bytes bytes) → ⊥))) × ReadsModel model old new × ReadsLog log old new
+CheckTried model log (Err stop.LogTooLong) old new = (new.out ≡ old.out) × ((m : Data) × FileServes old model m × IfFile old log (λ bytes. IsTooLong m (log_bytes bytes))) × ReadsModel model old new × ReadsLog log old new
+
+pub record TriesCheck (model log : Bytes) (result : Result Ended Stop) (old new : State) : Type 0 where
+  pub only : new ≡ record old { model = new.model; log = new.log; out = new.out; faults = new.faults }
+  pub later : old.faults ≤ new.faults
+  pub tried : CheckTried model log result old new
+
+-- Showing a model.
+
+abbrev pub ShowTried : Bytes → Result Ended Stop → State → State → Type 0
+ShowTried model (Ok ended) old new = (new.faults ≡ old.faults) × (ended ≡ end.Done) × ShowsModel model old new × ReadsModel model old new
+ShowTried model (Err stop.Fault) old new = IsFault model old new × ShowsPart model old new
+ShowTried model (Err stop.NoMemory) old new = new.out ≡ old.out
+ShowTried model (Err (stop.ModelRefused r)) old new = OnlyReads old new × (new.faults ≡ old.faults) × FileDeserves old model (Refused r) × ReadsModel model old new
+ShowTried model (Err _) old new = ⊥
+
+pub record TriesShow (model : Bytes) (result : Result Ended Stop) (old new : State) : Type 0 where
+  pub only : new ≡ record old { model = new.model; out = new.out; faults = new.faults }
+  pub later : old.faults ≤ new.faults
+  pub tried : ShowTried model result old new
+
+-- Ending without an answer.
+
+-- with this line on standard error and this ending, or with none for want of memory
+abbrev pub EndsTold : Ended → Bytes → Ended → State → State → Type 0
+EndsTold wanted text ended old new = ((ended ≡ wanted) × Reports text old new) ⊎ ((ended ≡ end.NoMemory) × Reports memory_line old new)
+
+-- how a command ends that came to no answer: with its line on standard error, and nothing else changed
+abbrev pub EndsStopped : Stop → Ended → State → State → Type 0
+EndsStopped stop.Fault ended old new = (ended ≡ end.Fault) × Reports fault_line old new
+EndsStopped stop.NoMemory ended old new = (ended ≡ end.NoMemory) × Reports memory_line old new
+EndsStopped (stop.ModelRefused r) ended old new = EndsTold end.ModelRefused (refusal_line r) ended old new
+EndsStopped (stop.LogRefused k) ended old new = EndsTold end.LogRefused (log_line k) ended old new
+EndsStopped stop.LogTooLong ended old new = (ended ≡ end.LogRefused) × Reports too_long_line old new

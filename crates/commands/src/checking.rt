@@ -1,0 +1,52 @@
+ghost use Rattle.std.specs.Prelude.{Some};
+ghost use Rattle.command_line.specs.Commands.{Check};
+ghost use Rattle.commands.specs.Runs.{RunPromise};
+ghost use Rattle.commands.specs.Tries.{JudgesFile, OnlyJudges, TriesCheck};
+
+use crate::accepted::check_bytes;
+use crate::ended::Ended;
+use crate::load::load;
+use crate::report::end_stopped;
+use crate::stop::Stop;
+use checker::{Checked, check};
+use sched_base::{Desk, Inlet, Port};
+use sched_model::Model;
+use std::alloc::Global;
+
+/// Judges the log that a file holds.
+fn judge_file<D: Desk>(
+    alloc: Global,
+    desk: &mut D,
+    model: &Model,
+    log: &str,
+) -> Result<Checked, Stop>
+    ensures only { OnlyJudges (D.state desk.old) (D.state desk.new) }
+    ensures judges { JudgesFile model.now log.now result (D.state desk.old) (D.state desk.new) }
+{
+    desk.open_in(Inlet::Log, log)?;
+    let checked = check(alloc, model, desk)?;
+    Ok(checked)
+}
+
+/// Judges the log that a file holds, of the model that another holds, and prints what it shows.
+fn check_file<D: Desk>(alloc: Global, desk: &mut D, name: &str, log: &str) -> Result<Ended, Stop>
+    ensures { TriesCheck name.now log.now result (D.state desk.old) (D.state desk.new) }
+{
+    let model = load(alloc, desk, name)?;
+    let checked = judge_file(alloc, desk, &model, log)?;
+    let text = check_bytes(alloc, checked)?;
+    match desk.write(Port::Out, text.as_slice()) {
+        Ok(()) => Ok(Ended::Accepted),
+        Err(_) => Err(Stop::Fault),
+    }
+}
+
+/// Carries out `check`.
+pub fn run_check<D: Desk>(alloc: Global, desk: &mut D, model: &str, log: &str) -> Ended
+    ensures { RunPromise (Some (Check model.now log.now)) result (D.state desk.old) (D.state desk.new) }
+{
+    match check_file(alloc, desk, model, log) {
+        Ok(ended) => ended,
+        Err(stop) => end_stopped(alloc, desk, stop),
+    }
+}

@@ -1,0 +1,101 @@
+ghost use Rattle.std.specs.Prelude.{◌≡◌, ◌++◌, OnOk, IfOk};
+ghost use Rattle.std.specs.Fmt.{decimal};
+ghost use Rattle.commands.specs.Told.{Reports, log_line, refusal_line};
+ghost use Rattle.commands.specs.Tries.{EndsStopped};
+ghost use Rattle.commands.specs.declared.stop.Stop.TheVariants as stop;
+
+use crate::accepted::push_count;
+use crate::ended::Ended;
+use crate::stop::Stop;
+use cpo_text::Refusal;
+use sched_base::{Desk, NoMemory, Port};
+use std::alloc::Global;
+
+/// Puts a line on standard error. A write that fails is passed over: the ending stands.
+pub fn report<D: Desk>(desk: &mut D, line: &[u8])
+    ensures { Reports line.now (D.state desk.old) (D.state desk.new) }
+{
+    let _ = desk.write(Port::Err, line);
+}
+
+/// A number, and what stands before it.
+fn push_told(bytes: &mut Vec<u8>, before: &[u8], n: u64) -> Result<(), NoMemory>
+    ensures { OnOk result (bytes.new.items ≡ bytes.old.items ++ (before.now ++ decimal n)) }
+{
+    bytes.extend_from_slice(before)?;
+    push_count(bytes, n)
+}
+
+/// The line that tells a refusal of the model.
+fn refusal_text(alloc: Global, r: Refusal) -> Result<Vec<u8>, NoMemory>
+    ensures { IfOk result (λ v. v.items ≡ refusal_line r) }
+{
+    let mut bytes = Vec::new(alloc);
+    push_told(&mut bytes, b"model refused ", u64::from(r.number))?;
+    push_told(&mut bytes, b" statement ", u64::from(r.statement))?;
+    push_told(&mut bytes, b" at ", r.at)?;
+    bytes.extend_from_slice(b"\n")?;
+    Ok(bytes)
+}
+
+/// The line that tells which line of the log is refused.
+fn log_text(alloc: Global, line: u64) -> Result<Vec<u8>, NoMemory>
+    ensures { IfOk result (λ v. v.items ≡ log_line line) }
+{
+    let mut bytes = Vec::new(alloc);
+    push_told(&mut bytes, b"log refused line ", line)?;
+    bytes.extend_from_slice(b"\n")?;
+    Ok(bytes)
+}
+
+fn end_model_refused<D: Desk>(alloc: Global, desk: &mut D, r: Refusal) -> Ended
+    ensures { EndsStopped (stop.ModelRefused r) result (D.state desk.old) (D.state desk.new) }
+{
+    match refusal_text(alloc, r) {
+        Ok(text) => {
+            report(desk, text.as_slice());
+            Ended::ModelRefused
+        }
+        Err(_) => {
+            report(desk, b"no memory\n");
+            Ended::NoMemory
+        }
+    }
+}
+
+fn end_log_refused<D: Desk>(alloc: Global, desk: &mut D, line: u64) -> Ended
+    ensures { EndsStopped (stop.LogRefused line) result (D.state desk.old) (D.state desk.new) }
+{
+    match log_text(alloc, line) {
+        Ok(text) => {
+            report(desk, text.as_slice());
+            Ended::LogRefused
+        }
+        Err(_) => {
+            report(desk, b"no memory\n");
+            Ended::NoMemory
+        }
+    }
+}
+
+/// The ending of a command that came to no answer, with its line on standard error.
+pub fn end_stopped<D: Desk>(alloc: Global, desk: &mut D, stop: Stop) -> Ended
+    ensures { EndsStopped stop result (D.state desk.old) (D.state desk.new) }
+{
+    match stop {
+        Stop::Fault => {
+            report(desk, b"fault\n");
+            Ended::Fault
+        }
+        Stop::NoMemory => {
+            report(desk, b"no memory\n");
+            Ended::NoMemory
+        }
+        Stop::ModelRefused(r) => end_model_refused(alloc, desk, r),
+        Stop::LogRefused(line) => end_log_refused(alloc, desk, line),
+        Stop::LogTooLong => {
+            report(desk, b"log too long\n");
+            Ended::LogRefused
+        }
+    }
+}

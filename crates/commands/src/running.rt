@@ -1,0 +1,55 @@
+ghost use Rattle.std.specs.Prelude.{◌≡◌, Err, IfOk, map, string_bytes};
+ghost use Rattle.commands.specs.Runs.{Runs};
+ghost use Rattle.commands.specs.Told.{Reports, memory_line, usage_line};
+ghost use Rattle.commands.specs.declared.ended.Ended.TheVariants as end;
+
+use crate::checking::run_check;
+use crate::ended::Ended;
+use crate::report::report;
+use crate::showing::run_show;
+use crate::solving::run_solve;
+use command_line::{Command, WordsFault, read_command};
+use sched_base::Desk;
+use std::alloc::Global;
+
+fn end_usage<D: Desk>(desk: &mut D) -> Ended
+    ensures ended { result ≡ end.Usage }
+    ensures told { Reports usage_line (D.state desk.old) (D.state desk.new) }
+{
+    report(desk, b"usage: schedtool COMMAND ARGUMENTS\n");
+    Ended::Usage
+}
+
+fn end_no_memory<D: Desk>(desk: &mut D) -> Ended
+    ensures ended { result ≡ end.NoMemory }
+    ensures told { Reports memory_line (D.state desk.old) (D.state desk.new) }
+{
+    report(desk, b"no memory\n");
+    Ended::NoMemory
+}
+
+fn run_words<D: Desk>(alloc: Global, words: &[String], desk: &mut D) -> Ended
+    ensures { Runs (map string_bytes words.now) result (D.state desk.old) (D.state desk.new) }
+{
+    match read_command(alloc, words) {
+        Ok(Command::Solve { model, log, nodes }) => run_solve(alloc, desk, model, log, nodes),
+        Ok(Command::Check { model, log }) => run_check(alloc, desk, model, log),
+        Ok(Command::Show { model }) => run_show(alloc, desk, model),
+        Err(WordsFault::Usage) => end_usage(desk),
+        Err(WordsFault::NoMemory) => end_no_memory(desk),
+    }
+}
+
+/// Carries out the command that the words are, over a desk. Where there are no words, since one of
+/// them isn't UTF-8 or memory was refused for them, it only says so.
+pub fn run<D: Desk>(alloc: Global, words: Result<Vec<String>, WordsFault>, desk: &mut D) -> Ended
+    ensures words { IfOk words (λ ws. Runs (map string_bytes ws.items) result (D.state desk.old) (D.state desk.new)) }
+    ensures usage { words ≡ Err WordsFault.Usage → (result ≡ end.Usage) × Reports usage_line (D.state desk.old) (D.state desk.new) }
+    ensures no_memory { words ≡ Err WordsFault.NoMemory → (result ≡ end.NoMemory) × Reports memory_line (D.state desk.old) (D.state desk.new) }
+{
+    match words {
+        Ok(words) => run_words(alloc, words.as_slice(), desk),
+        Err(WordsFault::Usage) => end_usage(desk),
+        Err(WordsFault::NoMemory) => end_no_memory(desk),
+    }
+}

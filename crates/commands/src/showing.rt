@@ -1,0 +1,33 @@
+ghost use Rattle.std.specs.Prelude.{Some};
+ghost use Rattle.command_line.specs.Commands.{Show};
+ghost use Rattle.commands.specs.Runs.{RunPromise};
+ghost use Rattle.commands.specs.Tries.{TriesShow};
+
+use crate::ended::Ended;
+use crate::load::read;
+use crate::report::end_stopped;
+use crate::stop::Stop;
+use sched_base::Desk;
+use sched_text::print_model;
+use std::alloc::Global;
+
+/// Prints the model that a file holds in its canonical form.
+fn show_file<D: Desk>(alloc: Global, desk: &mut D, name: &str) -> Result<Ended, Stop>
+    ensures { TriesShow name.now result (D.state desk.old) (D.state desk.new) }
+{
+    let model = read(alloc, desk, name)?;
+    match print_model(&model, desk) {
+        Ok(()) => Ok(Ended::Done),
+        Err(_) => Err(Stop::Fault),
+    }
+}
+
+/// Carries out `show`.
+pub fn run_show<D: Desk>(alloc: Global, desk: &mut D, model: &str) -> Ended
+    ensures { RunPromise (Some (Show model.now)) result (D.state desk.old) (D.state desk.new) }
+{
+    match show_file(alloc, desk, model) {
+        Ok(ended) => ended,
+        Err(stop) => end_stopped(alloc, desk, stop),
+    }
+}

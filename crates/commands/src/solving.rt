@@ -1,0 +1,76 @@
+ghost use Rattle.std.specs.Prelude.{◌≡◌, true, Some, IsTrue};
+ghost use Rattle.command_line.specs.Commands.{Solve};
+ghost use Rattle.command_line.specs.Found.{IsLimit};
+ghost use Rattle.refute_basic.specs.Served.{is_served};
+ghost use Rattle.commands.specs.Ended.{is_success};
+ghost use Rattle.commands.specs.Runs.{RunPromise, ending_of};
+ghost use Rattle.commands.specs.Tries.{Searches, TriesSolve};
+
+use crate::ended::Ended;
+use crate::load::load;
+use crate::report::end_stopped;
+use crate::stop::Stop;
+use sched_base::Desk;
+use sched_model::{Answer, Model, Solved};
+use sched_text::write_answer;
+use solver::solve;
+use std::alloc::Global;
+
+fn ending(answer: &Answer) -> Ended
+    ensures is { result ≡ ending_of answer.now }
+    ensures success { is_success result ≡ true }
+{
+    match answer {
+        Answer::Optimal(_, _) => Ended::Done,
+        Answer::Feasible(_) => Ended::Done,
+        Answer::Infeasible => Ended::Infeasible,
+        Answer::Unfinished(_) => Ended::Unfinished,
+    }
+}
+
+/// Solves the model, and writes the log of the search to a new file. It opens at most `nodes` nodes.
+fn search_logged<D: Desk>(
+    alloc: Global,
+    desk: &mut D,
+    model: &Model,
+    log: &str,
+    nodes: u32,
+) -> Result<Solved, Stop>
+    requires limit { IsLimit nodes }
+    requires served { IsTrue (is_served model.now) }
+    ensures { Searches model.now log.now nodes result (D.state desk.old) (D.state desk.new) }
+{
+    desk.create_log(log)?;
+    let solved = solve(alloc, model, u64::from(nodes), desk)?;
+    Ok(solved)
+}
+
+/// Solves the model that a file holds with a log of the search, and then prints the answer.
+fn solve_file<D: Desk>(
+    alloc: Global,
+    desk: &mut D,
+    name: &str,
+    log: &str,
+    nodes: u32,
+) -> Result<Ended, Stop>
+    requires { IsLimit nodes }
+    ensures { TriesSolve name.now log.now nodes result (D.state desk.old) (D.state desk.new) }
+{
+    let model = load(alloc, desk, name)?;
+    let solved = search_logged(alloc, desk, &model, log, nodes)?;
+    match write_answer(&model, &solved, desk) {
+        Ok(()) => Ok(ending(&solved.answer)),
+        Err(_) => Err(Stop::Fault),
+    }
+}
+
+/// Carries out `solve`, with at most so many nodes.
+pub fn run_solve<D: Desk>(alloc: Global, desk: &mut D, model: &str, log: &str, nodes: u32) -> Ended
+    requires { IsLimit nodes }
+    ensures { RunPromise (Some (Solve model.now log.now nodes)) result (D.state desk.old) (D.state desk.new) }
+{
+    match solve_file(alloc, desk, model, log, nodes) {
+        Ok(ended) => ended,
+        Err(stop) => end_stopped(alloc, desk, stop),
+    }
+}

@@ -1,0 +1,97 @@
+use checker::CheckFault;
+use cpo_text::{ReadFault, Refusal};
+use sched_base::{Failed, NoMemory, ReadError};
+use solver::SolveFault;
+
+/// Why a command comes to no answer.
+#[derive(Clone, Copy, Debug)]
+pub enum Stop {
+    /// The outside failed.
+    Fault,
+    NoMemory,
+    /// The model's text deserves this.
+    ModelRefused(Refusal),
+    /// This line of the log is the first that is wrong or missing.
+    LogRefused(u64),
+    LogTooLong,
+}
+
+impl From<Failed> for Stop {
+    ghost use Rattle.std.specs.Prelude.{◌≡◌};
+    ghost use Rattle.commands.specs.declared.stop.Stop.TheVariants as stop;
+
+    ghost from_gives = { λ _ s. s ≡ stop.Fault };
+
+    fn from(_: Failed) -> Stop {
+        Stop::Fault
+    }
+}
+
+impl From<NoMemory> for Stop {
+    ghost use Rattle.std.specs.Prelude.{◌≡◌};
+    ghost use Rattle.commands.specs.declared.stop.Stop.TheVariants as stop;
+
+    ghost from_gives = { λ _ s. s ≡ stop.NoMemory };
+
+    fn from(_: NoMemory) -> Stop {
+        Stop::NoMemory
+    }
+}
+
+impl From<ReadError> for Stop {
+    ghost use Rattle.std.specs.Prelude.{◌≡◌};
+    ghost use Rattle.commands.specs.Stops.{stop_of_read};
+
+    ghost from_gives = { λ e s. s ≡ stop_of_read e };
+
+    fn from(e: ReadError) -> Stop {
+        match e {
+            ReadError::Failed => Stop::Fault,
+            ReadError::NoMemory => Stop::NoMemory,
+        }
+    }
+}
+
+impl From<ReadFault> for Stop {
+    ghost use Rattle.std.specs.Prelude.{◌≡◌};
+    ghost use Rattle.commands.specs.Stops.{stop_of_text};
+
+    ghost from_gives = { λ e s. s ≡ stop_of_text e };
+
+    fn from(e: ReadFault) -> Stop {
+        match e {
+            ReadFault::Refused(r) => Stop::ModelRefused(r),
+            ReadFault::NoMemory => Stop::NoMemory,
+        }
+    }
+}
+
+impl From<SolveFault> for Stop {
+    ghost use Rattle.std.specs.Prelude.{◌≡◌};
+    ghost use Rattle.commands.specs.Stops.{stop_of_search};
+
+    ghost from_gives = { λ e s. s ≡ stop_of_search e };
+
+    fn from(e: SolveFault) -> Stop {
+        match e {
+            SolveFault::Fault => Stop::Fault,
+            SolveFault::NoMemory => Stop::NoMemory,
+        }
+    }
+}
+
+impl From<CheckFault> for Stop {
+    ghost use Rattle.std.specs.Prelude.{◌≡◌};
+    ghost use Rattle.commands.specs.Stops.{stop_of_check};
+
+    ghost from_gives = { λ e s. s ≡ stop_of_check e };
+
+    fn from(e: CheckFault) -> Stop {
+        match e {
+            CheckFault::Refused { line } => Stop::LogRefused(line),
+            CheckFault::TooLong => Stop::LogTooLong,
+            CheckFault::Fault => Stop::Fault,
+            CheckFault::NoMemory => Stop::NoMemory,
+        }
+    }
+}

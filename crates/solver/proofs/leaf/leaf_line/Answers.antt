@@ -1,0 +1,8 @@
+use Rattle.solver.specs.laws.NoLeaf.{passes_solves}
+use Rattle.solver.proofs.leaf.leaf_line.Goals as goal
+
+pub returns : goal.returns
+returns c = (
+  c.in_ok-settled_assignment.ensures.value,
+  passes_solves c.args.model.now c.args.look.now c.requires.of c.requires.served c.requires.settled c.in_default.ensures.none,
+)

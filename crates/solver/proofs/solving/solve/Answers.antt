@@ -1,0 +1,8 @@
+use Rattle.solver.specs.declared.fault.SolveFault.TheVariants.{NoMemory}
+use Rattle.solver.proofs.Whole.{begun, stops_solve}
+use Rattle.solver.proofs.solving.solve.Goals as goal
+
+pub returns-in_err-engine : goal.returns-in_err-engine
+returns-in_err-engine g c =
+    let start = g.D.Desk.state c.args.desk.now in
+    stops_solve c.args.model.now c.args.nodes c.from_residual.result NoMemory start start c.from_residual.ensures.1 (begun c.args.model.now start, tt)

@@ -1,0 +1,49 @@
+use Rattle.std.proofs.Common.{◌≡◌, sym, ap, subst, ◌∙◌}
+use Rattle.kernel.specs.Steps.{best_of}
+use Rattle.kernel.specs.Pending.{after_saved}
+use Rattle.engine.specs.Engines.{IsCalm, AreQuiet}
+use Rattle.engine.specs.declared.stops.EngineFault.TheVariants as fault
+use Rattle.solver.specs.Faults.{passed_on}
+use Rattle.solver.specs.declared.state.Search.{Search}
+use Rattle.solver.specs.Searching.{IsSpent, IsAtNode}
+use Rattle.solver.proofs.Deriving.{ArePlaces, err_is, derived_to, broke_stops, engine_causes, spent_by, derive_stops, node_with}
+use Rattle.solver.proofs.Fixing.{derives_keep}
+use Rattle.solver.proofs.Keeping.{derived_ready}
+use Rattle.solver.proofs.state.Search.derive.Goals as goal
+
+pub returns-in_err-run-clause-derived : goal.returns-in_err-run-clause-derived
+returns-in_err-run-clause-derived g c =
+    let laws = g.met.L.Lines in
+    let places : ArePlaces g.L.Lines = record { more = laws.more; then_breaks = laws.then_breaks; stays_ready = laws.stays_ready; stays_calm = laws.stays_calm; same_faults = laws.same_faults } in
+    let m = c.args.model.now in
+    let s = c.args.self.now in
+    let run = c.in_err-run.ensures in
+    λ from logged.
+    derive_stops g.P.Propagator g.L.Lines m from c.run.new.lines (let t : Search g.row.P.Denot = record c.args.self.now { region = c.run.new.region; engine = c.run.new.self } in t) c.from_residual.result (passed_on c.in_err-run.field-0.0) c.from_residual.ensures.1 (
+      broke_stops g.L.Lines places m from c.args.lines.now c.run.new.lines (after_saved s.region.saved s.pending) s.nodes s.found c.best-best.result s.region.region c.run.new.region.region
+          c.intervals.ensures.valid c.requires.ready.holding.of.region (sym c.best-best.ensures) logged run.broke,
+      engine_causes g.L.Lines places m from c.args.lines.now c.run.new.lines 0 _ c.in_err-run.field-0.0 logged (λ is. run.fault (err_is c.in_err-run.field-0.0 fault.Lines is)),
+    )
+
+pub returns-clause-ready : goal.returns-clause-ready
+returns-clause-ready g c =
+    let run = c.in_ok-run.ensures in
+    derived_ready g.P.Propagator c.args.model.now c.args.self.now c.run.new.region c.run.new.self c.requires.ready (derives_keep run.ran.led.derive) run.of run.saved run.promised run.made
+    (subst (λ b. IsCalm g.P.Propagator c.args.model.now c.run.new.region.region b c.run.new.self) c.best-best.ensures run.calm)
+
+pub returns-clause-derived : goal.returns-clause-derived
+returns-clause-derived g c =
+    let laws = g.met.L.Lines in
+    let places : ArePlaces g.L.Lines = record { more = laws.more; then_breaks = laws.then_breaks; stays_ready = laws.stays_ready; stays_calm = laws.stays_calm; same_faults = laws.same_faults } in
+    let m = c.args.model.now in
+    let s = c.args.self.now in
+    let q = c.run.new.region in
+    let run = c.in_ok-run.ensures in
+    λ from logged. (
+      run.ran.n,
+      subst (λ rs. IsAtNode g.L.Lines m from c.run.new.lines (node_with q.region (after_saved rs s.pending) s.nodes s.found) run.ran.n) (sym run.saved)
+          (derived_to g.L.Lines places m from c.args.lines.now c.run.new.lines (after_saved s.region.saved s.pending) s.nodes s.found c.best-best.result run.ran.n s.region.region q.region
+          c.intervals.ensures.valid c.requires.ready.holding.of.region (sym c.best-best.ensures) logged run.ran.led),
+      subst (λ b. IsSpent (AreQuiet g.P.Propagator m q.region b) run.ran.n q.region c.in_ok-run.field-0) c.best-best.ensures
+          (spent_by _ run.ran.n m c.best-best.result q.region c.in_ok-run.field-0 run.ran.ends run.ran.counts),
+    )

@@ -1,0 +1,11 @@
+use Rattle.std.proofs.Common.{◌≡◌, true}
+use Rattle.solver.specs.Searching.{IsReady, IsLogged, state_in}
+use Rattle.solver.proofs.state.Search.run.Given as goal
+
+abbrev pub invariant-loop-n : goal.invariant-loop-n
+invariant-loop-n g l = record {
+  ready : IsReady g.P.Propagator l.model l.self;
+  lines : g.L.Lines.ready l.lines;
+  nodes : l.self.nodes ≡ l._n;
+  logged : (from : g.row.L.Denot) → IsLogged g.L.Lines l.model from l.initial.lines 0 (state_in true l.initial.self) → IsLogged g.L.Lines l.model from l.lines 0 (state_in true l.self);
+}

@@ -1,0 +1,101 @@
+use Rattle.std.proofs.Common.{◌≡◌, ℕ, Ok, sym, ap, subst, ◌∙◌, true≢false}
+use Rattle.kernel.specs.Steps.{best_of, step_at}
+use Rattle.engine.specs.Engines.{AreQuiet}
+use Rattle.engine.specs.Plain.{refutes_plain}
+use Rattle.solver.specs.declared.fault.SolveFault.TheVariants.{Fault, NoMemory}
+use Rattle.solver.specs.declared.state.Search.{Search}
+use Rattle.solver.specs.Searching.{Closes, Stopped, between, is_failed, node_in, state_in}
+use Rattle.solver.proofs.Deriving.{ArePlaces, visit_stops, closed_to, closed_break, causes_from}
+use Rattle.solver.proofs.Ending.{closes_line, closes_ends, closes_well, closes_step, spent_well, quiet_split}
+use Rattle.solver.proofs.state.Search.visit.Goals as goal
+
+pub returns-in_err-stop-clause-logged : goal.returns-in_err-stop-clause-logged
+returns-in_err-stop-clause-logged g c = λ from logged.
+    visit_stops g.L.Lines c.args.model.now from c.derive.new.lines c.derive.new.self c.from_residual.result c.in_err-stop.field-0.0 c.from_residual.ensures.1 (c.in_err-stop.ensures.derived from logged)
+
+pub returns-in_err-line-clause-logged : goal.returns-in_err-line-clause-logged
+returns-in_err-line-clause-logged g c = λ from logged.
+    let derived = c.in_ok-stop.ensures.derived from logged in
+    visit_stops g.L.Lines c.args.model.now from c.derive.new.lines c.closing.new.self c.from_residual-in_err-line.result NoMemory c.from_residual-in_err-line.ensures.1 (between derived.1.logged, tt)
+
+pub put-requires-clause-fit : goal.put-requires-clause-fit
+put-requires-clause-fit g c =
+    let s = c.derive.new.self in
+    (closes_line c.args.model.now s.region.region (best_of s.found) (is_failed c.in_ok-stop.stop) c.in_ok-line.line c.intervals.ensures.valid c.in_ok-stop.ensures.ready.holding.of.region c.in_ok-line.ensures.line).fit
+
+pub returns-in_err-put-clause-logged : goal.returns-in_err-put-clause-logged
+returns-in_err-put-clause-logged g c =
+    let laws = g.met.L.Lines in
+    let places : ArePlaces g.L.Lines = record { more = laws.more; then_breaks = laws.then_breaks; stays_ready = laws.stays_ready; stays_calm = laws.stays_calm; same_faults = laws.same_faults } in
+    let m = c.args.model.now in
+    let s = c.derive.new.self in
+    let r = s.region.region in
+    let best = best_of s.found in
+    let stop = c.in_ok-stop.stop in
+    let line = c.in_ok-line.line in
+    let of = c.in_ok-stop.ensures.ready.holding.of.region in
+    let closes = c.in_ok-line.ensures.line in
+    let step = closes_step m (node_in s) (is_failed stop) line c.in_ok-stop.ensures.ready.holding.valued closes in
+    λ from logged.
+    let derived = c.in_ok-stop.ensures.derived from logged in
+    visit_stops g.L.Lines m from c.put.new.self c.closing.new.self c.from_residual-in_err-put.result Fault c.from_residual-in_err-put.ensures.1 (
+      closed_break g.L.Lines places m from c.derive.new.lines c.put.new.self (node_in s) derived.0 line step.0 derived.1 c.in_err-put.ensures.broke
+          (closes_line m r best (is_failed stop) line c.intervals.ensures.valid of closes)
+          (closes_well m r best (is_failed stop) line derived.0 closes (spent_well m r best (AreQuiet g.P.Propagator m r best) derived.0 stop (c.requires.covers r best of) derived.2)) step.1,
+      causes_from g.L.Lines places m from c.derive.new.lines c.put.new.self derived.0 derived.1.state derived.1.logged (c.in_err-put.ensures.rose, λ calm. true≢false (sym (c.in_err-put.ensures.calm calm))),
+    )
+
+pub close-requires-clause-closes : goal.close-requires-clause-closes
+close-requires-clause-closes g c =
+    (is_failed c.in_ok-stop.stop, subst (λ (u : Search g.row.P.Denot). Closes c.args.model.now u.region.region (best_of u.found) (is_failed c.in_ok-stop.stop) c.in_ok-line.line) (sym c.in_ok-line.ensures.same) c.in_ok-line.ensures.line)
+
+pub close-requires-clause-spent : goal.close-requires-clause-spent
+close-requires-clause-spent g c = λ k is not.
+    let m = c.args.model.now in
+    let s = c.derive.new.self in
+    subst (λ (u : Search g.row.P.Denot). AreQuiet g.P.Propagator m u.region.region (best_of u.found)) (sym c.in_ok-line.ensures.same)
+    (quiet_split (AreQuiet g.P.Propagator m s.region.region (best_of s.found)) m s.region.region (best_of s.found) c.in_ok-stop.stop c.in_ok-line.line k c.in_ok-stop.ensures.stop c.in_ok-line.ensures.line is (sym c.is_capped-capped.ensures ∙ not))
+
+pub returns-in_err-close-clause-logged : goal.returns-in_err-close-clause-logged
+returns-in_err-close-clause-logged g c =
+    let laws = g.met.L.Lines in
+    let places : ArePlaces g.L.Lines = record { more = laws.more; then_breaks = laws.then_breaks; stays_ready = laws.stays_ready; stays_calm = laws.stays_calm; same_faults = laws.same_faults } in
+    let m = c.args.model.now in
+    let s = c.derive.new.self in
+    let r = s.region.region in
+    let best = best_of s.found in
+    let stop = c.in_ok-stop.stop in
+    let line = c.in_ok-line.line in
+    let of = c.in_ok-stop.ensures.ready.holding.of.region in
+    let closes = c.in_ok-line.ensures.line in
+    let step = closes_step m (node_in s) (is_failed stop) line c.in_ok-stop.ensures.ready.holding.valued closes in
+    λ from logged.
+    let derived = c.in_ok-stop.ensures.derived from logged in
+    visit_stops g.L.Lines m from c.put.new.self c.close.new.self c.from_residual-in_err-close.result NoMemory c.from_residual-in_err-close.ensures.1 (
+      between (closed_to g.L.Lines places m from c.derive.new.lines c.put.new.self (node_in s) derived.0 line step.0 derived.1 c.in_ok-put.ensures.ok
+          (closes_line m r best (is_failed stop) line c.intervals.ensures.valid of closes)
+          (closes_well m r best (is_failed stop) line derived.0 closes (spent_well m r best (AreQuiet g.P.Propagator m r best) derived.0 stop (c.requires.covers r best of) derived.2))
+          (closes_ends m r best (is_failed stop) line derived.0 closes) step.1),
+      tt,
+    )
+
+pub returns-clause-logged : goal.returns-clause-logged
+returns-clause-logged g c =
+    let laws = g.met.L.Lines in
+    let places : ArePlaces g.L.Lines = record { more = laws.more; then_breaks = laws.then_breaks; stays_ready = laws.stays_ready; stays_calm = laws.stays_calm; same_faults = laws.same_faults } in
+    let m = c.args.model.now in
+    let s = c.derive.new.self in
+    let r = s.region.region in
+    let best = best_of s.found in
+    let stop = c.in_ok-stop.stop in
+    let line = c.in_ok-line.line in
+    let of = c.in_ok-stop.ensures.ready.holding.of.region in
+    let closes = c.in_ok-line.ensures.line in
+    let after = state_in c.in_ok-close.field-0 c.close.new.self in
+    λ from logged.
+    let derived = c.in_ok-stop.ensures.derived from logged in
+    closed_to g.L.Lines places m from c.derive.new.lines c.put.new.self (node_in s) derived.0 line after derived.1 c.in_ok-put.ensures.ok
+    (closes_line m r best (is_failed stop) line c.intervals.ensures.valid of closes)
+    (closes_well m r best (is_failed stop) line derived.0 closes (spent_well m r best (AreQuiet g.P.Propagator m r best) derived.0 stop (c.requires.covers r best of) derived.2))
+    (closes_ends m r best (is_failed stop) line derived.0 closes)
+    (subst (λ (u : Search g.row.P.Denot). step_at refutes_plain m (node_in u) line ≡ Ok after) c.in_ok-line.ensures.same c.in_ok-close.ensures.step)

@@ -1,0 +1,45 @@
+ghost use Rattle.std.specs.Prelude.{◌≡◌, true};
+ghost use Rattle.std.proofs.Common.{refl, ◌∙◌};
+ghost use Rattle.logtext.specs.Logs.{plain_text, plain_lines};
+ghost use Rattle.solver.specs.Putting.{PutsNamed, BreaksNamed};
+ghost use Rattle.solver.specs.laws.Putting.{named_none, named_more, named_breaks, named_ready, named_calm, named_faults};
+
+use engine::Lines;
+use kernel::{Line, NoWitness};
+use logtext::LogWriter;
+use sched_base::{Desk, Failed};
+
+/// The lines of a log, behind what is gathered, on a desk.
+#[derive(Drop)]
+pub struct LogLines<'a, D: Desk> {
+    pub writer: LogWriter,
+    pub desk: &'a mut D,
+}
+
+impl<'a, D: Desk> Lines for LogLines<'a, D> {
+    ghost faults = { λ a. (D.state a.desk.now).faults };
+
+    ghost calm = { λ a. (D.state a.desk.now).calm };
+
+    ghost ready = { λ a. (D.state a.desk.now).created ≡ true };
+
+    ghost puts = { λ a xs b. PutsNamed (a.desk.ghost_name ≡ b.desk.ghost_name) (plain_lines xs) a.writer b.writer (D.state a.desk.now) (D.state b.desk.now) };
+
+    ghost breaks = { λ a xs x b. BreaksNamed (a.desk.ghost_name ≡ b.desk.ghost_name) (plain_lines xs) (plain_text x) a.writer (D.state a.desk.now) (D.state b.desk.now) };
+
+    fn put(&mut self, line: &Line<NoWitness>) -> Result<(), Failed> {
+        self.writer.write_line(line, self.desk)
+    }
+
+    ghost none = { λ a. named_none refl };
+
+    ghost more = { λ a b c xs ys first rest. named_more xs ys first rest (first.named ∙ rest.named) };
+
+    ghost then_breaks = { λ a b c xs ys x first rest. named_breaks xs ys x first rest (first.named ∙ rest.named) };
+
+    ghost stays_ready = { λ a b xs is ready. named_ready is ready };
+
+    ghost stays_calm = { λ a b xs is. named_calm is };
+
+    ghost same_faults = { λ a b xs is. named_faults is };
+}

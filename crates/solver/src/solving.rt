@@ -1,0 +1,77 @@
+ghost use Rattle.std.specs.Prelude.{◌≡◌, ◌<◌, ◌≤◌, ◌^◌, ℤ, Option, true, IsTrue};
+ghost use Rattle.region.specs.Cells.{Region as Cells};
+ghost use Rattle.region.specs.Looks.{IsRegionOf};
+ghost use Rattle.refute_basic.specs.Served.{is_served};
+ghost use Rattle.engine.specs.Engines.{AreQuiet, AreAwake, IsFor};
+ghost use Rattle.propagators.specs.Quiet.{IsQuietRegion};
+ghost use Rattle.solver.specs.Solving.{Gives};
+
+use crate::answer::answer_from;
+use crate::fault::SolveFault;
+use crate::log_lines::LogLines;
+use crate::state::Search;
+use engine::{Engine, Propagator};
+use kernel::{NoExtra, loses_nothing};
+use logtext::LogWriter;
+use propagators::{covers, start};
+use sched_base::Desk;
+use sched_model::{Model, Solved};
+use std::alloc::Global;
+
+/// The search with these propagators, all of them awake.
+fn solve_with<P: Propagator, D: Desk>(
+    alloc: Global,
+    model: &Model,
+    engine: Engine<P>,
+    nodes: u64,
+    desk: &mut D,
+) -> Result<Solved, SolveFault>
+    requires served { IsTrue (is_served model.now) }
+    requires made { IsFor P.Propagator model.now engine }
+    requires awake { AreAwake P.Propagator model.now engine }
+    requires covers { (r : Cells) (best : Option ℤ) → IsRegionOf model.now r → AreQuiet P.Propagator model.now r best → IsQuietRegion model.now r best }
+    requires some { 0 < nodes }
+    requires few { nodes ≤ 2 ^ 62 }
+    requires created { (D.state desk.old).created ≡ true }
+    ensures { Gives model.now nodes result (D.state desk.old) (D.state desk.new) }
+{
+    let mut search = Search::new(alloc, model, engine)?;
+    let mut writer = LogWriter::new(alloc)?;
+    writer.write_head(desk)?;
+    let mut lines = LogLines { writer, desk };
+    let ended = search.run(alloc, model, nodes, &mut lines);
+    let LogLines { mut writer, desk } = lines;
+    let more = ended?;
+    writer.write_end(desk)?;
+    loses_nothing::<NoExtra>();
+    let Search { found, nodes, .. } = search;
+    Ok(Solved {
+        nodes,
+        answer: answer_from(more, found),
+    })
+}
+
+/// Looks for a best solution of a model that is served (`refute_basic::is_served` tells) by branch
+/// and bound, and writes the log of the search. It opens at most `nodes` nodes, and keeps one region
+/// with saves, so its memory grows with the depth of the search. At each node it derives until no
+/// propagator finds anything, or 16 lines for each cell of the region were put; what is left it
+/// splits: an open presence; or else a bound of the interval that was cut last, while it is open, or of
+/// the one with the greatest least start, its start before its end, at the middle, the earlier half
+/// first. `Fault` comes only where the desk failed;
+/// the log is then, as after `NoMemory`, a front part of a log's text.
+pub fn solve<D: Desk>(
+    alloc: Global,
+    model: &Model,
+    nodes: u64,
+    desk: &mut D,
+) -> Result<Solved, SolveFault>
+    requires served { IsTrue (is_served model.now) }
+    requires some { 0 < nodes }
+    requires few { nodes ≤ 2 ^ 62 }
+    requires created { (D.state desk.old).created ≡ true }
+    ensures { Gives model.now nodes result (D.state desk.old) (D.state desk.new) }
+{
+    let engine = start(alloc, model)?;
+    covers();
+    solve_with(alloc, model, engine, nodes, desk)
+}

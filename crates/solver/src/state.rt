@@ -1,0 +1,18 @@
+use crate::mark::Mark;
+use crate::open_intervals::OpenIntervals;
+use engine::{Engine, Propagator};
+use kernel::{Found, Pending};
+use region::Region;
+
+/// A search under way: one region with saves, what waits behind it, what is known of each save, the
+/// engine, the intervals that may be open, the solution found last, and how many nodes were opened.
+#[derive(Drop)]
+pub struct Search<P: Propagator> {
+    pub region: Region,
+    pub pending: Pending,
+    pub marks: Vec<Mark>,
+    pub engine: Engine<P>,
+    pub intervals: OpenIntervals,
+    pub found: Option<Found>,
+    pub nodes: u64,
+}
