@@ -3,8 +3,6 @@
 
 mod judging;
 mod laws;
-#[cfg(test)]
-mod tests;
 
 pub use judging::{CheckFault, Checked, check};
 pub use laws::judgement_is_determined;

@@ -4,7 +4,5 @@
 mod arguments;
 mod commands;
 mod limit;
-#[cfg(test)]
-mod tests;
 
 pub use commands::{Command, WordsFault, read_command};

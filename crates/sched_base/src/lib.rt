@@ -8,8 +8,6 @@ mod ids;
 mod list;
 mod memory;
 mod reading;
-#[cfg(test)]
-mod tests;
 
 pub use boxed::Boxed;
 pub use desk::{Desk, Failed, File, Inlet, Port};

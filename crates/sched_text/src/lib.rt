@@ -11,8 +11,6 @@ mod expressions;
 mod laws;
 mod page;
 mod pieces;
-#[cfg(test)]
-mod tests;
 
 pub use answers::write_answer;
 pub use canonical::print_model;

@@ -72,18 +72,3 @@ pub fn read_number(word: &[u8]) -> Option<i64>
     }
     None
 }
-
-#[cfg(test)]
-mod tests {
-    use super::*;
-    use std::test::Fail;
-
-    #[test]
-    fn reads_the_widest(rt: HostRuntime) -> Result<(), Fail> {
-        assert_eq!(rt; read_number(b"-9223372036854775808"), Some(i64::MIN));
-        assert_eq!(rt; read_number(b"9223372036854775808"), None);
-        assert_eq!(rt; read_count(b"18446744073709551615"), Some(u64::MAX));
-        assert_eq!(rt; read_count(b"18446744073709551616"), None);
-        Ok(())
-    }
-}

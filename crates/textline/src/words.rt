@@ -81,20 +81,3 @@ impl<'a> Words<'a> {
         false
     }
 }
-
-#[cfg(test)]
-mod tests {
-    use super::*;
-    use std::test::Fail;
-
-    #[test]
-    fn takes_words(rt: HostRuntime) -> Result<(), Fail> {
-        let mut words = Words::of(b"s  end");
-        assert!(rt; !words.take(b"end"));
-        assert!(rt; words.take(b"s"));
-        assert_eq!(rt; words.next(), Some(b"".as_slice()));
-        assert_eq!(rt; words.next(), Some(b"end".as_slice()));
-        assert!(rt; words.is_done());
-        Ok(())
-    }
-}

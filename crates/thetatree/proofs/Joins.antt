@@ -7,10 +7,9 @@ use Rattle.std.proofs.lemmas.Int.{ints}
 use Rattle.thetatree.specs.declared.node.Best.{Best}
 use Rattle.thetatree.specs.declared.node.Node.{Node}
 use Rattle.thetatree.specs.Leaves.{Leaves, task_at}
-use Rattle.thetatree.specs.Subsets.{IsAtMost}
 use Rattle.thetatree.specs.Nodes.{greater_of, later, better, best_of, joined}
 use Rattle.thetatree.proofs.Rooms.{greater_in, better_in, best_in}
-use Rattle.thetatree.proofs.Parts.{white_sum, extra, Begins, Within, end_from, Reaches, AtMostBest, HoldsPart}
+use Rattle.thetatree.proofs.Parts.{IsAtMost, white_sum, extra, Begins, Within, end_from, Reaches, AtMostBest, HoldsPart}
 
 -- the greater of two numbers is no less than each
 

@@ -9,4 +9,3 @@ pub mod Members
 pub mod Sets
 pub mod Tops
 pub mod Takes
-pub mod Trials

@@ -6,7 +6,10 @@ use Rattle.thetatree.specs.declared.leaves.Colour.TheVariants.{Out, White, Gray}
 use Rattle.thetatree.specs.declared.node.Best.{Best}
 use Rattle.thetatree.specs.declared.node.Node.{Node}
 use Rattle.thetatree.specs.Leaves.{Leaves, task_at, colour_at}
-use Rattle.thetatree.specs.Subsets.{IsAtMost}
+
+abbrev pub IsAtMost : ℤ → Option ℤ → Type 0
+IsAtMost z None = ⊥
+IsAtMost z (Some a) = z ≤ℤ a
 
 abbrev pub weight : Colour → ℤ → ℤ
 weight Out p = pos 0

@@ -1,4 +1,3 @@
 pub mod Leaves
 pub mod Nodes
 pub mod Trees
-pub mod Subsets

@@ -9,6 +9,3 @@ mod tree;
 
 pub use leaves::{Colour, MAX_TASKS, Task};
 pub use tree::ThetaTree;
-
-#[cfg(test)]
-mod tests;

@@ -1,6 +1,6 @@
 //! Tables of word lists. A row's words stand with one space between two; E alone is the empty word,
 //! and an empty row has no word.
-use crate::{Command, WordsFault, read_command};
+use command_line::{Command, WordsFault, read_command};
 use std::alloc::{AllocError, Global};
 
 fn words_of(alloc: Global, row: &str) -> Result<Vec<String>, AllocError> {

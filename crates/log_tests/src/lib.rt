@@ -1,0 +1,20 @@
+//! Tests of logs and of what reads and writes them: what refutes a look, the steps of a log, how its
+//! lines are spelled, the judgement of a log, and the search that writes one. They call public
+//! functions alone, read each model from its text, and stand in a crate of their own because a crate
+//! with tests is proved a second time with them.
+#![tactic(auto)]
+
+#[cfg(test)]
+mod judging_tests;
+#[cfg(test)]
+mod lines;
+#[cfg(test)]
+mod reader_tests;
+#[cfg(test)]
+mod refuting_tests;
+#[cfg(test)]
+mod search_tests;
+#[cfg(test)]
+mod step_tests;
+#[cfg(test)]
+mod writer_tests;
