@@ -16,6 +16,7 @@ use Rattle.sched_model.specs.Data.{Data}
 use Rattle.sched_model.specs.Domain.{fits_def, is_in_domain}
 use Rattle.sched_model.specs.Sentences.{holds}
 use Rattle.sched_model.specs.Solution.{is_solution}
+use Rattle.sched_model.specs.laws.Small.{moments_small}
 use Rattle.sched_model.specs.Valid.{IsValid, is_small, is_interval_def, is_span_of_moments}
 use Rattle.region.specs.declared.types.Guess.{Guess}
 use Rattle.region.specs.declared.types.Guess.TheVariants.{Present, Absent, StartLe, StartGe, EndLe, EndGe, Before}
@@ -118,9 +119,6 @@ derive_line m r best g (Basic w) valid of is =
 derive_line m r best g (Extra w) valid of is = cc
 
 -- the slots of a solution are fit, and spelled by few short words
-moments_small : (lo hi z : ℤ) → is_span_of_moments lo hi ≡ true → is_between lo hi z ≡ true → is_small z ≡ true
-moments_small lo hi z span h = grind (arith, ints)
-
 fit_slot : (d : IntervalDef) (s : Slot) → is_interval_def d ≡ true → fits_def d s ≡ true → is_fit_slot s ≡ true
 fit_slot d slot.Absent def h = refl
 fit_slot d (slot.Present s e) def h =

@@ -15,6 +15,7 @@ use Rattle.region.specs.laws.Lists.{placewise-length}
 use Rattle.region.specs.laws.Narrowing.{guess_stays, splitting}
 use Rattle.kernel.specs.declared.types.Found.{Found}
 use Rattle.kernel.specs.Pending.{ArePending, AreOpen, Takes, after_saved}
+use Rattle.kernel.specs.laws.Pending.{pending_kept}
 use Rattle.kernel.specs.Steps.{best_of}
 use Rattle.engine.specs.declared.propagator.Propagator.{Ghosts}
 use Rattle.engine.specs.Engines.{EngineValue, IsFor, IsCalm, AreQuiet}
@@ -30,19 +31,13 @@ use Rattle.solver.proofs.Marking.{marked_push, marked_pop, marked_sifted, Popped
 size_of : (m : Data) (r : Region) → IsRegionOf m r → length m.intervals ≡ length r.bounds
 size_of m r of = placewise-length is_narrowed m.intervals r.bounds of.bounds
 
-pending_of : (h k : Held) (gs : List Guess) → k.saved ≡ h.saved → k.promised ≡ h.promised → ArePending h gs → ArePending k gs
-pending_of h k gs saved promised is = record {
-  guesses = subst (λ rs. AreOpen rs gs) (sym saved) is.guesses;
-  room = subst (All (λ n. 0 < n)) (sym promised) is.room;
-}
-
 -- the region was narrowed, and its saves stayed
 pub derived_ready : {P : Type 0} (p : Ghosts P) (m : Data) (s : Search P) (h : Held) (e : EngineValue P) → IsReady p m s → KeepsFixed s.region.region h.region → IsHeldOf m h → h.saved ≡ s.region.saved
     → h.promised ≡ s.region.promised → IsFor p m e → IsCalm p m h.region (best_of s.found) e → (let t : Search P = record s { region = h; engine = e } in IsReady p m t)
 derived_ready p m s h e ready keeps of saved promised for calm = record {
   holding = record {
     of = of;
-    pending = pending_of s.region h s.pending saved promised ready.holding.pending;
+    pending = pending_kept s.region h s.pending saved promised ready.holding.pending;
     engine = for;
     below = subst (λ n. All (λ x. x < n) s.intervals.list) (sym keeps.size) ready.holding.below;
     marks = subst (λ rs. AreMarked (AreQuiet p m) s.intervals.list rs s.marks.items) (sym saved) ready.holding.marks;
