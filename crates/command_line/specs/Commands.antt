@@ -6,10 +6,11 @@ use Rattle.std.specs.Str.Parse.{digits_value}
 abbrev pub Word : Type 0
 Word = List ℕ
 
--- the words MODEL and LOG, and the limit on nodes
+-- the words MODEL and LOG or SCHEDULE, and the limit on nodes
 pub data Command : Type 0 where
   Solve : Word → Word → ℕ → Command
   Check : Word → Word → Command
+  Verify : Word → Word → Command
   Show : Word → Command
 
 -- ---- options and arguments
@@ -96,5 +97,6 @@ command_of [] = None
 command_of (name ∷ ws) =
     if bytes_eq name (codes "solve") then solve_of ws
     else (if bytes_eq name (codes "check") then option_map (λ p. Check p.0 p.1) (two_of ws)
+    else (if bytes_eq name (codes "verify") then option_map (λ p. Verify p.0 p.1) (two_of ws)
     else (if bytes_eq name (codes "show") then option_map Show (one_of ws)
-    else None))
+    else None)))

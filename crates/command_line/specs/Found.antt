@@ -1,6 +1,6 @@
 -- What the values that a parse found say.
 use Rattle.std.specs.Prelude.{ℕ, ◌≤◌, List, [], ◌∷◌, Option, Some, None, ⊤}
-use Rattle.command_line.specs.Commands.{Command, Solve, Check, Show, Word, limit_of, solve_in}
+use Rattle.command_line.specs.Commands.{Command, Solve, Check, Verify, Show, Word, limit_of, solve_in}
 use Rattle.command_line.specs.declared.commands.Command as code
 use Rattle.command_line.specs.declared.commands.Command.TheVariants as view
 
@@ -20,6 +20,7 @@ solve_found _ _ n = None
 abbrev pub seen_of : code.Command → Command
 seen_of (view.Solve model log nodes) = Solve model.now log.now nodes
 seen_of (view.Check model log) = Check model.now log.now
+seen_of (view.Verify model schedule) = Verify model.now schedule.now
 seen_of (view.Show model) = Show model.now
 
 -- from 1 to 10,000,000

@@ -14,7 +14,7 @@ pub enum WordsFault {
     NoMemory,
 }
 
-/// What the program is asked to do. `model` and `log` name files.
+/// What the program is asked to do. `model`, `log` and `schedule` name files.
 #[derive(Clone, Copy, Debug)]
 pub enum Command<'a> {
     /// Solve the model, open at most this many nodes, and write the log.
@@ -27,6 +27,11 @@ pub enum Command<'a> {
     Check {
         model: &'a str,
         log: &'a str,
+    },
+    /// Read the schedule, and test it against the model.
+    Verify {
+        model: &'a str,
+        schedule: &'a str,
     },
     /// Print the model in its canonical form.
     Show {
@@ -61,6 +66,16 @@ pub fn read_command<'a>(alloc: Global, words: &'a [String]) -> Result<Command<'a
             Ok(p) => Ok(Command::Check {
                 model: p.first,
                 log: p.second,
+            }),
+            Err(fault) => Err(fault),
+        };
+    }
+    if name == "verify" {
+        let files = read_two(alloc, rest);
+        return match files {
+            Ok(two) => Ok(Command::Verify {
+                model: two.first,
+                schedule: two.second,
             }),
             Err(fault) => Err(fault),
         };

@@ -5,7 +5,7 @@ use Rattle.sched_base.specs.Calls.{Rose, appended}
 use Rattle.sched_model.specs.declared.types.Answer.{Answer}
 use Rattle.sched_model.specs.declared.types.Answer.TheVariants as answer
 use Rattle.cpo_text.specs.declared.text.Refusal.{Refusal}
-use Rattle.command_line.specs.Commands.{Command, Solve, Check, Show}
+use Rattle.command_line.specs.Commands.{Command, Solve, Check, Verify, Show}
 use Rattle.textline.specs.Lines.{Bytes}
 use Rattle.logtext.specs.Writing.{AppendedFrom}
 use Rattle.checker.specs.Judgement.{log_limit}
@@ -18,12 +18,14 @@ use Rattle.sched_text.specs.Answers.{answer_text}
 use Rattle.sched_text.specs.Canonical.{canonical_text}
 use Rattle.commands.specs.CheckText.{check_text}
 use Rattle.commands.specs.Ended.{is_success}
-use Rattle.commands.specs.Told.{Tells, Reports, usage_line, fault_line, memory_line, refusal_line, log_line, too_long_line}
-use Rattle.commands.specs.Runs.{RunPromise, EveryRun, CommandPromise, HasFiles, FileRefuses, RefusesBy, FileDeserves, ShowsPart, LogPromise, HoldsBegunLog, CutShort, AnswerPromise, AcceptsPart, ending_of, SolveEnds, file_of, ReadsModel, ReadsLog}
+use Rattle.commands.specs.Told.{Tells, Reports, usage_line, fault_line, memory_line, refusal_line, log_line, too_long_line, unfit_line}
+use Rattle.commands.specs.Runs.{RunPromise, EveryRun, CommandPromise, HasFiles, FileRefuses, RefusesBy, FileDeserves, ShowsPart, LogPromise, HoldsBegunLog, CutShort, AnswerPromise, AcceptsPart, ending_of, SolveEnds, file_of, ReadsModel, ReadsLog, schedule_limit, ReadsSchedule, VerifiesPart}
+use Rattle.commands.specs.VerifyText.{verify_text}
+use Rattle.sched_model.specs.Solution.{objective_of}
 use Rattle.commands.specs.Runs.CutShort.{before_log, in_log, in_answer}
 use Rattle.cpo_elab.specs.Answers.Answer.{Refused}
 use Rattle.commands.specs.Runs.RefusesLog.{at_line, too_long}
-use Rattle.commands.specs.Tries.{OnlyReads, TriesSolve, TriesCheck, TriesShow, EndsStopped}
+use Rattle.commands.specs.Tries.{OnlyReads, TriesSolve, TriesCheck, TriesVerify, TriesShow, EndsStopped}
 
 -- A line on standard error behind whatever a command has done.
 
@@ -106,6 +108,19 @@ log_refused k text old s new out later reports = record {
   memory_told = λ h. cc;
 }
 
+schedule_refused : (k : Command) (text : Bytes) (old s new : State) → s.out ≡ old.out → old.faults ≤ s.faults → Reports text s new → EveryRun (Some k) end.ScheduleRefused old new
+schedule_refused k text old s new out later reports = record {
+  later = omega (arith, later, reports.later);
+  usage = λ enough. (λ h. cc, λ h. cc);
+  unopened = λ h. cc;
+  fault = λ h. cc;
+  calm = λ is there h. cc;
+  kept = λ h. cc;
+  quiet = λ h other. ap (λ (x : State). x.out) reports.only ∙ out;
+  fault_told = λ h. cc;
+  memory_told = λ h. cc;
+}
+
 -- What only some of a desk has changed, after the line too.
 
 abbrev pub OnlySolves : State → State → Type 0
@@ -175,6 +190,7 @@ solve_ends model log limit end.Usage old new won promise = cc
 solve_ends model log limit end.ModelRefused old new won promise = absurd cc
 solve_ends model log limit end.Fault old new won promise = absurd cc
 solve_ends model log limit end.LogRefused old new won promise = cc
+solve_ends model log limit end.ScheduleRefused old new won promise = cc
 solve_ends model log limit end.NoMemory old new won promise = absurd cc
 
 pub solved : (model log : Bytes) (limit : ℕ) (e : Ended) (old new : State) → TriesSolve model log limit (Ok e) old new → RunPromise (Some (Solve model log limit)) e old new
@@ -216,6 +232,7 @@ solve_stopped model log limit (stop.ModelRefused r) ended old s new tries (inr e
     (solve_no_memory model log limit old s new tries.only tries.later (ap (λ (x : State). x.out) reads.only) (before_log (subst (OnlyRefuses old) (sym reads.only) refl)) ends.1)
 solve_stopped model log limit (stop.LogRefused k) ended old s new tries ends = absurd tries.tried
 solve_stopped model log limit stop.LogTooLong ended old s new tries ends = absurd tries.tried
+solve_stopped model log limit (stop.ScheduleRefused r) ended old s new tries ends = absurd tries.tried
 
 -- `check`.
 
@@ -269,6 +286,68 @@ check_stopped model log stop.LogTooLong ended old s new tries ends = subst (λ x
   };
   reads = λ no_fault enough. (model_read model too_long_line old s new tries.tried.2 ends.1, λ served. log_read log too_long_line old s new tries.tried.3 ends.1);
 })
+check_stopped model log (stop.ScheduleRefused r) ended old s new tries ends = absurd tries.tried
+
+-- `verify`.
+
+abbrev pub OnlyVerifies : State → State → Type 0
+OnlyVerifies old new = new ≡ record old { model = new.model; schedule = new.schedule; out = new.out; err = new.err; faults = new.faults }
+
+verify_only : (text : Bytes) (old s new : State) → s ≡ record old { model = s.model; schedule = s.schedule; out = s.out; faults = s.faults } → Reports text s new → OnlyVerifies old new
+verify_only text old s new only reports =
+    subst (OnlyVerifies old) (sym (reports.only ∙ ap (λ (x : State). record x { err = new.err; faults = new.faults }) only)) refl
+
+schedule_read : (schedule text : Bytes) (old s new : State) → ReadsSchedule schedule old s → Reports text s new → ReadsSchedule schedule old new
+schedule_read schedule text old s new far reports = subst (λ (p : Place). ReadsAtMost (schedule_limit + 1) (file_of old schedule) p.left) (sym (ap (λ (x : State). x.schedule) reports.only)) far
+
+verified_told : (model schedule text : Bytes) (old s new : State) → VerifiesPart model schedule old s → Reports text s new → VerifiesPart model schedule old new
+verified_told model schedule text old s new (inl out) reports = inl (ap (λ (x : State). x.out) reports.only ∙ out)
+verified_told model schedule text old s new (inr part) reports = inr (part.0, part.1, part.2, subst (λ b. AppendedFrom (verify_text (objective_of part.0 part.1)) old.out b) (sym (ap (λ (x : State). x.out) reports.only)) part.3)
+
+pub verified : (model schedule : Bytes) (e : Ended) (old new : State) → TriesVerify model schedule (Ok e) old new → RunPromise (Some (Verify model schedule)) e old new
+verified model schedule e old new tries = subst (λ x. RunPromise (Some (Verify model schedule)) x old new) (sym tries.tried.1) (record {
+  every = succeeded (Verify model schedule) end.Done old new refl tries.tried.0 (ap (λ (x : State). x.err) tries.only);
+  its_own = record { only = subst (OnlyVerifies old) (sym tries.only) refl; ends = tries.tried.2 };
+  reads = λ no_fault enough. (tries.tried.3, λ read. tries.tried.4);
+})
+
+verify_no_memory : (model schedule : Bytes) (old s new : State) → s ≡ record old { model = s.model; schedule = s.schedule; out = s.out; faults = s.faults } → old.faults ≤ s.faults → s.out ≡ old.out
+    → Reports memory_line s new → RunPromise (Some (Verify model schedule)) end.NoMemory old new
+verify_no_memory model schedule old s new only later out reports = record {
+  every = no_memory (Verify model schedule) old s new (ap (λ (x : State). x.err) only) out later reports;
+  its_own = record { only = verify_only memory_line old s new only reports; ends = ap (λ (x : State). x.out) reports.only ∙ out };
+  reads = λ no_fault enough. absurd (enough refl);
+}
+
+pub verify_stopped : (model schedule : Bytes) (e : Stop) (ended : Ended) (old s new : State) → TriesVerify model schedule (Err e) old s → EndsStopped e ended s new → RunPromise (Some (Verify model schedule)) ended old new
+verify_stopped model schedule stop.Fault ended old s new tries ends = subst (λ x. RunPromise (Some (Verify model schedule)) x old new) (sym ends.0) (record {
+  every = faulted (Verify model schedule) old s new (ap (λ (x : State). x.err) tries.only) tries.later tries.tried.0 (λ calm there. tries.tried.1 calm there.0 there.1) ends.1;
+  its_own = record { only = verify_only fault_line old s new tries.only ends.1; ends = verified_told model schedule fault_line old s new tries.tried.2 ends.1 };
+  reads = λ no_fault enough. absurd (no_fault refl);
+})
+verify_stopped model schedule stop.NoMemory ended old s new tries ends = subst (λ x. RunPromise (Some (Verify model schedule)) x old new) (sym ends.0)
+    (verify_no_memory model schedule old s new tries.only tries.later tries.tried ends.1)
+verify_stopped model schedule (stop.ModelRefused r) ended old s new tries (inl ends) =
+    let reads = tries.tried.0 in
+    subst (λ x. RunPromise (Some (Verify model schedule)) x old new) (sym ends.0) (record {
+      every = model_refused (Verify model schedule) (refusal_line r) old s new (ap (λ (x : State). x.out) reads.only) reads.later ends.1;
+      its_own = record { only = verify_only (refusal_line r) old s new tries.only ends.1; ends = refuses (λ k. FileDeserves old model (Refused k)) old s new reads r tries.tried.2 ends.1 };
+      reads = λ no_fault enough. (model_read model (refusal_line r) old s new tries.tried.3 ends.1, λ read. absurd (read refl));
+    })
+verify_stopped model schedule (stop.ModelRefused r) ended old s new tries (inr ends) = subst (λ x. RunPromise (Some (Verify model schedule)) x old new) (sym ends.0)
+    (verify_no_memory model schedule old s new tries.only tries.later (ap (λ (x : State). x.out) tries.tried.0.only) ends.1)
+verify_stopped model schedule (stop.ScheduleRefused r) ended old s new tries (inl ends) = subst (λ x. RunPromise (Some (Verify model schedule)) x old new) (sym ends.0) (record {
+  every = schedule_refused (Verify model schedule) (unfit_line r) old s new tries.tried.0 tries.later ends.1;
+  its_own = record {
+    only = verify_only (unfit_line r) old s new tries.only ends.1;
+    ends = record { refusal = r; due = tries.tried.1; told = tells_on (unfit_line r) old s new (ap (λ (x : State). x.err) tries.only) tries.later ends.1 };
+  };
+  reads = λ no_fault enough. (model_read model (unfit_line r) old s new tries.tried.2 ends.1, λ read. schedule_read schedule (unfit_line r) old s new tries.tried.3 ends.1);
+})
+verify_stopped model schedule (stop.ScheduleRefused r) ended old s new tries (inr ends) = subst (λ x. RunPromise (Some (Verify model schedule)) x old new) (sym ends.0)
+    (verify_no_memory model schedule old s new tries.only tries.later tries.tried.0 ends.1)
+verify_stopped model schedule (stop.LogRefused k) ended old s new tries ends = absurd tries.tried
+verify_stopped model schedule stop.LogTooLong ended old s new tries ends = absurd tries.tried
 
 -- `show`.
 
@@ -317,6 +396,7 @@ show_stopped model (stop.ModelRefused r) ended old s new tries (inr ends) = subs
     (show_no_memory model old s new tries.only tries.later (ap (λ (x : State). x.out) tries.tried.0.only) ends.1)
 show_stopped model (stop.LogRefused k) ended old s new tries ends = absurd tries.tried
 show_stopped model stop.LogTooLong ended old s new tries ends = absurd tries.tried
+show_stopped model (stop.ScheduleRefused r) ended old s new tries ends = absurd tries.tried
 
 -- Words that are no command, and words for which memory was refused.
 
@@ -358,6 +438,10 @@ unread_own (Some (Solve model log limit)) old new reports = record {
 }
 unread_own (Some (Check model log)) old new reports = record {
   only = subst (OnlyChecks old) (sym reports.only) refl;
+  ends = ap (λ (x : State). x.out) reports.only;
+}
+unread_own (Some (Verify model schedule)) old new reports = record {
+  only = subst (OnlyVerifies old) (sym reports.only) refl;
   ends = ap (λ (x : State). x.out) reports.only;
 }
 unread_own (Some (Show model)) old new reports = record {

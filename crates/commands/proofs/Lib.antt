@@ -2,6 +2,10 @@ pub mod Loaded
 pub mod Lines
 pub mod Logged
 pub mod Searched
+pub mod Shown
 pub mod Solved
 pub mod Checked
+pub mod Failing
+pub mod Tested
+pub mod Verified
 pub mod Ending

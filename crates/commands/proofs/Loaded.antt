@@ -17,6 +17,7 @@ stops_reading name old new stop.NoMemory h = tt
 stops_reading name old new (stop.ModelRefused r) h = (h.0, (Refused r, h.1, refl), h.2)
 stops_reading name old new (stop.LogRefused k) h = absurd h
 stops_reading name old new stop.LogTooLong h = absurd h
+stops_reading name old new (stop.ScheduleRefused r) h = absurd h
 
 pub served_loads : (name : Bytes) (old new : State) (m : Data) (r : Result Data Stop) → Reads name (Ok m) old new → Serves m r → Loads name r old new
 served_loads name old new m (Ok k) reads serves = subst (λ (d : Data). Loads name (Ok d) old new) (sym serves.0) (reads.0, (reads.1, serves.1), reads.2)

@@ -55,6 +55,7 @@ stopped m limit name log stop.NoMemory old s t reads kept deserved says = record
 stopped m limit name log (stop.ModelRefused r) old s t reads kept deserved says = absurd says
 stopped m limit name log (stop.LogRefused k) old s t reads kept deserved says = absurd says
 stopped m limit name log stop.LogTooLong old s t reads kept deserved says = absurd says
+stopped m limit name log (stop.ScheduleRefused r) old s t reads kept deserved says = absurd says
 
 -- the answer is there: what stands on the desk by then
 answered : (m : Data) (log : Bytes) (limit : ℕ) (solved : Solved) (old s t : State) → OnlyReads old s → Searches m log limit (Ok solved) s t → t ≡ record old { model = s.model; logged = t.logged; created = true; logs = with_log log old.logs; faults = s.faults }

@@ -1,3 +1,4 @@
+pub mod AnswersVerify
 pub mod CheckText
 pub mod Ended
 pub mod LastSchedule
@@ -5,3 +6,4 @@ pub mod Runs
 pub mod Stops
 pub mod Told
 pub mod Tries
+pub mod VerifyText

@@ -1,13 +1,17 @@
 -- What a run promises: which ending it has, and what it has done to the desk by then.
-use Rattle.std.specs.Prelude.{◌≡◌, ◌↔◌, ◌⊎◌, ℕ, ◌+◌, ◌≤◌, true, false, IsTrue, List, [], take, Option, Some, None, option_map, option_and_then, IfSome, IsSome, ⊤, if◌then◌else◌}
+use Rattle.std.specs.Prelude.{◌≡◌, ◌↔◌, ◌⊎◌, ℕ, ◌+◌, ◌≤◌, true, false, IsTrue, List, [], take, Option, Some, None, option_map, option_and_then, IfSome, IsSome, ⊤, if◌then◌else◌, ◌<◌, length, slice_get}
 use Rattle.sched_base.specs.declared.desk.File.{File}
 use Rattle.sched_base.specs.State.{State, bytes_of, with_log}
 use Rattle.sched_base.specs.Calls.{Rose, appended}
 use Rattle.sched_model.specs.declared.types.Answer.{Answer as Printed}
 use Rattle.sched_model.specs.declared.types.Answer.TheVariants as answer
 use Rattle.sched_model.specs.declared.types.Solved.{Solved}
+use Rattle.sched_model.specs.declared.types.Assignment.{Assignment}
+use Rattle.sched_model.specs.declared.types.Constraint.{Constraint as Sentence}
 use Rattle.sched_model.specs.Words.{is_empty}
 use Rattle.sched_model.specs.Data.{Data}
+use Rattle.sched_model.specs.Sentences.{Holds}
+use Rattle.sched_model.specs.Solution.{IsSolution, objective_of}
 use Rattle.cpo_text.specs.declared.text.Refusal.{Refusal}
 use Rattle.cpo_elab.specs.Answers.{Answer}
 use Rattle.cpo_elab.specs.Answers.Answer.{Accepted, Refused}
@@ -16,8 +20,9 @@ use Rattle.refute_basic.specs.Served.{is_served}
 use Rattle.kernel.specs.declared.types.Verdict.{Verdict}
 use Rattle.kernel.specs.Steps.{LogState, opening}
 use Rattle.kernel.specs.Promises.{Means}
-use Rattle.command_line.specs.Commands.{Command, Solve, Check, Show, command_of}
+use Rattle.command_line.specs.Commands.{Command, Solve, Check, Verify, Show, command_of}
 use Rattle.textline.specs.Lines.{Bytes}
+use Rattle.read_schedule.specs.Schedules.{Spells, IsRefused as IsNoSchedule}
 use Rattle.sched_text.specs.Answers.{answer_text}
 use Rattle.sched_text.specs.Canonical.{canonical_text}
 use Rattle.logtext.specs.Logs.{PlainLine, IsPlainLog, plain_log}
@@ -28,10 +33,13 @@ use Rattle.solver.specs.Splits.{SplitFrom}
 use Rattle.solver.specs.Answers.{IsAnswer, verdict_in, shown_in, is_unfinished}
 use Rattle.commands.specs.declared.ended.Ended.{Ended}
 use Rattle.commands.specs.declared.ended.Ended.TheVariants as end
+use Rattle.commands.specs.declared.stop.ScheduleRefusal.{ScheduleRefusal}
+use Rattle.commands.specs.declared.stop.ScheduleRefusal.TheVariants.{TooLong, Line, Constraint}
 use Rattle.commands.specs.CheckText.{check_text}
 use Rattle.commands.specs.Ended.{is_success}
 use Rattle.commands.specs.LastSchedule.{last_schedule}
-use Rattle.commands.specs.Told.{Tells, Reports, usage_line, fault_line, memory_line, refusal_line, log_line, too_long_line}
+use Rattle.commands.specs.Told.{Tells, Reports, usage_line, fault_line, memory_line, refusal_line, log_line, too_long_line, unfit_line}
+use Rattle.commands.specs.VerifyText.{verify_text}
 
 -- The files of a desk.
 
@@ -44,7 +52,8 @@ abbrev pub model_bytes : Bytes → Bytes
 model_bytes bytes = take 16777217 bytes
 
 -- of the file of this name, where the desk tells its files and this one is there, so many bytes were read at most, and the
--- others are left in its slot: of the model one byte beyond its limit of 16,777,216, and of the log one beyond 2^62
+-- others are left in its slot: of the model one byte beyond its limit of 16,777,216, of the log one beyond 2^62, and of the
+-- schedule one beyond its limit of 67,108,864
 abbrev pub file_of : State → Bytes → Option Bytes
 file_of s name = option_and_then (λ files. bytes_of files name) s.files
 
@@ -53,6 +62,12 @@ ReadsModel name old new = ReadsAtMost 16777217 (file_of old name) new.model.left
 
 abbrev pub ReadsLog : Bytes → State → State → Type 0
 ReadsLog name old new = ReadsAtMost (log_limit + 1) (file_of old name) new.log.left
+
+abbrev pub schedule_limit : ℕ
+schedule_limit = 67108864
+
+abbrev pub ReadsSchedule : Bytes → State → State → Type 0
+ReadsSchedule name old new = ReadsAtMost (schedule_limit + 1) (file_of old name) new.schedule.left
 
 -- the text in the file of this name deserves this
 abbrev pub FileDeserves : State → Bytes → Answer → Type 0
@@ -82,6 +97,7 @@ abbrev pub HasFiles : Option Command → State → Type 0
 HasFiles None s = ⊤
 HasFiles (Some (Solve model log limit)) s = HasFile s model
 HasFiles (Some (Check model log)) s = HasFile s model × HasFile s log
+HasFiles (Some (Verify model schedule)) s = HasFile s model × HasFile s schedule
 HasFiles (Some (Show model)) s = HasFile s model
 
 -- What every run promises.
@@ -115,8 +131,8 @@ pub record RefusesBy (IsDue : Refusal → Type 0) (old new : State) : Type 0 whe
 abbrev pub RefusesText : Bytes → State → State → Type 0
 RefusesText model old new = RefusesBy (λ r. FileDeserves old model (Refused r)) old new
 
--- That one; or the text deserves a model that has a sequence, or a constraint that is neither a precedence nor an
--- expression. Such a model isn't served yet, and its refusal is number 15 at statement 0 and place 0.
+-- That one; or the text deserves a model that has a sequence, or a constraint on a cumulative or a state function. Such a
+-- model isn't served yet, and its refusal is number 15 at statement 0 and place 0.
 abbrev pub RefusesModel : Bytes → State → State → Type 0
 RefusesModel model old new = RefusesBy (FileRefuses old model) old new
 
@@ -242,6 +258,70 @@ pub record CheckPromise (model log : Bytes) (result : Ended) (old new : State) :
   pub only : new ≡ record old { model = new.model; log = new.log; out = new.out; err = new.err; faults = new.faults }
   pub ends : CheckEnds model log result old new
 
+-- What `verify` promises. It serves each model of the language.
+
+-- the schedule's bytes are within their limit, and spell this assignment
+abbrev pub SpellsWithin : Data → Bytes → Assignment → Type 0
+SpellsWithin m bytes a = (length bytes ≤ schedule_limit) × Spells m bytes a
+
+-- this constraint doesn't hold, and each before it does
+pub record FailsFirst (m : Data) (a : Assignment) (c : ℕ) : Type 0 where
+  pub before : (j : ℕ) (k : Sentence) → j < c → slice_get m.constraints j ≡ Some k → Holds m a k
+  pub sentence : Sentence
+  pub there : slice_get m.constraints c ≡ Some sentence
+  pub fails : Holds m a sentence → ⊥
+
+-- The refusal that is due of these bytes: they are longer than their limit; or they are no schedule text, and this is the
+-- first line that is wrong or missing; or the assignment that they spell breaks a constraint, and this is the first of them.
+abbrev pub IsUnfit : Data → Bytes → ScheduleRefusal → Type 0
+IsUnfit m bytes TooLong = schedule_limit < length bytes
+IsUnfit m bytes (Line k) = (length bytes ≤ schedule_limit) × IsNoSchedule m bytes k
+IsUnfit m bytes (Constraint c) = (a : Assignment) × SpellsWithin m bytes a × FailsFirst m a c
+
+-- the text of the model's file deserves this model, and the schedule's file spells this assignment, which is a solution
+pub record IsVerified (model schedule : Bytes) (m : Data) (a : Assignment) (s : State) : Type 0 where
+  pub deserved : FileDeserves s model (Accepted m)
+  pub spells : IfFile s schedule (λ bytes. SpellsWithin m bytes a)
+  pub solves : IsSolution m a
+
+-- it is, and exactly the text that says so, with its value where the model has an objective, was printed
+pub record VerifiesSchedule (model schedule : Bytes) (old new : State) : Type 0 where
+  pub m : Data
+  pub a : Assignment
+  pub verified : IsVerified model schedule m a old
+  pub printed : new.out ≡ appended (verify_text (objective_of m a)) old.out
+
+-- the text of the model's file deserves this model, and this refusal of the schedule's file is due
+pub record RefusalDue (model schedule : Bytes) (r : ScheduleRefusal) (s : State) : Type 0 where
+  pub m : Data
+  pub deserved : FileDeserves s model (Accepted m)
+  pub unfit : IfFile s schedule (λ bytes. IsUnfit m bytes r)
+
+-- it is, and is told
+pub record RefusesSchedule (model schedule : Bytes) (old new : State) : Type 0 where
+  pub refusal : ScheduleRefusal
+  pub due : RefusalDue model schedule refusal old
+  pub told : Tells (unfit_line refusal) old new
+
+-- after a fault nothing was printed, or a front part of the text of a schedule that is a solution
+abbrev pub VerifiesPart : Bytes → Bytes → State → State → Type 0
+VerifiesPart model schedule old new =
+    (new.out ≡ old.out) ⊎ ((m : Data) × (a : Assignment) × IsVerified model schedule m a old × AppendedFrom (verify_text (objective_of m a)) old.out new.out)
+
+-- by its ending; no other comes
+abbrev pub VerifyEnds : Bytes → Bytes → Ended → State → State → Type 0
+VerifyEnds model schedule end.Done old new = VerifiesSchedule model schedule old new
+VerifyEnds model schedule end.ModelRefused old new = RefusesText model old new
+VerifyEnds model schedule end.ScheduleRefused old new = RefusesSchedule model schedule old new
+VerifyEnds model schedule end.Fault old new = VerifiesPart model schedule old new
+VerifyEnds model schedule end.NoMemory old new = new.out ≡ old.out
+VerifyEnds model schedule _ old new = ⊥
+
+pub record VerifyPromise (model schedule : Bytes) (result : Ended) (old new : State) : Type 0 where
+  -- nothing but these has changed; no log is opened or created
+  pub only : new ≡ record old { model = new.model; schedule = new.schedule; out = new.out; err = new.err; faults = new.faults }
+  pub ends : VerifyEnds model schedule result old new
+
 -- What `show` promises.
 
 -- the text of the model's file deserves this model, and exactly its canonical text was printed
@@ -279,13 +359,15 @@ abbrev pub CommandPromise : Option Command → Ended → State → State → Typ
 CommandPromise None result old new = NoCommandEnds result old new
 CommandPromise (Some (Solve model log limit)) result old new = SolvePromise model log limit result old new
 CommandPromise (Some (Check model log)) result old new = CheckPromise model log result old new
+CommandPromise (Some (Verify model schedule)) result old new = VerifyPromise model schedule result old new
 CommandPromise (Some (Show model)) result old new = ShowPromise model result old new
 
--- how far a command reads its files; `check` opens the log only where the model isn't refused
+-- how far a command reads its files; `check` and `verify` open the second only where the model isn't refused
 abbrev pub ReadsFiles : Option Command → Ended → State → State → Type 0
 ReadsFiles None result old new = ⊤
 ReadsFiles (Some (Solve model log limit)) result old new = ReadsModel model old new
 ReadsFiles (Some (Check model log)) result old new = ReadsModel model old new × ((result ≡ end.ModelRefused → ⊥) → ReadsLog log old new)
+ReadsFiles (Some (Verify model schedule)) result old new = ReadsModel model old new × ((result ≡ end.ModelRefused → ⊥) → ReadsSchedule schedule old new)
 ReadsFiles (Some (Show model)) result old new = ReadsModel model old new
 
 pub record RunPromise (command : Option Command) (result : Ended) (old new : State) : Type 0 where

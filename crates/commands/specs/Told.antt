@@ -6,6 +6,8 @@ use Rattle.sched_base.specs.Calls.{Rose, appended}
 use Rattle.cpo_text.specs.declared.text.Refusal.{Refusal}
 use Rattle.textline.specs.Lines.{Bytes, line}
 use Rattle.logtext.specs.Writing.{AppendedFrom}
+use Rattle.commands.specs.declared.stop.ScheduleRefusal.{ScheduleRefusal}
+use Rattle.commands.specs.declared.stop.ScheduleRefusal.TheVariants.{TooLong, Line, Constraint}
 
 abbrev pub usage_line : Bytes
 usage_line = line (codes "usage: schedtool COMMAND ARGUMENTS" ∷ [])
@@ -24,6 +26,12 @@ log_line k = line (codes "log" ∷ codes "refused" ∷ codes "line" ∷ decimal 
 
 abbrev pub too_long_line : Bytes
 too_long_line = line (codes "log too long" ∷ [])
+
+-- a file that is longer than its limit is refused at line 0, before its first
+abbrev pub unfit_line : ScheduleRefusal → Bytes
+unfit_line TooLong = line (codes "schedule refused line 0" ∷ [])
+unfit_line (Line k) = line (codes "schedule" ∷ codes "refused" ∷ codes "line" ∷ decimal k ∷ [])
+unfit_line (Constraint c) = line (codes "schedule" ∷ codes "refused" ∷ codes "constraint" ∷ decimal c ∷ [])
 
 -- this line was appended to standard error; a front part of it only where a fault was counted
 pub record Tells (text : Bytes) (old new : State) : Type 0 where

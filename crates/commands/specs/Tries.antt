@@ -1,9 +1,11 @@
 -- What each step of a command does to the desk on the way.
-use Rattle.std.specs.Prelude.{◌≡◌, ◌⊎◌, ℕ, ◌≤◌, true, false, IsTrue, List, Result, Ok, Err, ⊤}
+use Rattle.std.specs.Prelude.{◌≡◌, ◌⊎◌, ℕ, ◌≤◌, true, false, IsTrue, List, Result, Ok, Err, ⊤, ◌+◌, Option, Some, None, take}
 use Rattle.sched_base.specs.State.{State, with_log, with_faults}
 use Rattle.sched_base.specs.Calls.{Rose}
 use Rattle.sched_model.specs.declared.types.Solved.{Solved}
+use Rattle.sched_model.specs.declared.types.Assignment.{Assignment}
 use Rattle.sched_model.specs.Data.{Data}
+use Rattle.sched_model.specs.Solution.{IsSolution}
 use Rattle.cpo_elab.specs.Answers.Answer.{Accepted, Refused}
 use Rattle.refute_basic.specs.Served.{is_served}
 use Rattle.kernel.specs.Promises.{Means}
@@ -17,8 +19,8 @@ use Rattle.commands.specs.declared.ended.Ended.TheVariants as end
 use Rattle.commands.specs.declared.stop.Stop.{Stop}
 use Rattle.commands.specs.declared.stop.Stop.TheVariants as stop
 use Rattle.commands.specs.Ended.{is_success}
-use Rattle.commands.specs.Told.{Reports, fault_line, memory_line, refusal_line, log_line, too_long_line}
-use Rattle.commands.specs.Runs.{IfFile, FileDeserves, FileServes, FileRefuses, not_served, HasFile, LogPromise, HoldsBegunLog, AnswerPromise, CutShort, AcceptsPart, AcceptPromise, ShowsModel, ShowsPart, model_bytes, ReadsModel, ReadsLog}
+use Rattle.commands.specs.Told.{Reports, fault_line, memory_line, refusal_line, log_line, too_long_line, unfit_line}
+use Rattle.commands.specs.Runs.{IfFile, FileDeserves, FileServes, FileRefuses, not_served, HasFile, LogPromise, HoldsBegunLog, AnswerPromise, CutShort, AcceptsPart, AcceptPromise, ShowsModel, ShowsPart, model_bytes, ReadsModel, ReadsLog, schedule_limit, ReadsSchedule, SpellsWithin, FailsFirst, IsUnfit, VerifiesSchedule, VerifiesPart, RefusalDue}
 
 -- Reading the model.
 
@@ -102,6 +104,7 @@ JudgesFile m log (Err stop.LogTooLong) old new = IfFile old log (λ bytes. IsToo
 JudgesFile m log (Err stop.Fault) old new = IsFault log old new
 JudgesFile m log (Err stop.NoMemory) old new = ⊤
 JudgesFile m log (Err (stop.ModelRefused r)) old new = ⊥
+JudgesFile m log (Err (stop.ScheduleRefused r)) old new = ⊥
 
 abbrev pub CheckTried : Bytes → Bytes → Result Ended Stop → State → State → Type 0
 CheckTried model log (Ok ended) old new = (new.faults ≡ old.faults) × (ended ≡ end.Accepted) × AcceptPromise model log old new × ReadsModel model old new × ReadsLog log old new
@@ -110,11 +113,62 @@ CheckTried model log (Err stop.NoMemory) old new = new.out ≡ old.out
 CheckTried model log (Err (stop.ModelRefused r)) old new = OnlyReads old new × (new.faults ≡ old.faults) × FileRefuses old model r × ReadsModel model old new
 CheckTried model log (Err (stop.LogRefused k)) old new = (new.out ≡ old.out) × ((m : Data) × FileServes old model m × IfFile old log (λ bytes. IsRefused m (log_bytes bytes) k × (IsTooLong m (log_bytes bytes) → ⊥))) × ReadsModel model old new × ReadsLog log old new
 CheckTried model log (Err stop.LogTooLong) old new = (new.out ≡ old.out) × ((m : Data) × FileServes old model m × IfFile old log (λ bytes. IsTooLong m (log_bytes bytes))) × ReadsModel model old new × ReadsLog log old new
+CheckTried model log (Err (stop.ScheduleRefused r)) old new = ⊥
 
 pub record TriesCheck (model log : Bytes) (result : Result Ended Stop) (old new : State) : Type 0 where
   pub only : new ≡ record old { model = new.model; log = new.log; out = new.out; faults = new.faults }
   pub later : old.faults ≤ new.faults
   pub tried : CheckTried model log result old new
+
+-- Verifying a schedule.
+
+-- only the slot of the schedule and the count of faults have changed
+pub record OnlyTests (old new : State) : Type 0 where
+  pub only : new ≡ record old { schedule = new.schedule; faults = new.faults }
+  pub later : old.faults ≤ new.faults
+
+-- of a longer file the first 67,108,865 bytes decide
+abbrev pub schedule_bytes : Bytes → Bytes
+schedule_bytes bytes = take (schedule_limit + 1) bytes
+
+abbrev pub FetchesSchedule : Bytes → Result (List ℕ) Stop → State → State → Type 0
+FetchesSchedule name (Ok bytes) old new = (new.faults ≡ old.faults) × IfFile old name (λ bs. bytes ≡ schedule_bytes bs) × ReadsSchedule name old new
+FetchesSchedule name (Err stop.Fault) old new = IsFault name old new
+FetchesSchedule name (Err stop.NoMemory) old new = ⊤
+FetchesSchedule name (Err _) old new = ⊥
+
+-- the first constraint that doesn't hold
+abbrev pub FindsFailing : Data → Assignment → Option ℕ → Type 0
+FindsFailing m a None = IsSolution m a
+FindsFailing m a (Some c) = FailsFirst m a c
+
+-- the solution that the bytes spell, or why they spell none
+abbrev pub Tests : Data → Bytes → Result Assignment Stop → Type 0
+Tests m bytes (Ok a) = SpellsWithin m bytes a × IsSolution m a
+Tests m bytes (Err (stop.ScheduleRefused r)) = IsUnfit m bytes r
+Tests m bytes (Err stop.NoMemory) = ⊤
+Tests m bytes (Err _) = ⊥
+
+-- what the schedule in a file is found to be
+abbrev pub TestsFile : Data → Bytes → Result Assignment Stop → State → State → Type 0
+TestsFile m schedule (Ok a) old new = (new.faults ≡ old.faults) × IfFile old schedule (λ bytes. SpellsWithin m bytes a) × IsSolution m a × ReadsSchedule schedule old new
+TestsFile m schedule (Err (stop.ScheduleRefused r)) old new = IfFile old schedule (λ bytes. IsUnfit m bytes r) × ReadsSchedule schedule old new
+TestsFile m schedule (Err stop.Fault) old new = IsFault schedule old new
+TestsFile m schedule (Err stop.NoMemory) old new = ⊤
+TestsFile m schedule (Err _) old new = ⊥
+
+abbrev pub VerifyTried : Bytes → Bytes → Result Ended Stop → State → State → Type 0
+VerifyTried model schedule (Ok ended) old new = (new.faults ≡ old.faults) × (ended ≡ end.Done) × VerifiesSchedule model schedule old new × ReadsModel model old new × ReadsSchedule schedule old new
+VerifyTried model schedule (Err stop.Fault) old new = Rose old.faults new.faults × (old.calm ≡ true → HasFile old model → HasFile old schedule → ⊥) × VerifiesPart model schedule old new
+VerifyTried model schedule (Err stop.NoMemory) old new = new.out ≡ old.out
+VerifyTried model schedule (Err (stop.ModelRefused r)) old new = OnlyReads old new × (new.faults ≡ old.faults) × FileDeserves old model (Refused r) × ReadsModel model old new
+VerifyTried model schedule (Err (stop.ScheduleRefused r)) old new = (new.out ≡ old.out) × RefusalDue model schedule r old × ReadsModel model old new × ReadsSchedule schedule old new
+VerifyTried model schedule (Err _) old new = ⊥
+
+pub record TriesVerify (model schedule : Bytes) (result : Result Ended Stop) (old new : State) : Type 0 where
+  pub only : new ≡ record old { model = new.model; schedule = new.schedule; out = new.out; faults = new.faults }
+  pub later : old.faults ≤ new.faults
+  pub tried : VerifyTried model schedule result old new
 
 -- Showing a model.
 
@@ -143,3 +197,4 @@ EndsStopped stop.NoMemory ended old new = (ended ≡ end.NoMemory) × Reports me
 EndsStopped (stop.ModelRefused r) ended old new = EndsTold end.ModelRefused (refusal_line r) ended old new
 EndsStopped (stop.LogRefused k) ended old new = EndsTold end.LogRefused (log_line k) ended old new
 EndsStopped stop.LogTooLong ended old new = (ended ≡ end.LogRefused) × Reports too_long_line old new
+EndsStopped (stop.ScheduleRefused r) ended old new = EndsTold end.ScheduleRefused (unfit_line r) ended old new

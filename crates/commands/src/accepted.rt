@@ -21,7 +21,7 @@ pub fn push_count(bytes: &mut Vec<u8>, n: u64) -> Result<(), NoMemory>
 }
 
 /// A line of a word and a number.
-fn push_valued(bytes: &mut Vec<u8>, word: &[u8], v: i64) -> Result<(), NoMemory>
+pub fn push_valued(bytes: &mut Vec<u8>, word: &[u8], v: i64) -> Result<(), NoMemory>
     ensures { OnOk result (bytes.new.items ≡ bytes.old.items ++ line (word.now ∷ signed_decimal v ∷ [])) }
 {
     bytes.extend_from_slice(word)?;

@@ -4,7 +4,7 @@ ghost use Rattle.commands.specs.Ended.{status_of};
 /// How a run ended.
 #[derive(Clone, Copy, Debug, PartialEq, Eq)]
 pub enum Ended {
-    /// A solution was printed.
+    /// A solution was printed, a schedule is one, or a model was shown.
     Done,
     /// The log is accepted.
     Accepted,
@@ -20,6 +20,8 @@ pub enum Ended {
     Fault,
     /// A line of the log is wrong or missing, or the log is too long.
     LogRefused,
+    /// The schedule's file is too long, a line of it is wrong or missing, or a constraint doesn't hold.
+    ScheduleRefused,
     /// Memory was refused.
     NoMemory,
 }
@@ -38,6 +40,7 @@ impl Ended {
             Ended::ModelRefused => 3,
             Ended::Fault => 4,
             Ended::LogRefused => 5,
+            Ended::ScheduleRefused => 6,
             Ended::NoMemory => 70,
         }
     }

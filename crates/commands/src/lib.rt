@@ -4,12 +4,16 @@
 mod accepted;
 mod checking;
 mod ended;
+mod laws;
 mod load;
 mod report;
 mod running;
 mod showing;
 mod solving;
 mod stop;
+mod valid;
+mod verifying;
 
 pub use ended::Ended;
+pub use laws::answer_verifies;
 pub use running::run;

@@ -1,12 +1,13 @@
-ghost use Rattle.std.specs.Prelude.{◌≡◌, ◌++◌, OnOk, IfOk};
+ghost use Rattle.std.specs.Prelude.{◌≡◌, ◌++◌, ◌∷◌, [], codes, OnOk, IfOk};
 ghost use Rattle.std.specs.Fmt.{decimal};
-ghost use Rattle.commands.specs.Told.{Reports, log_line, refusal_line};
+ghost use Rattle.textline.specs.Lines.{line};
+ghost use Rattle.commands.specs.Told.{Reports, log_line, refusal_line, unfit_line};
 ghost use Rattle.commands.specs.Tries.{EndsStopped};
 ghost use Rattle.commands.specs.declared.stop.Stop.TheVariants as stop;
 
 use crate::accepted::push_count;
 use crate::ended::Ended;
-use crate::stop::Stop;
+use crate::stop::{ScheduleRefusal, Stop};
 use cpo_text::Refusal;
 use sched_base::{Desk, NoMemory, Port};
 use std::alloc::Global;
@@ -48,6 +49,30 @@ fn log_text(alloc: Global, line: u64) -> Result<Vec<u8>, NoMemory>
     Ok(bytes)
 }
 
+/// What a schedule is refused at: a line, or a constraint.
+fn push_unfit(bytes: &mut Vec<u8>, word: &[u8], n: u32) -> Result<(), NoMemory>
+    ensures { OnOk result (bytes.new.items ≡ bytes.old.items ++ line (codes "schedule" ∷ codes "refused" ∷ word.now ∷ decimal n ∷ [])) }
+{
+    bytes.extend_from_slice(b"schedule refused ")?;
+    bytes.extend_from_slice(word)?;
+    push_told(bytes, b" ", u64::from(n))?;
+    bytes.extend_from_slice(b"\n")?;
+    Ok(())
+}
+
+/// The line that tells why the schedule is refused.
+fn unfit_text(alloc: Global, r: ScheduleRefusal) -> Result<Vec<u8>, NoMemory>
+    ensures { IfOk result (λ v. v.items ≡ unfit_line r) }
+{
+    let mut bytes = Vec::new(alloc);
+    match r {
+        ScheduleRefusal::TooLong => bytes.extend_from_slice(b"schedule refused line 0\n")?,
+        ScheduleRefusal::Line(k) => push_unfit(&mut bytes, b"line", k)?,
+        ScheduleRefusal::Constraint(c) => push_unfit(&mut bytes, b"constraint", c)?,
+    }
+    Ok(bytes)
+}
+
 fn end_model_refused<D: Desk>(alloc: Global, desk: &mut D, r: Refusal) -> Ended
     ensures { EndsStopped (stop.ModelRefused r) result (D.state desk.old) (D.state desk.new) }
 {
@@ -78,6 +103,21 @@ fn end_log_refused<D: Desk>(alloc: Global, desk: &mut D, line: u64) -> Ended
     }
 }
 
+fn end_schedule_refused<D: Desk>(alloc: Global, desk: &mut D, r: ScheduleRefusal) -> Ended
+    ensures { EndsStopped (stop.ScheduleRefused r) result (D.state desk.old) (D.state desk.new) }
+{
+    match unfit_text(alloc, r) {
+        Ok(text) => {
+            report(desk, text.as_slice());
+            Ended::ScheduleRefused
+        }
+        Err(_) => {
+            report(desk, b"no memory\n");
+            Ended::NoMemory
+        }
+    }
+}
+
 /// The ending of a command that came to no answer, with its line on standard error.
 pub fn end_stopped<D: Desk>(alloc: Global, desk: &mut D, stop: Stop) -> Ended
     ensures { EndsStopped stop result (D.state desk.old) (D.state desk.new) }
@@ -97,5 +137,6 @@ pub fn end_stopped<D: Desk>(alloc: Global, desk: &mut D, stop: Stop) -> Ended
             report(desk, b"log too long\n");
             Ended::LogRefused
         }
+        Stop::ScheduleRefused(r) => end_schedule_refused(alloc, desk, r),
     }
 }

@@ -8,6 +8,7 @@ use crate::ended::Ended;
 use crate::report::report;
 use crate::showing::run_show;
 use crate::solving::run_solve;
+use crate::verifying::run_verify;
 use command_line::{Command, WordsFault, read_command};
 use sched_base::Desk;
 use std::alloc::Global;
@@ -34,6 +35,7 @@ fn run_words<D: Desk>(alloc: Global, words: &[String], desk: &mut D) -> Ended
     match read_command(alloc, words) {
         Ok(Command::Solve { model, log, nodes }) => run_solve(alloc, desk, model, log, nodes),
         Ok(Command::Check { model, log }) => run_check(alloc, desk, model, log),
+        Ok(Command::Verify { model, schedule }) => run_verify(alloc, desk, model, schedule),
         Ok(Command::Show { model }) => run_show(alloc, desk, model),
         Err(WordsFault::Usage) => end_usage(desk),
         Err(WordsFault::NoMemory) => end_no_memory(desk),

@@ -1,7 +1,19 @@
 use checker::CheckFault;
 use cpo_text::{ReadFault, Refusal};
+use read_schedule::ScheduleFault;
 use sched_base::{Failed, NoMemory, ReadError};
 use solver::SolveFault;
+
+/// Why a schedule is refused.
+#[derive(Clone, Copy, Debug)]
+pub enum ScheduleRefusal {
+    /// Its file is longer than its limit.
+    TooLong,
+    /// This line is the first that can't be continued to a schedule text of the model, or is missing.
+    Line(u32),
+    /// This constraint of the model is the first that doesn't hold.
+    Constraint(u32),
+}
 
 /// Why a command comes to no answer.
 #[derive(Clone, Copy, Debug)]
@@ -14,6 +26,7 @@ pub enum Stop {
     /// This line of the log is the first that is wrong or missing.
     LogRefused(u64),
     LogTooLong,
+    ScheduleRefused(ScheduleRefusal),
 }
 
 impl From<Failed> for Stop {
@@ -92,6 +105,20 @@ impl From<CheckFault> for Stop {
             CheckFault::TooLong => Stop::LogTooLong,
             CheckFault::Fault => Stop::Fault,
             CheckFault::NoMemory => Stop::NoMemory,
+        }
+    }
+}
+
+impl From<ScheduleFault> for Stop {
+    ghost use Rattle.std.specs.Prelude.{◌≡◌};
+    ghost use Rattle.commands.specs.Stops.{stop_of_schedule};
+
+    ghost from_gives = { λ e s. s ≡ stop_of_schedule e };
+
+    fn from(e: ScheduleFault) -> Stop {
+        match e {
+            ScheduleFault::Refused { line } => Stop::ScheduleRefused(ScheduleRefusal::Line(line)),
+            ScheduleFault::NoMemory => Stop::NoMemory,
         }
     }
 }

@@ -1,7 +1,7 @@
 //! The commands, over models and logs: what they answer, refuse and find at fault.
 use crate::told::{
-    CHECK, SOLVE, SolvedRow, TWO_IN_A_ROW, has_optimum, prints, refuses_all, solves, solves_all,
-    tell,
+    CHECK, PrintedRow, SOLVE, SolvedRow, TWO_IN_A_ROW, VERIFY, has_optimum, prints, prints_all,
+    refuses_all, solves, solves_all, tell,
 };
 use sched_base::NoMemory;
 use std::alloc::Global;
@@ -86,31 +86,13 @@ fn failing_calls(rt: HostRuntime) -> Result<(), Fail> {
     let log = b"schedlog 1\nv\nend\n";
     assert!(rt; faults_at_each(alloc, &SOLVE, ("", b""), 5)?);
     assert!(rt; faults_at_each(alloc, &CHECK, ("", log), 6)?);
+    assert!(rt; faults_at_each(alloc, &VERIFY, ("", b"end\n"), 6)?);
     assert!(rt; faults_at_each(alloc, &["show", "m"], (ONE_PLACE, b""), 4)?);
     Ok(())
 }
 
-/// Logs, the status of `check`, and what it prints to the two streams.
-type LogRow = (&'static str, u8, &'static str, &'static str);
-
-fn judges_all(alloc: Global, model: &str, rows: &[LogRow]) -> Result<bool, NoMemory> {
-    for (log, status, out, err) in rows {
-        if !prints(
-            alloc,
-            &CHECK,
-            (model, log),
-            *status,
-            out.as_bytes(),
-            err.as_bytes(),
-        )? {
-            return Ok(false);
-        }
-    }
-    Ok(true)
-}
-
 /// A whole log, one with a wrong line, and one without its last line.
-const CLOSED: [LogRow; 3] = [
+const CLOSED: [PrintedRow; 3] = [
     (
         "schedlog 1\nf LEAF 0 0\nend\n",
         0,
@@ -128,12 +110,12 @@ const CLOSED: [LogRow; 3] = [
 
 #[test]
 fn closed_logs(rt: HostRuntime) -> Result<(), Fail> {
-    assert!(rt; judges_all(rt.alloc(), NO_ROOM, &CLOSED)?);
+    assert!(rt; prints_all(rt.alloc(), &CHECK, NO_ROOM, &CLOSED)?);
     Ok(())
 }
 
 /// A whole log, one with a wrong line, and one that is cut off.
-const SPLIT: [LogRow; 3] = [
+const SPLIT: [PrintedRow; 3] = [
     (
         "schedlog 1\ns SL 0 0\ns EL 0 1\nv p 0 1\nend\n",
         0,
@@ -156,7 +138,7 @@ const SPLIT: [LogRow; 3] = [
 
 #[test]
 fn split_logs(rt: HostRuntime) -> Result<(), Fail> {
-    assert!(rt; judges_all(rt.alloc(), TWO_PLACES, &SPLIT)?);
+    assert!(rt; prints_all(rt.alloc(), &CHECK, TWO_PLACES, &SPLIT)?);
     Ok(())
 }
 

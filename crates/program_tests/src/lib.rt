@@ -12,4 +12,6 @@ mod small_tests;
 #[cfg(test)]
 mod told;
 #[cfg(test)]
+mod verify_tests;
+#[cfg(test)]
 mod word_tests;

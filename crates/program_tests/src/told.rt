@@ -7,6 +7,8 @@ pub const SOLVE: [&str; 3] = ["solve", "m", "l"];
 
 pub const CHECK: [&str; 3] = ["check", "m", "l"];
 
+pub const VERIFY: [&str; 3] = ["verify", "m", "l"];
+
 pub const TWO_IN_A_ROW: &str =
     "a = intervalVar(size=1,start=0..2,end=0..3); b = intervalVar(size=1,start=0..2,end=0..3); endBeforeStart(a,b); minimize(endOf(b));\n";
 
@@ -44,7 +46,7 @@ fn two_files(alloc: Global, model: &str, log: &[u8]) -> Result<List<File>, NoMem
     Ok(files)
 }
 
-/// A desk with the model in the file `m` and the log in the file `l`, that fails the calls of
+/// A desk with the model in the file `m` and the log or schedule in the file `l`, that fails the calls of
 /// these numbers.
 fn desk_with(alloc: Global, model: &str, log: &[u8], failing: &[u32]) -> Result<MemDesk, NoMemory> {
     let numbers = List::from_vec(Vec::from_slice(alloc, failing)?);
@@ -218,6 +220,30 @@ pub fn prints(
     let (model, log) = files;
     let told = tell(alloc, words, (model, log.as_bytes()), &[])?;
     Ok(told.prints(status, out, err))
+}
+
+/// Files, the status of a run over a model and each of them, and what it prints to the two streams.
+pub type PrintedRow = (&'static str, u8, &'static str, &'static str);
+
+pub fn prints_all(
+    alloc: Global,
+    words: &[&str],
+    model: &str,
+    rows: &[PrintedRow],
+) -> Result<bool, NoMemory> {
+    for (file, status, out, err) in rows {
+        if !prints(
+            alloc,
+            words,
+            (model, file),
+            *status,
+            out.as_bytes(),
+            err.as_bytes(),
+        )? {
+            return Ok(false);
+        }
+    }
+    Ok(true)
 }
 
 /// Whether the model is refused so, and nothing else done.

@@ -26,7 +26,7 @@ fn tell_row(alloc: Global, row: &str) -> Result<Told, NoMemory> {
 }
 
 /// Words that are no command.
-const USAGE: [&str; 30] = [
+const USAGE: [&str; 32] = [
     "",
     "E",
     "-",
@@ -54,6 +54,8 @@ const USAGE: [&str; 30] = [
     "check m",
     "check m l l",
     "check m l --nodes 1",
+    "verify m",
+    "verify m l --nodes 1",
     "show",
     "show m l",
     "show m --nodes 1",

@@ -1,0 +1,87 @@
+-- What verifying a schedule has done, from what its steps did.
+use Rattle.std.proofs.Common.{◌≡◌, ◌≤◌, ℕ, List, Option, Ok, Err, length, take, refl, sym, ap, subst, ◌∙◌, inl, inr, arith}
+use Rattle.sched_base.specs.declared.desk.File.{File}
+use Rattle.sched_base.specs.declared.desk.Failed.{Failed}
+use Rattle.sched_base.specs.declared.desk.Port.TheVariants.{Out}
+use Rattle.sched_base.specs.State.{State}
+use Rattle.sched_base.specs.Calls.{Rose, Writes, appended}
+use Rattle.sched_model.specs.declared.types.Assignment.{Assignment}
+use Rattle.sched_model.specs.Data.{Data}
+use Rattle.sched_model.specs.Solution.{objective_of}
+use Rattle.cpo_elab.specs.Answers.Answer.{Accepted}
+use Rattle.textline.specs.Lines.{Bytes}
+use Rattle.commands.specs.declared.ended.Ended.TheVariants as end
+use Rattle.commands.specs.declared.stop.ScheduleRefusal.{ScheduleRefusal}
+use Rattle.commands.specs.declared.stop.Stop.TheVariants as stop
+use Rattle.commands.specs.Runs.{IfFile, FileDeserves, ReadsModel, ReadsSchedule, SpellsWithin, IsUnfit, IsVerified, RefusalDue}
+use Rattle.commands.specs.Tries.{OnlyReads, OnlyTests, TestsFile, TriesVerify}
+use Rattle.commands.specs.VerifyText.{verify_text}
+
+-- The model and a schedule were read, and the schedule is a solution.
+
+verifies : (m : Data) (model schedule : Bytes) (a : Assignment) (old s t : State) → OnlyReads old s → FileDeserves old model (Accepted m) → TestsFile m schedule (Ok a) s t → IsVerified model schedule m a old
+verifies m model schedule a old s t reads deserved tests = record {
+  deserved = deserved;
+  spells = subst (λ (files : Option (List File)). IfFile (record old { files = files }) schedule (λ bytes. SpellsWithin m bytes a)) (ap (λ (x : State). x.files) reads.only) tests.1;
+  solves = tests.2;
+}
+
+both_only : (old s t : State) → OnlyReads old s → OnlyTests s t → t ≡ record old { model = s.model; schedule = t.schedule; faults = t.faults }
+both_only old s t reads tested = tested.only ∙ ap (λ (x : State). record x { schedule = t.schedule; faults = t.faults }) reads.only
+
+read_behind : (schedule : Bytes) (old s t : State) → OnlyReads old s → ReadsSchedule schedule s t → ReadsSchedule schedule old t
+read_behind schedule old s t reads far = subst (λ (files : Option (List File)). ReadsSchedule schedule (record old { files = files }) t) (ap (λ (x : State). x.files) reads.only) far
+
+-- the text that says so was printed
+pub verify_printed : (m : Data) (model schedule bytes : Bytes) (a : Assignment) (u : Unit {0}) (old s t w : State) → OnlyReads old s → s.faults ≡ old.faults → FileDeserves old model (Accepted m) → ReadsModel model old s → OnlyTests s t → TestsFile m schedule (Ok a) s t
+    → bytes ≡ verify_text (objective_of m a) → Writes Out bytes (Ok u) t w → TriesVerify model schedule (Ok end.Done) old w
+verify_printed m model schedule bytes a u old s t w reads kept deserved far tested tests spelt writes =
+    let text : Bytes = verify_text (objective_of m a) in
+    let faults : t.faults ≡ old.faults = tests.0 ∙ kept in
+    let is : w ≡ record old { model = s.model; schedule = t.schedule; out = appended text old.out; faults = t.faults } =
+    writes.written
+    ∙ ap (λ bs. record t { out = appended bs t.out }) spelt
+    ∙ ap (λ (x : State). record x { out = appended text x.out }) (both_only old s t reads tested) in
+    subst (TriesVerify model schedule (Ok end.Done) old) (sym is) (record {
+      only = refl;
+      later = subst (λ n. old.faults ≤ n) (sym faults) (omega arith);
+      tried = (faults, refl, record { m = m; a = a; verified = verifies m model schedule a old s t reads deserved tests; printed = refl }, far, read_behind schedule old s t reads tests.3);
+    })
+
+-- or a front part of it
+pub verify_half_printed : (m : Data) (model schedule bytes : Bytes) (a : Assignment) (e : Failed) (old s t w : State) → OnlyReads old s → s.faults ≡ old.faults → FileDeserves old model (Accepted m) → OnlyTests s t → TestsFile m schedule (Ok a) s t
+    → bytes ≡ verify_text (objective_of m a) → Writes Out bytes (Err e) t w → TriesVerify model schedule (Err stop.Fault) old w
+verify_half_printed m model schedule bytes a e old s t w reads kept deserved tested tests spelt writes =
+    let text : Bytes = verify_text (objective_of m a) in
+    let n : ℕ = writes.failed.0 in
+    let here = both_only old s t reads tested in
+    let faults : t.faults ≡ old.faults = tests.0 ∙ kept in
+    let is : w ≡ record old { model = s.model; schedule = t.schedule; out = appended (take n text) old.out; faults = w.faults } =
+    writes.failed.2
+    ∙ ap (λ bs. record t { out = appended (take n bs) t.out; faults = w.faults }) spelt
+    ∙ ap (λ (x : State). record x { out = appended (take n text) x.out; faults = w.faults }) here in
+    subst (TriesVerify model schedule (Err stop.Fault) old) (sym is) (record {
+      only = refl;
+      later = subst (λ k. k ≤ w.faults) faults writes.count.later;
+      tried = (
+        subst (λ k. Rose k w.faults) faults writes.count.failed,
+        (λ calm model_there schedule_there. let ok = writes.calm (ap (λ (x : State). x.calm) here ∙ calm) in cc),
+        inr (m, a, verifies m model schedule a old s t reads deserved tests, (n, subst (λ bs. n ≤ length bs) spelt writes.failed.1, refl)),
+      );
+    })
+
+-- The schedule is to be refused.
+pub schedule_refused : (m : Data) (model schedule : Bytes) (r : ScheduleRefusal) (old s t : State) → OnlyReads old s → FileDeserves old model (Accepted m) → ReadsModel model old s → OnlyTests s t → TestsFile m schedule (Err (stop.ScheduleRefused r)) s t
+    → TriesVerify model schedule (Err (stop.ScheduleRefused r)) old t
+schedule_refused m model schedule r old s t reads deserved far tested tests =
+    let is = both_only old s t reads tested in
+    let due : RefusalDue model schedule r old = record {
+      m = m;
+      deserved = deserved;
+      unfit = subst (λ (files : Option (List File)). IfFile (record old { files = files }) schedule (λ bytes. IsUnfit m bytes r)) (ap (λ (x : State). x.files) reads.only) tests.0;
+    } in
+    record {
+      only = subst (λ (x : State). x ≡ record old { model = x.model; schedule = x.schedule; out = x.out; faults = x.faults }) (sym is) refl;
+      later = omega (arith, reads.later, tested.later);
+      tried = (ap (λ (x : State). x.out) is, due, subst (λ (x : State). ReadsModel model old x) (sym is) far, read_behind schedule old s t reads tests.1);
+    }

@@ -1,0 +1,16 @@
+pub mod Texts
+pub mod Rows
+pub mod Taken
+pub mod Spelled
+pub mod Numbers
+pub mod Standing
+pub mod Heads
+pub mod Names
+pub mod Assignments
+pub mod Defs
+pub mod Segments
+pub mod Body
+pub mod Ends
+pub mod Refusing
+pub mod Headed
+pub mod Promised

@@ -1,0 +1,5 @@
+use Rattle.read_schedule.proofs.Promised.{schedules_told}
+use Rattle.read_schedule.proofs.laws.schedule_is_told.Goals as goal
+
+pub returns : goal.returns
+returns c = schedules_told

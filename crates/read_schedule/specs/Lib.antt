@@ -1,0 +1,4 @@
+pub mod Schedules
+pub mod Rows
+pub mod Reads
+pub mod Promises
