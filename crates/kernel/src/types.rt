@@ -1,4 +1,5 @@
 use refute_basic::BasicWitness;
+use refute_hier::HierWitness;
 use region::Guess;
 use sched_model::Assignment;
 use thiserror::Error;
@@ -8,6 +9,7 @@ use thiserror::Error;
 #[derive(Debug, Drop)]
 pub enum Witness<W> {
     Basic(BasicWitness),
+    Hier(HierWitness),
     Extra(W),
 }
 

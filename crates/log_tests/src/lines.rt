@@ -16,14 +16,24 @@ pub fn line<X: Refuter>(alloc: Global, text: &str) -> Result<Option<Line<X::Witn
     }
 }
 
-/// The guess of a line, where it has one, and its witness of a basic kind, where it has one.
-pub fn parts<W: Drop>(line: &Line<W>) -> (Option<Guess>, Option<BasicWitness>) {
+/// The guess of a line, where it has one.
+pub fn guess_of<W: Drop>(line: &Line<W>) -> Option<Guess> {
     match line {
-        Line::Derive(g, Witness::Basic(w)) => (Some(*g), Some(*w)),
-        Line::Derive(g, Witness::Extra(_)) => (Some(*g), None),
-        Line::Fail(Witness::Basic(w)) => (None, Some(*w)),
-        Line::Fail(Witness::Extra(_)) => (None, None),
-        Line::Split(g) => (Some(*g), None),
-        Line::Sol(_) => (None, None),
+        Line::Derive(g, _) => Some(*g),
+        Line::Fail(_) => None,
+        Line::Split(g) => Some(*g),
+        Line::Sol(_) => None,
+    }
+}
+
+/// The witness of a line, where it has one of a basic kind.
+pub fn witness_of<W: Drop>(line: &Line<W>) -> Option<&BasicWitness> {
+    match line {
+        Line::Derive(_, Witness::Basic(w)) => Some(w),
+        Line::Derive(_, _) => None,
+        Line::Fail(Witness::Basic(w)) => Some(w),
+        Line::Fail(_) => None,
+        Line::Split(_) => None,
+        Line::Sol(_) => None,
     }
 }

@@ -53,10 +53,13 @@ fn splits_by(alloc: Global, text: &[u8], g: Guess) -> bool {
 
 #[test]
 fn reads_lines(rt: HostRuntime) -> Result<(), Fail> {
-    let texts: [&[u8]; 9] = [
+    let texts: [&[u8]; 12] = [
         b"schedlog 1\n",
         b"d P 0 LEAF 1 4294967295\n",
         b"f EXTRA 3 5 0 7\n",
+        b"f ARC 4294967295 7\n",
+        b"f CYCLE 0\n",
+        b"f CYCLE 2 0 4294967295 1 7 9 0 0 0\n",
         b"s SL 4294967295 -4611686018427387904\n",
         b"s EG 0 4611686018427387904\n",
         b"s B 4294967295 0 7\n",
@@ -68,14 +71,14 @@ fn reads_lines(rt: HostRuntime) -> Result<(), Fail> {
     assert!(rt;
         splits_by(
             rt.alloc(),
-            texts[3],
+            texts[6],
             Guess::StartLe(Itv(4294967295), -4611686018427387904)
         )
     );
     assert!(rt;
         splits_by(
             rt.alloc(),
-            texts[5],
+            texts[8],
             Guess::Before(Seq(4294967295), Itv(0), Itv(7))
         )
     );
@@ -85,7 +88,7 @@ fn reads_lines(rt: HostRuntime) -> Result<(), Fail> {
 
 #[test]
 fn refuses_other_spellings(rt: HostRuntime) -> Result<(), Fail> {
-    let texts: [&[u8]; 19] = [
+    let texts: [&[u8]; 25] = [
         b"\n",
         b"schedlog 01\n",
         b"schedlog 2\n",
@@ -95,6 +98,12 @@ fn refuses_other_spellings(rt: HostRuntime) -> Result<(), Fail> {
         b"x\n",
         b"f LEAF 00 0\n",
         b"f EXTRA 3 5 0\n",
+        b"f ARC 0\n",
+        b"f ARC 0 0 0\n",
+        b"f CYCLE\n",
+        b"f CYCLE 1 0 0 0\n",
+        b"f CYCLE 2 0 0 0 0\n",
+        b"f CYCLE 1 0 0 0 4294967296\n",
         b"f EXTRA 4294967295 5\n",
         b"s P +1\n",
         b"s  P 1\n",

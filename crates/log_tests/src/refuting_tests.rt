@@ -2,10 +2,11 @@
 ghost use Rattle.std.specs.Prelude.{IsTrue};
 ghost use Rattle.region.specs.Looks.{IsRegionOf};
 
-use crate::lines::{line, parts};
+use crate::lines::{guess_of, line, witness_of};
 use cpo_elab::read_model;
-use kernel::NoExtra;
+use kernel::{Line, NoExtra, NoWitness, Witness};
 use refute_basic::{Basic, BasicWitness, find_leaf, is_served, settled_slot};
+use refute_hier::Hier;
 use region::{Guess, Look, Refuter, Region, is_tight, refutes, tighten};
 use sched_base::{Itv, NoMemory};
 use sched_model::{Model, Slot};
@@ -25,6 +26,40 @@ const BEHIND_ITSELF: &str = "a = intervalVar(size=1,start=0,end=1); endBeforeSta
 /// It is present.
 const ABSENT: &str = "a = intervalVar(size=1,start=0,end=1); !presenceOf(a);";
 
+/// `b` starts too late by 1 for `a`, or just in time.
+const LATE_BY_ONE: &str =
+    "a = intervalVar(size=1,start=0..9,end=0..9); b = intervalVar(size=1,start=0..9,end=0..9); endBeforeStart(a,b,8);";
+
+const JUST_IN_TIME: &str =
+    "a = intervalVar(size=1,start=0..9,end=0..9); b = intervalVar(size=1,start=0..9,end=0..9); endBeforeStart(a,b,7);";
+
+const LATE_IF_THERE: &str =
+    "a = intervalVar(size=1,start=0..9,end=0..9); b = intervalVar(optional,size=1,start=0..9,end=0..9); endBeforeStart(a,b,8);";
+
+/// `a` would have to end at 10.
+const LATE_BACK: &str =
+    "a = intervalVar(size=1,start=0..9,end=0..9); b = intervalVar(size=1,start=0..9,end=0..9); endAtStart(a,b,-10);";
+
+const JUST_BACK: &str =
+    "a = intervalVar(size=1,start=0..9,end=0..9); b = intervalVar(size=1,start=0..9,end=0..9); endAtStart(a,b,-9);";
+
+/// From the start of `a` to its end, to the start of `b`, and back: 1 too long, or just as long.
+const ROUND: &str =
+    "a = intervalVar(size=2,start=0..9,end=0..9); b = intervalVar(size=1,start=0..9,end=0..9); endBeforeStart(a,b); startBeforeStart(b,a,-1);";
+
+const JUST_ROUND: &str =
+    "a = intervalVar(size=2,start=0..9,end=0..9); b = intervalVar(size=1,start=0..9,end=0..9); endBeforeStart(a,b); startBeforeStart(b,a,-2);";
+
+const ROUND_IF_THERE: &str =
+    "a = intervalVar(size=2,start=0..9,end=0..9); b = intervalVar(optional,size=1,start=0..9,end=0..9); endBeforeStart(a,b); startBeforeStart(b,a,-1);";
+
+/// `b` starts when `a` ends, and later.
+const AT_AND_BEFORE: &str =
+    "a = intervalVar(size=1,start=0..9,end=0..9); b = intervalVar(size=1,start=0..9,end=0..9); endAtStart(a,b); endBeforeStart(a,b,1);";
+
+/// It is longer than its greatest size.
+const LONGER: &str = "a = intervalVar(size=1..2,start=0..9,end=0..9); startBeforeEnd(a,a,3);";
+
 const EARLY: &str = "a = intervalVar(size=1,start=0,end=1); minimize(endOf(a));";
 
 const LATE: &str = "a = intervalVar(size=1,start=0,end=1); maximize(endOf(a));";
@@ -33,7 +68,7 @@ const LATE: &str = "a = intervalVar(size=1,start=0,end=1); maximize(endOf(a));";
 /// whether the witness refutes the root.
 type Row = (&'static str, Option<i64>, &'static str, bool);
 
-const REFUTED: [Row; 31] = [
+const REFUTED: [Row; 70] = [
     (NO_ROOM, None, "f LEAF 0 0\n", true),
     (NO_ROOM, None, "f LEAF 0 1\n", false),
     (NO_ROOM, None, "f LEAF 1 0\n", false),
@@ -65,18 +100,77 @@ const REFUTED: [Row; 31] = [
     (EARLY, Some(1), "f OBJ\n", true),
     (LATE, Some(0), "f OBJ\n", false),
     (LATE, Some(1), "f OBJ\n", true),
+    (LATE_BY_ONE, None, "f ARC 0 0\n", true),
+    (LATE_BY_ONE, None, "f ARC 1 0\n", false),
+    (LATE_BY_ONE, None, "f ARC 0 1\n", false),
+    (LATE_BY_ONE, None, "f ARC 0 2\n", false),
+    (JUST_IN_TIME, None, "f ARC 0 0\n", false),
+    (JUST_IN_TIME, None, "d SL 1 7 ARC 0 0\n", true),
+    (JUST_IN_TIME, None, "d SL 1 8 ARC 0 0\n", false),
+    (JUST_IN_TIME, None, "d EG 0 2 ARC 0 0\n", true),
+    (LATE_IF_THERE, None, "f ARC 0 0\n", false),
+    (LATE_IF_THERE, None, "d P 1 ARC 0 0\n", true),
+    (LATE_BACK, None, "f ARC 0 1\n", true),
+    (LATE_BACK, None, "f ARC 0 0\n", false),
+    (JUST_BACK, None, "f ARC 0 1\n", false),
+    (ABSENT, None, "f ARC 0 0\n", false),
+    (ROUND, None, "f CYCLE 3 1 0 0 0 0 0 0 0 0 1 0 0\n", true),
+    (ROUND, None, "f CYCLE 3 0 0 0 0 0 1 0 0 1 0 0 0\n", true),
+    (
+        JUST_ROUND,
+        None,
+        "f CYCLE 3 1 0 0 0 0 0 0 0 0 1 0 0\n",
+        false,
+    ),
+    (
+        ROUND,
+        None,
+        "f CYCLE 6 1 0 0 0 0 0 0 0 0 1 0 0 1 0 0 0 0 0 0 0 0 1 0 0\n",
+        true,
+    ),
+    (ROUND, None, "f CYCLE 0\n", false),
+    (ROUND, None, "f CYCLE 2 1 0 0 0 0 0 0 0\n", false),
+    (ROUND, None, "f CYCLE 3 1 0 0 0 0 1 0 0 0 0 0 0\n", false),
+    (ROUND, None, "f CYCLE 3 1 0 1 0 0 0 0 0 0 1 0 0\n", false),
+    (ROUND, None, "f CYCLE 3 1 0 0 1 0 0 0 0 0 1 0 0\n", false),
+    (ROUND, None, "f CYCLE 3 1 0 0 0 0 0 1 0 0 1 0 0\n", false),
+    (ROUND, None, "f CYCLE 3 1 0 0 0 0 0 2 0 0 1 0 0\n", false),
+    (ROUND, None, "f CYCLE 3 1 0 0 0 0 0 0 1 0 1 0 0\n", false),
+    (ROUND, None, "f CYCLE 3 3 0 0 0 0 0 0 0 0 1 0 0\n", false),
+    (ROUND, None, "f CYCLE 3 1 2 0 0 0 0 0 0 0 1 0 0\n", false),
+    (ROUND, None, "f CYCLE 3 1 0 0 0 0 0 0 0 0 2 0 0\n", false),
+    (
+        ROUND_IF_THERE,
+        None,
+        "f CYCLE 3 1 0 0 0 0 0 0 0 0 1 0 0\n",
+        false,
+    ),
+    (
+        ROUND_IF_THERE,
+        None,
+        "d P 1 CYCLE 3 1 0 0 0 0 0 0 0 0 1 0 0\n",
+        true,
+    ),
+    (AT_AND_BEFORE, None, "f CYCLE 2 0 1 0 0 0 0 1 0\n", true),
+    (AT_AND_BEFORE, None, "f CYCLE 2 0 1 0 0 0 0 1 1\n", false),
+    (AT_AND_BEFORE, None, "f CYCLE 2 0 0 0 0 0 0 1 0\n", false),
+    (LONGER, None, "f CYCLE 2 0 0 0 0 2 0 0 0\n", true),
+    (LONGER, None, "f CYCLE 2 0 0 0 0 2 0 1 0\n", false),
+    (LONGER, None, "f CYCLE 2 0 0 0 0 2 0 0 1\n", false),
+    (BEHIND_ITSELF, None, "f CYCLE 2 0 0 0 0 1 0 0 0\n", true),
+    (ABSENT, None, "f CYCLE 2 0 0 0 0 1 0 0 0\n", false),
 ];
 
 /// Its size is 3 where it ends at 3.
 const SHORT_OR_LONG: &str = "a = intervalVar(size=3,start=0,end=2..3);";
 
 /// What a witness shows under a guess that is open, or under none.
-fn shows(
+fn shows<X: Refuter>(
     model: &Model,
     region: &Region,
     best: Option<i64>,
     g: Option<Guess>,
-    w: &BasicWitness,
+    w: &X::Witness,
 ) -> bool
     requires { IsRegionOf model.now region.now.region }
 {
@@ -85,30 +179,87 @@ fn shows(
             return false;
         }
     }
-    refutes::<Basic>(model, region, best, g, w)
+    refutes::<X>(model, region, best, g, w)
 }
 
-fn is_so_at(alloc: Global, model: &Model, row: &Row) -> Result<bool, NoMemory> {
-    let (_, best, text, want) = *row;
+/// What the witness of a line shows under its guess; none where the line has no witness.
+fn shown_by(
+    model: &Model,
+    region: &Region,
+    best: Option<i64>,
+    line: &Line<NoWitness>,
+) -> Option<bool>
+    requires { IsRegionOf model.now region.now.region }
+{
+    match line {
+        Line::Derive(g, Witness::Basic(w)) => Some(shows::<Basic>(
+            model,
+            region,
+            best,
+            Some(*g),
+            w,
+        )),
+        Line::Derive(g, Witness::Hier(w)) => Some(shows::<Hier>(model, region, best, Some(*g), w)),
+        Line::Fail(Witness::Basic(w)) => Some(shows::<Basic>(model, region, best, None, w)),
+        Line::Fail(Witness::Hier(w)) => Some(shows::<Hier>(model, region, best, None, w)),
+        _ => None,
+    }
+}
+
+fn is_so_at(
+    alloc: Global,
+    model: &Model,
+    best: Option<i64>,
+    text: &str,
+    want: bool,
+) -> Result<bool, NoMemory> {
     let Some(line) = line::<NoExtra>(alloc, text)? else {
         return Ok(false);
     };
-    let (g, Some(w)) = parts(&line) else {
-        return Ok(false);
-    };
     let region = Region::root(alloc, model)?;
-    Ok(shows(model, &region, best, g, &w) == want)
+    Ok(shown_by(model, &region, best, &line) == Some(want))
 }
 
-fn is_so(alloc: Global, row: &Row) -> Result<bool, Fail> {
-    let model = read_model(alloc, row.0.as_bytes())?;
-    Ok(is_so_at(alloc, &model, row)?)
+/// Whether the line shows what is wanted of the first region of the model.
+pub fn is_so(
+    alloc: Global,
+    text: &str,
+    best: Option<i64>,
+    line: &str,
+    want: bool,
+) -> Result<bool, Fail> {
+    let model = read_model(alloc, text.as_bytes())?;
+    Ok(is_so_at(alloc, &model, best, line, want)?)
 }
 
 #[test]
 fn leaves(rt: HostRuntime) -> Result<(), Fail> {
     for (n, row) in REFUTED.iter().enumerate() {
-        assert!(rt; is_so(rt.alloc(), row)?, "row {n}");
+        let (text, best, line, want) = *row;
+        assert!(rt; is_so(rt.alloc(), text, best, line, want)?, "row {n}");
+    }
+    Ok(())
+}
+
+/// A line with a walk that goes so many times round.
+fn rounds(alloc: Global, times: u32) -> Result<String, Fail> {
+    let mut text = format!(in alloc; "f CYCLE {}", 3 * u64::from(times))?;
+    for _ in 0..times {
+        text.push_str(" 1 0 0 0 0 0 0 0 0 1 0 0")?;
+    }
+    text.push_str("\n")?;
+    Ok(text)
+}
+
+/// A walk of 3,999 arcs refutes, and one of 4,002 doesn't, though it is spelled.
+#[test]
+fn long_walks(rt: HostRuntime) -> Result<(), Fail> {
+    for (times, want) in [(1333, true), (1334, false)] {
+        let line = rounds(rt.alloc(), times)?;
+        assert!(rt;
+            is_so(rt.alloc(), ROUND, None, line.as_str(), want)?,
+            "{times} times"
+        );
     }
     Ok(())
 }
@@ -133,11 +284,14 @@ fn tightened_at(alloc: Global, model: &Model, text: &str) -> Result<Option<Guess
     let Some(line) = line::<NoExtra>(alloc, text)? else {
         return Ok(None);
     };
-    let (Some(g), Some(w)) = parts(&line) else {
+    let Some(g) = guess_of(&line) else {
+        return Ok(None);
+    };
+    let Some(w) = witness_of(&line) else {
         return Ok(None);
     };
     let region = Region::root(alloc, model)?;
-    Ok(tightened(model, &region, g, &w))
+    Ok(tightened(model, &region, g, w))
 }
 
 fn tightened_in(alloc: Global, text: &str, derived: &str) -> Result<Option<Guess>, Fail> {
@@ -155,7 +309,7 @@ fn weakens_guesses(rt: HostRuntime) -> Result<(), Fail> {
         };
         let found = tightened_in(alloc, text, derived)?;
         assert!(rt; found.is_some());
-        assert_eq!(rt; found, parts(&wanted).0);
+        assert_eq!(rt; found, guess_of(&wanted));
     }
     Ok(())
 }
@@ -177,7 +331,14 @@ const FOUND: [Leaf; 8] = [
 fn finds(model: &Model, look: &Look<'_>, leaf: Option<(u32, u32)>) -> bool
     requires { IsRegionOf model.now look.now.region }
 {
-    look.settled() && find_leaf(model, look) == leaf.map(|(k, u)| BasicWitness::Leaf { k, u })
+    if !look.settled() {
+        return false;
+    }
+    match find_leaf(model, look) {
+        Some(BasicWitness::Leaf { k, u }) => leaf == Some((k, u)),
+        Some(_) => false,
+        None => leaf.is_none(),
+    }
 }
 
 fn finds_at(alloc: Global, model: &Model, row: &Leaf) -> Result<bool, NoMemory> {
@@ -223,8 +384,11 @@ fn settled_slots(rt: HostRuntime) -> Result<(), Fail> {
 }
 
 /// Texts, and whether the search takes their models.
-const SERVED: [(&str, bool); 6] = [
+const SERVED: [(&str, bool); 9] = [
     ("", true),
+    ("a = intervalVar(); span(a,[]);", true),
+    ("a = intervalVar(); alternative(a,[a]);", true),
+    ("a = intervalVar(); synchronize(a,[a]);", true),
     (BEHIND_ITSELF, true),
     (ABSENT, true),
     (EARLY, true),

@@ -68,9 +68,20 @@ const DEFAULT: &str = "a = intervalVar(size=3); minimize(endOf(a));";
 
 const NO_ROOM: &str = "a = intervalVar(size=1,start=0,end=0);";
 
+/// `x1` ends before `x2` can.
+const EITHER: &str =
+    "x = intervalVar(start=0..2,end=1..9); x1 = intervalVar(optional,size=4,start=1..2,end=5..6); x2 = intervalVar(optional,size=6,start=0..3,end=6..9); alternative(x,[x1,x2]); minimize(endOf(x));";
+
+/// From 1, where `b` starts, to 7, where `c` ends.
+const AROUND: &str =
+    "a = intervalVar(start=0..3,end=0..9); b = intervalVar(size=2,start=1..3,end=3..5); c = intervalVar(optional,size=1,start=4..6,end=5..7); span(a,[b,c]); maximize(sizeOf(a));";
+
+const TOGETHER: &str =
+    "a = intervalVar(size=1,start=0,end=1); b = intervalVar(size=1,start=1,end=2); synchronize(a,[b]);";
+
 /// The first solution of `LATE` ends at 1, and a later end would be better. Of `NO_ROOM` a size alone
 /// shows that there is none.
-const SOLVED: [Row; 7] = [
+const SOLVED: [Row; 10] = [
     (
         SMALL,
         100,
@@ -103,6 +114,9 @@ const SOLVED: [Row; 7] = [
         "schedlog 1\ns SL 0 0\nd EG 0 2 SIZE 0\nv p 0 1\nf OBJ\nend\n",
     ),
     (DEFAULT, 100, Told::Optimal(3), ""),
+    (EITHER, 10_000, Told::Optimal(5), ""),
+    (AROUND, 10_000, Told::Optimal(6), ""),
+    (TOGETHER, 10_000, Told::Infeasible, ""),
 ];
 
 #[test]

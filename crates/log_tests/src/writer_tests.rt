@@ -5,7 +5,7 @@ ghost use Rattle.refute_basic.specs.Witness.{is_valid};
 
 use kernel::{Line, Witness};
 use logtext::LogWriter;
-use refute_basic::BasicWitness;
+use refute_basic::{ArcName, BasicWitness};
 use region::Guess;
 use sched_base::{Desk, Itv, List, MemDesk, NoMemory, Seq};
 use sched_model::{Assignment, Segment, Slot};
@@ -77,6 +77,37 @@ fn spells_steps(rt: HostRuntime) -> Result<(), Fail> {
     assert_eq!(rt;
         written(alloc, &order)?.as_slice(),
         b"s B 4294967295 0 7\nend\n".as_slice()
+    );
+    Ok(())
+}
+
+/// A walk of one arc.
+fn walk(alloc: Global) -> Result<BasicWitness, NoMemory>
+    ensures { IfOk result (λ w. IsTrue (is_valid w)) }
+{
+    let name = ArcName {
+        kind: 2,
+        x: LAST,
+        y: 0,
+        z: 7,
+    };
+    let mut arcs = List::new(alloc);
+    arcs.push(name)?;
+    Ok(BasicWitness::Cycle { arcs })
+}
+
+#[test]
+fn spells_walks(rt: HostRuntime) -> Result<(), Fail> {
+    let alloc = rt.alloc();
+    let fail = Line::Fail(Witness::Basic(walk(alloc)?));
+    assert_eq!(rt;
+        written(alloc, &fail)?.as_slice(),
+        b"f CYCLE 1 2 4294967295 0 7\nend\n".as_slice()
+    );
+    let extra = Line::Fail(Witness::Extra(walk(alloc)?));
+    assert_eq!(rt;
+        written(alloc, &extra)?.as_slice(),
+        b"f EXTRA 6 2 1 2 4294967295 0 7\nend\n".as_slice()
     );
     Ok(())
 }

@@ -8,19 +8,21 @@ use Rattle.std.specs.List.{list_all}
 use Rattle.sched_model.specs.Valid.{is_small}
 use Rattle.refute_basic.specs.declared.witness.BasicWitness.{BasicWitness}
 use Rattle.refute_basic.specs.Witness.{numbers_of, is_valid}
+use Rattle.refute_hier.specs.declared.witness.HierWitness.{HierWitness}
+use Rattle.refute_hier.specs.Witness.{numbers_of as hier_numbers, is_valid as is_valid_hier}
 use Rattle.kernel.specs.declared.types.Witness.{Witness}
-use Rattle.kernel.specs.declared.types.Witness.TheVariants.{Basic, Extra}
+use Rattle.kernel.specs.declared.types.Witness.TheVariants.{Basic, Hier, Extra}
 use Rattle.kernel.specs.Fit.{is_count, is_fit_witness}
 use Rattle.textline.specs.Lines.{Bytes}
 use Rattle.textline.specs.laws.Lines.{both_true}
 use Rattle.logtext.specs.declared.entry.EntryFault.{EntryFault}
 use Rattle.logtext.specs.declared.entry.EntryFault.TheVariants.{Bad, NoMemory}
-use Rattle.logtext.specs.Spelling.{basic_kinds, kind_words, witness_words}
+use Rattle.logtext.specs.Spelling.{basic_kinds, hier_kinds, kind_words, witness_words}
 use Rattle.logtext.specs.Reads.{NoneStands, ReadsWhole, ReadsNumbers, ReadsValue, FindsWord, count_words, moment_words, extra_words}
 use Rattle.logtext.specs.laws.Leads.{behind, head_is}
 use Rattle.logtext.specs.laws.Told.{count_told, moments_told}
 use Rattle.logtext.specs.laws.Entries.{AreTold, all_small, few_is_count}
-use Rattle.logtext.specs.laws.Kinds.{is_placed, basic_differ, basic_placed, one_place, no_extra_word, kind_is_no_extra}
+use Rattle.logtext.specs.laws.Kinds.{are_different, is_placed, basic_differ, basic_placed, hier_differ, hier_placed, one_place, begins, no_basic, no_hier, no_extra}
 use Rattle.logtext.proofs.Lines.{NoneWhole}
 
 -- values
@@ -89,37 +91,59 @@ has_place kinds (negsuc k ∷ zs) h = cc
 has_place kinds (pos k ∷ zs) h = record { place = k; others = zs; within = grind (arith, nat_tests); is = refl }
 
 pub no_word : {W : Type 0} (numbers : W → List ℤ) (valid : W → Bool) → NoneWhole (witness_words numbers) (is_fit_witness valid) []
-no_word numbers valid (Basic w) fit e = let there = has_place basic_kinds (numbers_of w) (basic_placed w) in let bare = e ∙ ap (kind_words basic_kinds) there.is in cc
-no_word numbers valid (Extra w) fit e = cc
+no_word numbers valid w fit e = let bare = e ∙ (begins numbers w).first in cc
 
-pub kind_fails : {W : Type 0} (numbers : W → List ℤ) (valid : W → Bool) (old ws : List Bytes) (k : ℕ) (r : EntryFault) → k < length basic_kinds → old ≡ get_or basic_kinds k [] ∷ ws → ReadsValue numbers_of is_valid (pos k ∷ []) ws (Err r)
+-- numbers that are read from a place on, and those of a witness that is spelled alike
+other_kind : {V : Type 0} (kinds : List Bytes) (numbers : V → List ℤ) (valid : V → Bool) → are_different kinds ≡ true → ((v : V) → is_placed kinds (numbers v) ≡ true) → (k : ℕ) (ws : List Bytes) (v : V) → k < length kinds
+    → ReadsValue numbers valid (pos k ∷ []) ws (Err Bad) → valid v ≡ true → get_or kinds k [] ∷ ws ≡ kind_words kinds (numbers v) → ⊥
+other_kind kinds numbers valid differ placed k ws v within none fit e =
+    let there = has_place kinds (numbers v) (placed v) in
+    let both = e ∙ ap (kind_words kinds) there.is in
+    let place = one_place kinds k there.place differ within there.within (head_is _ _ _ _ both) in
+    none v there.others fit (there.is ∙ ap (λ j. pos j ∷ there.others) (sym place)) (behind _ _ _ _ both)
+
+pub basic_fails : {W : Type 0} (numbers : W → List ℤ) (valid : W → Bool) (old ws : List Bytes) (k : ℕ) (r : EntryFault) → k < length basic_kinds → old ≡ get_or basic_kinds k [] ∷ ws → ReadsValue numbers_of is_valid (pos k ∷ []) ws (Err r)
     → ReadsWhole (witness_words numbers) (is_fit_witness valid) old (Err r)
-kind_fails {W} numbers valid old ws k Bad within is none = no_kind
+basic_fails {W} numbers valid old ws k Bad within is none = no_kind
   where
     no_kind : (v : Witness W) → IsTrue (is_fit_witness valid v) → old ≡ witness_words numbers v → ⊥
-    no_kind (Basic w) fit e =
-        let there = has_place basic_kinds (numbers_of w) (basic_placed w) in
-        let both = sym is ∙ e ∙ ap (kind_words basic_kinds) there.is in
-        let place = one_place basic_kinds k there.place basic_differ within there.within (head_is _ _ _ _ both) in
-        none w there.others fit (there.is ∙ ap (λ j. pos j ∷ there.others) (sym place)) (behind _ _ _ _ both)
-    no_kind (Extra w) fit e = no_extra_word k within (sym (head_is _ _ _ _ (sym is ∙ e)))
-kind_fails numbers valid old ws k NoMemory within is none = tt
+    no_kind (Basic w) fit e = other_kind basic_kinds numbers_of is_valid basic_differ basic_placed k ws w within none fit (sym is ∙ e)
+    no_kind (Hier w) fit e = no_basic numbers (Hier w) k ws (λ h. omega (arith, h)) within (sym is ∙ e)
+    no_kind (Extra w) fit e = no_basic numbers (Extra w) k ws (λ h. omega (arith, h)) within (sym is ∙ e)
+basic_fails numbers valid old ws k NoMemory within is none = tt
 
-pub has_kind : {W : Type 0} (numbers : W → List ℤ) (old ws : List Bytes) (k : ℕ) (w : BasicWitness) → old ≡ get_or basic_kinds k [] ∷ ws → ReadsValue numbers_of is_valid (pos k ∷ []) ws (Ok w) → old ≡ witness_words numbers (Basic w)
-has_kind numbers old ws k w is read = is ∙ ap (λ vs. get_or basic_kinds k [] ∷ vs) read.3 ∙ ap (kind_words basic_kinds) (sym read.2)
+pub hier_fails : {W : Type 0} (numbers : W → List ℤ) (valid : W → Bool) (old ws : List Bytes) (k : ℕ) (r : EntryFault) → k < length hier_kinds → old ≡ get_or hier_kinds k [] ∷ ws → ReadsValue hier_numbers is_valid_hier (pos k ∷ []) ws (Err r)
+    → ReadsWhole (witness_words numbers) (is_fit_witness valid) old (Err r)
+hier_fails {W} numbers valid old ws k Bad within is none = no_kind
+  where
+    no_kind : (v : Witness W) → IsTrue (is_fit_witness valid v) → old ≡ witness_words numbers v → ⊥
+    no_kind (Hier w) fit e = other_kind hier_kinds hier_numbers is_valid_hier hier_differ hier_placed k ws w within none fit (sym is ∙ e)
+    no_kind (Basic w) fit e = no_hier numbers (Basic w) k ws (λ h. omega (arith, h)) within (sym is ∙ e)
+    no_kind (Extra w) fit e = no_hier numbers (Extra w) k ws (λ h. omega (arith, h)) within (sym is ∙ e)
+hier_fails numbers valid old ws k NoMemory within is none = tt
+
+pub has_kind : {V : Type 0} (kinds : List Bytes) (numbers : V → List ℤ) (valid : V → Bool) (old ws : List Bytes) (k : ℕ) (v : V) → old ≡ get_or kinds k [] ∷ ws → ReadsValue numbers valid (pos k ∷ []) ws (Ok v) → old ≡ kind_words kinds (numbers v)
+has_kind kinds numbers valid old ws k v is read = is ∙ ap (λ vs. get_or kinds k [] ∷ vs) read.3 ∙ ap (kind_words kinds) (sym read.2)
 
 pub behind_extra : {W : Type 0} (numbers : W → List ℤ) (valid : W → Bool) (old ws : List Bytes) (r : EntryFault) → old ≡ codes "EXTRA" ∷ ws → ReadsWhole (extra_words numbers) valid ws (Err r) → ReadsWhole (witness_words numbers) (is_fit_witness valid) old (Err r)
-behind_extra {W} numbers valid old ws Bad is none = no_extra
+behind_extra {W} numbers valid old ws Bad is none = no_kind
   where
-    no_extra : (v : Witness W) → IsTrue (is_fit_witness valid v) → old ≡ witness_words numbers v → ⊥
-    no_extra (Basic w) fit e = kind_is_no_extra (numbers_of w) ws (basic_placed w) (sym is ∙ e)
-    no_extra (Extra w) fit e = none w fit (behind _ _ _ _ (sym is ∙ e))
+    no_kind : (v : Witness W) → IsTrue (is_fit_witness valid v) → old ≡ witness_words numbers v → ⊥
+    no_kind (Basic w) fit e = no_extra numbers (Basic w) ws (λ h. omega (arith, h)) (sym is ∙ e)
+    no_kind (Hier w) fit e = no_extra numbers (Hier w) ws (λ h. omega (arith, h)) (sym is ∙ e)
+    no_kind (Extra w) fit e = none w fit (behind _ _ _ _ (sym is ∙ e))
 behind_extra numbers valid old ws NoMemory is none = tt
 
-pub other_word : {W : Type 0} (numbers : W → List ℤ) (valid : W → Bool) (old ws : List Bytes) (kind : Bytes) → old ≡ kind ∷ ws → FindsWord basic_kinds kind None → (kind ≡ codes "EXTRA" → ⊥) → NoneWhole (witness_words numbers) (is_fit_witness valid) old
-other_word numbers valid old ws kind is none other (Basic w) fit e =
-    let there = has_place basic_kinds (numbers_of w) (basic_placed w) in none there.place there.within (head_is _ _ _ _ (sym is ∙ e ∙ ap (kind_words basic_kinds) there.is))
-other_word numbers valid old ws kind is none other (Extra w) fit e = other (head_is _ _ _ _ (sym is ∙ e))
+-- a word that no table has begins none of its witnesses
+no_such_kind : {V : Type 0} (kinds : List Bytes) (numbers : V → List ℤ) (old ws : List Bytes) (kind : Bytes) (v : V) → is_placed kinds (numbers v) ≡ true → old ≡ kind ∷ ws → FindsWord kinds kind None → old ≡ kind_words kinds (numbers v) → ⊥
+no_such_kind kinds numbers old ws kind v placed is none e =
+    let there = has_place kinds (numbers v) placed in none there.place there.within (head_is _ _ _ _ (sym is ∙ e ∙ ap (kind_words kinds) there.is))
+
+pub other_word : {W : Type 0} (numbers : W → List ℤ) (valid : W → Bool) (old ws : List Bytes) (kind : Bytes) → old ≡ kind ∷ ws → FindsWord basic_kinds kind None → FindsWord hier_kinds kind None → (kind ≡ codes "EXTRA" → ⊥)
+    → NoneWhole (witness_words numbers) (is_fit_witness valid) old
+other_word numbers valid old ws kind is none also other (Basic w) fit e = no_such_kind basic_kinds numbers_of old ws kind w (basic_placed w) is none e
+other_word numbers valid old ws kind is none also other (Hier w) fit e = no_such_kind hier_kinds hier_numbers old ws kind w (hier_placed w) is also e
+other_word numbers valid old ws kind is none also other (Extra w) fit e = other (head_is _ _ _ _ (sym is ∙ e))
 
 pub never : IsTrue false → ⊥
 never h = cc

@@ -1,11 +1,14 @@
 ghost use Rattle.std.specs.Prelude.{◌≡◌, ◌<◌, [], get_or};
 ghost use Rattle.std.specs.List.{position};
 ghost use Rattle.std.specs.Str.{bytes_eq};
-ghost use Rattle.logtext.specs.Spelling.{basic_kinds};
+ghost use Rattle.logtext.specs.Spelling.{basic_kinds, hier_kinds};
 ghost use Rattle.logtext.specs.Reads.{FindsWord};
 
 /// The words of the kinds in `refute_basic`, by their places there.
 const BASIC: [&[u8]; 6] = [b"SIZE", b"ARC", b"CYCLE", b"EXPR", b"OBJ", b"LEAF"];
+
+/// The words of the kinds in `refute_hier`, by their places there.
+const HIER: [&[u8]; 3] = [b"SPAN", b"ALT", b"SYNC"];
 
 /// The place of a word in a table.
 #[inline(always)]
@@ -28,4 +31,19 @@ pub fn basic_word(place: usize) -> &'static [u8]
     ensures { result.now ≡ get_or basic_kinds place [] }
 {
     BASIC[place]
+}
+
+/// The place of the kind in `refute_hier` that has this word.
+pub fn hier_place(word: &[u8]) -> Option<usize>
+    ensures { FindsWord hier_kinds word.now result }
+{
+    place_of(word, &HIER)
+}
+
+/// The word of the kind at a place in `refute_hier`.
+pub fn hier_word(place: usize) -> &'static [u8]
+    requires { place < 3 }
+    ensures { result.now ≡ get_or hier_kinds place [] }
+{
+    HIER[place]
 }

@@ -3,14 +3,16 @@ ghost use Rattle.std.specs.List.{flat_map};
 ghost use Rattle.std.specs.Fmt.{decimal, signed_decimal};
 ghost use Rattle.region.specs.declared.types.Guess.TheVariants.{Before};
 ghost use Rattle.refute_basic.specs.Witness.{numbers_of};
+ghost use Rattle.refute_hier.specs.Witness.{numbers_of as hier_numbers};
 ghost use Rattle.kernel.specs.declared.types.Witness.TheVariants.{Extra};
-ghost use Rattle.logtext.specs.Spelling.{guess_words, basic_kinds, kind_words, witness_words, slot_words, member_word, order_words, segment_words, segments_words, assignment_words};
+ghost use Rattle.logtext.specs.Spelling.{guess_words, basic_kinds, hier_kinds, kind_words, witness_words, slot_words, member_word, order_words, segment_words, segments_words, assignment_words};
 ghost use Rattle.logtext.specs.Writing.{Gathers, spaced};
 
-use crate::kinds::basic_word;
+use crate::kinds::{basic_word, hier_word};
 use crate::writer::LogWriter;
 use kernel::Witness;
 use refute_basic::BasicWitness;
+use refute_hier::HierWitness;
 use region::{Guess, Numbers};
 use sched_base::{Desk, Failed, Itv, List, Seq};
 use sched_model::{Assignment, Segment, Slot};
@@ -107,6 +109,14 @@ impl LogWriter {
         self.put_kind(basic_word(place as usize), w, desk)
     }
 
+    fn put_hier<D: Desk>(&mut self, w: &HierWitness, desk: &mut D) -> Result<(), Failed>
+        requires { (D.state desk.old).created ≡ true }
+        ensures { Gathers (spaced (kind_words hier_kinds (hier_numbers w.now))) result self.old self.new (D.state desk.old) (D.state desk.new) }
+    {
+        let place = w.number(0);
+        self.put_kind(hier_word(place as usize), w, desk)
+    }
+
     fn put_extra<W: Numbers, D: Desk>(&mut self, w: &W, desk: &mut D) -> Result<(), Failed>
         requires { (D.state desk.old).created ≡ true }
         ensures { Gathers (spaced (witness_words W.numbers (Extra w.now))) result self.old self.new (D.state desk.old) (D.state desk.new) }
@@ -126,6 +136,7 @@ impl LogWriter {
     {
         match w {
             Witness::Basic(basic) => self.put_basic(basic, desk),
+            Witness::Hier(hier) => self.put_hier(hier, desk),
             Witness::Extra(extra) => self.put_extra(extra, desk),
         }
     }

@@ -7,7 +7,7 @@ use std::test::Fail;
 const SHOW: [&str; 2] = ["show", "m"];
 
 /// Models, the status of `solve`, and how its answer begins and ends.
-const SOLVED: [SolvedRow; 7] = [
+const SOLVED: [SolvedRow; 8] = [
     ("\n", 0, "feasible\nnodes 1\n", "end\n"),
     (
         "x = intervalVar(size=1,start=0..1,end=1..2);",
@@ -44,6 +44,12 @@ const SOLVED: [SolvedRow; 7] = [
         0,
         "optimal -1\nnodes ",
         "\nday 0 2\nnight absent\nreport 3 4\nend\n",
+    ),
+    (
+        "x = intervalVar(start=0..2,end=1..9); x1 = intervalVar(optional,size=4,start=1..2,end=5..6); x2 = intervalVar(optional,size=6,start=0..3,end=6..9); alternative(x,[x1,x2]); minimize(endOf(x));",
+        0,
+        "optimal 5\nnodes ",
+        "\nx 1 5\nx1 1 5\nx2 absent\nend\n",
     ),
 ];
 
@@ -134,13 +140,12 @@ const PAINT_SHOP: &str =
     "// Two parts: each is cut on saw A or B, then painted in one booth by a crew of two.\n// The booth is cleaned between colours: 3 units from red to blue, 1 from blue to red.\n// It is read today, and not solved yet: sequences and cumulative functions come later.\ncut1 = intervalVar(size=1..9);\ncut1A = intervalVar(optional, size=4);\ncut1B = intervalVar(optional, size=6);\ncut2 = intervalVar();\ncut2A = intervalVar(optional, size=3);\ncut2B = intervalVar(optional, size=5);\npaint1 = intervalVar(size=2);\npaint2 = intervalVar(size=2);\nalternative(cut1, [cut1A, cut1B]);\nalternative(cut2, [cut2A, cut2B]);\nnoOverlap([cut1A, cut2A]);\nnoOverlap([cut1B, cut2B]);\nM = transitionMatrix([[0,3],[1,0]]);\nbooth = sequenceVar([paint1, paint2], types=[0,1]);\nnoOverlap(booth, M);\nendBeforeStart(cut1, paint1);\nendBeforeStart(cut2, paint2);\ncrew = pulse(cut1,1) + pulse(cut2,1) + pulse(paint1,1) + pulse(paint2,1);\ncrew <= 2;   /* two workers */\nminimize(max([endOf(paint1), endOf(paint2)]));\n";
 
 /// Models that aren't served yet.
-const UNSERVED: [&str; 8] = [
+const UNSERVED: [&str; 7] = [
     OVEN,
     PAINT_SHOP,
     "a = intervalVar(size=2); noOverlap([a]);",
     "a = intervalVar(size=2); p = sequenceVar([a]);",
     "a = intervalVar(optional,size=3,end=0..5); b = intervalVar(optional,size=3,end=0..5); noOverlap([a,b]); maximize(presenceOf(a)+presenceOf(b));",
-    "x = intervalVar(); x1 = intervalVar(optional,size=4); x2 = intervalVar(optional,size=6); alternative(x,[x1,x2]); minimize(endOf(x));",
     "a = intervalVar(size=3); f = pulse(a,2); f <= 4; minimize(endOf(a));",
     "s = stateFunction(); a = intervalVar(size=2); alwaysEqual(s,a,0);",
 ];

@@ -23,12 +23,19 @@ use Rattle.refute_basic.specs.laws.Hulls.{logic_names, objective_names}
 abbrev pub size_of : Data → ℕ
 size_of m = 1 + (length m.intervals + length m.constraints)
 
+-- the kinds that this crate derives by
+abbrev pub is_own : BasicWitness → Bool
+is_own (basic.Size x) = true
+is_own (basic.Expr c) = true
+is_own basic.Obj = true
+is_own w = false
+
 -- 0 looks after OBJ, then come SIZE of each interval and EXPR of each constraint
 abbrev pub looks_after : Data → ℕ → BasicWitness → Bool
 looks_after m k basic.Obj = nat_eq k 0
 looks_after m k (basic.Size x) = nat_lt x (length m.intervals) && nat_eq k (1 + x)
 looks_after m k (basic.Expr c) = nat_lt c (length m.constraints) && nat_eq k (1 + (length m.intervals + c))
-looks_after m k (basic.Leaf i u) = false
+looks_after m k w = false
 
 -- the one witness of a propagator
 abbrev pub witness_at : Data → ℕ → BasicWitness
@@ -40,7 +47,7 @@ abbrev pub reads_of : Data → BasicWitness → Reads
 reads_of m (basic.Size x) = record { intervals = record { 0 = x } ∷ []; pairs = []; best = false }
 reads_of m (basic.Expr c) = record { intervals = logic_names (slice_get m.constraints c); pairs = []; best = false }
 reads_of m basic.Obj = record { intervals = objective_names m.objective; pairs = []; best = true }
-reads_of m (basic.Leaf k u) = record { intervals = []; pairs = []; best = false }
+reads_of m w = record { intervals = []; pairs = []; best = false }
 
 -- what a propagator watches
 abbrev pub watching : Data → ℕ → CellName → Bool

@@ -6,22 +6,36 @@ ghost use Rattle.engine.specs.Engines.{IsFor, AreQuiet, AreAwake};
 ghost use Rattle.propagators.specs.Quiet.{IsQuietRegion};
 
 use crate::basic::FromBasic;
-use engine::{Engine, Propagator};
+use crate::hier::FromHier;
+use crate::temporal::FromTemporal;
+use engine::{Both, Engine, Propagator};
 use prop_basic::PropBasic;
+use prop_hier::PropHier;
+use prop_temporal::PropTemporal;
 use sched_base::NoMemory;
 use sched_model::Model;
 use std::alloc::Global;
 
 /// All propagators. A further crate of propagators is joined to these by `engine::Both`.
-pub type All = FromBasic;
+pub type All = Both<FromBasic, Both<FromTemporal, FromHier>>;
 
 /// The engine over all propagators of a model, each of them awake.
 pub fn start(alloc: Global, model: &Model) -> Result<Engine<All>, NoMemory>
     ensures made { IfOk result (IsFor ⟦<All as Propagator>⟧ model.now) }
     ensures awake { IfOk result (AreAwake ⟦<All as Propagator>⟧ model.now) }
 {
+    // The model is valid by its type, so it has few intervals and constraints.
+    let _ = model.intervals();
     let basic = FromBasic(PropBasic::new(alloc, model)?);
-    Engine::new(alloc, basic, model)
+    let temporal = FromTemporal(PropTemporal::new(alloc, model)?);
+    let hier = FromHier(PropHier::new(alloc, model)?);
+    let Some(others) = Both::new(temporal, hier) else {
+        unreachable!();
+    };
+    let Some(all) = Both::new(basic, others) else {
+        unreachable!();
+    };
+    Engine::new(alloc, all, model)
 }
 
 /// Where all propagators are quiet, the region is: whatever witness of a kind that derives refutes

@@ -3,6 +3,10 @@
 
 mod all;
 mod basic;
+mod hier;
+mod temporal;
 
 pub use all::{All, covers, start};
 pub use basic::FromBasic;
+pub use hier::FromHier;
+pub use temporal::FromTemporal;

@@ -1,1 +1,3 @@
 pub mod Slots
+pub mod Turns
+pub mod Numbered

@@ -1,6 +1,8 @@
 pub mod Witness
 pub mod Served
 pub mod Size
+pub mod Arc
+pub mod Cycle
 pub mod Expr
 pub mod Obj
 pub mod Leaf

@@ -1,6 +1,14 @@
+pub mod Names
 pub mod Spelling
 pub mod SameSlots
+pub mod There
 pub mod Size
+pub mod Arc
+pub mod Walks
+pub mod Cycle
+pub mod Presences
+pub mod Weights
+pub mod Nothing
 pub mod Hulls
 pub mod Settled
 pub mod Fits

@@ -1,5 +1,8 @@
+use crate::arc::arc;
+use crate::cycle::cycle;
 use crate::expr::expr;
 use crate::leaf::leaf;
+use crate::names::{are_few, are_names};
 use crate::obj::obj;
 use crate::size::size;
 use crate::witness::BasicWitness;
@@ -19,11 +22,17 @@ impl Refuter for Basic {
     ghost refuting = { refutes };
 
     fn refutes(model: &Model, look: &Look<'_>, w: &BasicWitness) -> bool {
-        match *w {
-            BasicWitness::Size { x } => size(look, x),
-            BasicWitness::Expr { c } => expr(model, look, c),
+        match w {
+            BasicWitness::Size { x } => size(look, *x),
+            BasicWitness::Arc { c, d } => arc(model, look, *c, *d),
+            BasicWitness::Cycle { arcs } => {
+                are_few(arcs.as_slice())
+                    && are_names(arcs.as_slice())
+                    && cycle(model, look, arcs.as_slice())
+            }
+            BasicWitness::Expr { c } => expr(model, look, *c),
             BasicWitness::Obj => obj(model, look),
-            BasicWitness::Leaf { k, u } => leaf(model, look, k, u),
+            BasicWitness::Leaf { k, u } => leaf(model, look, *k, *u),
         }
     }
 

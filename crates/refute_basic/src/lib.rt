@@ -1,11 +1,18 @@
 //! The refuters that need no more than cells, sizes and values: of bounds that leave no size, of
-//! expressions and objectives by their look hulls, and of settled regions.
+//! precedences and of walks through them, of expressions and objectives by their look hulls, and of
+//! settled regions.
 #![tactic(auto)]
 
+mod arc;
+mod arc_name;
 mod basic;
+mod cycle;
+mod edge;
+mod edges;
 mod expr;
 mod find;
 mod leaf;
+mod names;
 mod obj;
 mod served;
 mod settled;
@@ -13,7 +20,10 @@ mod size;
 mod spelling;
 mod witness;
 
+pub use arc_name::ArcName;
 pub use basic::Basic;
+pub use edge::Arc;
+pub use edges::edge_of;
 pub use find::find_leaf;
 pub use obj::never_beats;
 pub use served::is_served;

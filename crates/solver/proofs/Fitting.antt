@@ -1,11 +1,12 @@
 -- The lines of the search are lines that a log may hold.
 use Rattle.std.proofs.Common.{◌≡◌, ℕ, ◌+◌, ◌*◌, ◌<◌, ◌≤◌, ◌^◌, ℤ, pos, negsuc, Bool, true, List, [], ◌∷◌, ◌++◌, length, Option, Some, refl, sym, ap, subst, arith, length-append}
-use Rattle.std.specs.Prelude.{flat_map}
+use Rattle.std.specs.Prelude.{◌&&◌, flat_map, map, nat_le}
 use Rattle.std.specs.Fmt.{decimal, signed_decimal}
 use Rattle.std.specs.Int.Signed.{mag}
 use Rattle.std.specs.List.{list_all}
 use Rattle.std.proofs.lemmas.Int.{ints}
-use Rattle.std.proofs.lemmas.Bool.{ltb-true}
+use Rattle.std.proofs.lemmas.Bool.{ltb-true, leb-true}
+use Rattle.std.proofs.lemmas.Bool.Decides.{nat_tests}
 use Rattle.std.proofs.lemmas.Fmt.{length-decimal-le, length_signed_le}
 use Rattle.std.proofs.lemmas.List.Concat.{flat_map-cons}
 use Rattle.sched_model.specs.declared.types.IntervalDef.{IntervalDef}
@@ -25,13 +26,20 @@ use Rattle.region.specs.Guesses.{splits}
 use Rattle.region.specs.Looks.{Seen, IsRegionOf, seen_at}
 use Rattle.region.specs.laws.Lists.{both_true, true_both, placewise-length}
 use Rattle.refute_basic.specs.declared.witness.BasicWitness.{BasicWitness}
-use Rattle.refute_basic.specs.declared.witness.BasicWitness.TheVariants.{Size, Expr, Obj, Leaf}
+use Rattle.refute_basic.specs.declared.witness.BasicWitness.TheVariants.{Size, Arc, Cycle, Expr, Obj, Leaf}
 use Rattle.refute_basic.specs.laws.Spelling.{refuting_valid}
-use Rattle.refute_basic.specs.Witness.{is_valid as is_valid_basic, is_number}
+use Rattle.refute_basic.specs.declared.arc_name.ArcName.{ArcName}
+use Rattle.refute_basic.specs.Witness.{name_numbers, is_valid as is_valid_basic, is_number, is_name}
+use Rattle.refute_basic.specs.Basic.{refutes, row_of}
+use Rattle.refute_basic.specs.Cycle.{closes}
+use Rattle.refute_hier.specs.declared.witness.HierWitness.{HierWitness}
+use Rattle.refute_hier.specs.declared.witness.HierWitness.TheVariants.{Span, Alt, Sync}
+use Rattle.refute_hier.specs.Witness.{is_number as is_hier_number, is_valid as is_valid_hier}
+use Rattle.refute_hier.specs.laws.Spelling.{refuting_valid as hier_valid}
 use Rattle.solver.specs.Leaves.{empty_for_each, settled_assignment}
 use Rattle.kernel.specs.declared.types.Line.TheVariants.{Derive, Fail, Split, Sol}
 use Rattle.kernel.specs.declared.types.Witness.{Witness}
-use Rattle.kernel.specs.declared.types.Witness.TheVariants.{Basic, Extra}
+use Rattle.kernel.specs.declared.types.Witness.TheVariants.{Basic, Hier, Extra}
 use Rattle.kernel.specs.declared.no_extra.NoWitness.{NoWitness}
 use Rattle.kernel.specs.Derives.{IsDerived}
 use Rattle.engine.specs.Plain.{refutes_plain}
@@ -80,15 +88,51 @@ guess_short (Before p x y) h =
     let two = both_true (is_count p.0) (is_id x) three.0 in
     ((omega arith, (count_short p.0 two.0, (count_short x.0 two.1, (count_short y.0 three.1, tt)))), omega arith)
 
--- a valid witness in words
-witness_short : (w : BasicWitness) → is_valid_basic w ≡ true → AreShort (witness_words numbers_of (Basic w)) × (length (witness_words numbers_of (Basic w)) ≤ 3)
-witness_short (Size x) h = ((omega arith, (count_short x h, tt)), omega arith)
-witness_short (Expr c) h = ((omega arith, (count_short c h, tt)), omega arith)
-witness_short Obj h = ((omega arith, tt), omega arith)
-witness_short (Leaf k u) h = let two = both_true (is_number k) (is_number u) h in ((omega arith, (count_short k two.0, (count_short u two.1, tt))), omega arith)
+-- the names of arcs in words
+names_short : (is : List ArcName) → list_all is_name is ≡ true → AreShort (map signed_decimal (flat_map name_numbers is)) × (length (map signed_decimal (flat_map name_numbers is)) ≤ 4 * length is)
+names_short [] h = (tt, omega arith)
+names_short (i ∷ is) h =
+    let two = both_true (is_name i) (list_all is_name is) h in
+    let four = both_true _ (is_number i.z) two.0 in
+    let three = both_true _ (is_number i.y) four.0 in
+    let pair = both_true (is_number i.kind) (is_number i.x) three.0 in
+    let rest = names_short is two.1 in
+    ((count_short i.kind pair.0, (count_short i.x pair.1, (count_short i.y three.1, (count_short i.z four.1, rest.0)))), omega (arith, rest.1))
+
+-- a witness that refutes in words: a walk has 4,000 arcs at most
+witness_short : (m : Data) (l : Seen) (w : BasicWitness) → refutes m l w ≡ true → AreShort (witness_words numbers_of (Basic w)) × (length (witness_words numbers_of (Basic w)) ≤ 16002)
+witness_short m l (Size x) refuted = ((omega arith, (count_short x (refuting_valid m l (Size x) refuted), tt)), omega arith)
+witness_short m l (Arc c d) refuted = let two = both_true (is_number c) (is_number d) (refuting_valid m l (Arc c d) refuted) in ((omega arith, (count_short c two.0, (count_short d two.1, tt))), omega arith)
+witness_short m l (Cycle arcs) refuted =
+    let row = (both_true (is_valid_basic (Cycle arcs)) (row_of m l (Cycle arcs)) refuted).1 in
+    let few : length arcs ≤ 4000 = leb-true (length arcs) 4000 (both_true (nat_le (length arcs) 4000) (closes m l.region arcs) row).0 in
+    let names = names_short arcs (both_true (is_number (2 + 4 * length arcs)) (list_all is_name arcs) (refuting_valid m l (Cycle arcs) refuted)).1 in
+    ((omega arith, (count_short (length arcs) (is_count_of (length arcs) few), names.0)), omega (arith, names.1, few))
+  where
+    is_count_of : (n : ℕ) → n ≤ 4000 → is_count n ≡ true
+    is_count_of n h = grind (arith, nat_tests)
+witness_short m l (Expr c) refuted = ((omega arith, (count_short c (refuting_valid m l (Expr c) refuted), tt)), omega arith)
+witness_short m l Obj refuted = ((omega arith, tt), omega arith)
+witness_short m l (Leaf k u) refuted =
+    let h = refuting_valid m l (Leaf k u) refuted in
+    let two = both_true (is_number k) (is_number u) h in ((omega arith, (count_short k two.0, (count_short u two.1, tt))), omega arith)
+
+hier_short : (w : HierWitness) → is_valid_hier w ≡ true → AreShort (witness_words numbers_of (Hier w)) × (length (witness_words numbers_of (Hier w)) ≤ 5)
+hier_short (Span c r i) h =
+    let three = both_true (is_hier_number c && is_hier_number r) (is_hier_number i) h in
+    let two = both_true (is_hier_number c) (is_hier_number r) three.0 in
+    ((omega arith, (count_short c two.0, (count_short r two.1, (count_short i three.1, tt)))), omega arith)
+hier_short (Alt c r i j) h =
+    let four = both_true (is_hier_number c && is_hier_number r && is_hier_number i) (is_hier_number j) h in
+    let three = both_true (is_hier_number c && is_hier_number r) (is_hier_number i) four.0 in
+    let two = both_true (is_hier_number c) (is_hier_number r) three.0 in
+    ((omega arith, (count_short c two.0, (count_short r two.1, (count_short i three.1, (count_short j four.1, tt))))), omega arith)
+hier_short (Sync c i) h =
+    let two = both_true (is_hier_number c) (is_hier_number i) h in
+    ((omega arith, (count_short c two.0, (count_short i two.1, tt))), omega arith)
 
 -- a line of few short words
-line_is : (l : PlainLine) → is_fit is_valid l ≡ true → AreShort (line_words numbers_of l) → length (line_words numbers_of l) ≤ 10000 → IsLine numbers_of is_valid l
+line_is : (l : PlainLine) → is_fit is_valid l ≡ true → AreShort (line_words numbers_of l) → length (line_words numbers_of l) ≤ 20000 → IsLine numbers_of is_valid l
 line_is l fit short few = record { fit = fit; text_is = refl; short = omega (arith, line_length (line_words numbers_of l) short, few) }
 
 -- a guess that splits a region is fit
@@ -102,8 +146,12 @@ split_line m r g valid of h =
 pub fail_line : (m : Data) (l : Seen) (w : Witness NoWitness) → refutes_plain m l w ≡ true → IsLine numbers_of is_valid (Fail w)
 fail_line m l (Basic w) h =
     let fit = refuting_valid m l w h in
-    let words = witness_short w fit in
+    let words = witness_short m l w h in
     line_is (Fail (Basic w)) fit (omega arith, words.0) (omega (arith, words.1))
+fail_line m l (Hier w) h =
+    let fit = hier_valid m l w h in
+    let words = hier_short w fit in
+    line_is (Fail (Hier w)) fit (omega arith, words.0) (omega (arith, words.1))
 fail_line m l (Extra w) h = cc
 
 -- and a line that derives
@@ -112,10 +160,18 @@ derive_line m r best g (Basic w) valid of is =
     let fit = refuting_valid m (seen_at r best (Some g)) w is.refuted in
     let admitted = fit_admitted m r g valid of is.admitted in
     let first = guess_short g admitted in
-    let second = witness_short w fit in
+    let second = witness_short m (seen_at r best (Some g)) w is.refuted in
     line_is (Derive g (Basic w)) (true_both (is_fit_guess g) (is_valid_basic w) admitted fit)
     (omega arith, short_append (guess_words g) (witness_words numbers_of (Basic w)) first.0 second.0)
     (omega (arith, first.1, second.1, length-append (guess_words g) (witness_words numbers_of (Basic w))))
+derive_line m r best g (Hier w) valid of is =
+    let fit = hier_valid m (seen_at r best (Some g)) w is.refuted in
+    let admitted = fit_admitted m r g valid of is.admitted in
+    let first = guess_short g admitted in
+    let second = hier_short w fit in
+    line_is (Derive g (Hier w)) (true_both (is_fit_guess g) (is_valid_hier w) admitted fit)
+    (omega arith, short_append (guess_words g) (witness_words numbers_of (Hier w)) first.0 second.0)
+    (omega (arith, first.1, second.1, length-append (guess_words g) (witness_words numbers_of (Hier w))))
 derive_line m r best g (Extra w) valid of is = cc
 
 -- the slots of a solution are fit, and spelled by few short words

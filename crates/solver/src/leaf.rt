@@ -6,6 +6,7 @@ ghost use Rattle.solver.specs.Leaves.{settled_assignment, IsLeafLine};
 
 use kernel::{Line, NoWitness, Witness};
 use refute_basic::{find_leaf, settled_slot};
+use refute_hier::find_hier;
 use region::Look;
 use sched_base::{Itv, List, NoMemory};
 use sched_model::{Assignment, Model, Slot};
@@ -50,7 +51,8 @@ fn settled_assignment(alloc: Global, model: &Model, look: &Look<'_>) -> Result<A
     })
 }
 
-/// What closes a settled region: the witness that refutes it, or else its one solution.
+/// What closes a settled region: the witness that refutes it, or else its one solution. LEAF is asked
+/// first, and then the constraints on an interval and its parts.
 pub fn leaf_line(alloc: Global, model: &Model, look: &Look<'_>) -> Result<Line<NoWitness>, NoMemory>
     requires served { IsTrue (is_served model.now) }
     requires of { IsRegionOf model.now look.now.region }
@@ -60,5 +62,9 @@ pub fn leaf_line(alloc: Global, model: &Model, look: &Look<'_>) -> Result<Line<N
     if let Some(w) = find_leaf(model, look) {
         return Ok(Line::Fail(Witness::Basic(w)));
     }
+    if let Some(w) = find_hier(model, look) {
+        return Ok(Line::Fail(Witness::Hier(w)));
+    }
+    let _ = model.intervals();
     Ok(Line::Sol(settled_assignment(alloc, model, look)?))
 }

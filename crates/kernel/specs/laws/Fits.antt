@@ -25,8 +25,9 @@ use Rattle.region.specs.laws.Lists.{both_true, true_both, placewise-length}
 use Rattle.region.specs.laws.Narrowing.{as_many}
 use Rattle.refute_basic.specs.laws.Fits.{few_of}
 use Rattle.refute_basic.specs.laws.Spelling.{refuting_valid}
+use Rattle.refute_hier.specs.laws.Spelling.{refuting_valid as hier_valid}
 use Rattle.kernel.specs.declared.types.Witness.{Witness}
-use Rattle.kernel.specs.declared.types.Witness.TheVariants.{Basic, Extra}
+use Rattle.kernel.specs.declared.types.Witness.TheVariants.{Basic, Hier, Extra}
 use Rattle.kernel.specs.declared.types.Line.TheVariants.{Derive}
 use Rattle.kernel.specs.Refuting.{refutes_with}
 use Rattle.kernel.specs.Derives.{IsDerived}
@@ -142,6 +143,7 @@ fit_splitting m r g valid of h = fit_admitted m r g valid of (both_true (admits 
 pub fit_refuting : {W : Type 0} (extra : Refuting W) (valid : W → Bool) → ((m : Data) (l : Seen) (w : W) → IsTrue (extra m l w) → IsTrue (valid w))
     → (m : Data) (l : Seen) (w : Witness W) → refutes_with extra m l w ≡ true → is_fit_witness valid w ≡ true
 fit_refuting extra valid each m l (Basic w) h = refuting_valid m l w h
+fit_refuting extra valid each m l (Hier w) h = hier_valid m l w h
 fit_refuting extra valid each m l (Extra w) h = each m l w h
 
 -- so a line that derives is fit

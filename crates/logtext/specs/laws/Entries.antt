@@ -8,22 +8,24 @@ use Rattle.std.specs.Fmt.{decimal, signed_decimal}
 use Rattle.sched_model.specs.Valid.{is_small}
 use Rattle.region.specs.Spelled.{AreSmall}
 use Rattle.kernel.specs.declared.types.Witness.{Witness}
-use Rattle.kernel.specs.declared.types.Witness.TheVariants.{Basic, Extra}
+use Rattle.kernel.specs.declared.types.Witness.TheVariants.{Basic, Hier, Extra}
 use Rattle.kernel.specs.declared.types.Line.{Line}
 use Rattle.kernel.specs.declared.types.Line.TheVariants.{Derive, Fail, Split, Sol}
 use Rattle.refute_basic.specs.Witness.{numbers_of, is_valid}
 use Rattle.refute_basic.specs.laws.Spelling.{few_numbers, small_numbers, told_apart}
+use Rattle.refute_hier.specs.Witness.{numbers_of as hier_numbers, is_valid as is_valid_hier}
+use Rattle.refute_hier.specs.laws.Spelling.{few_numbers as few_hier, small_numbers as small_hier, told_apart as hier_apart}
 use Rattle.kernel.specs.Fit.{is_count, is_fit, is_fit_guess, is_fit_witness}
 use Rattle.textline.specs.Lines.{Bytes, line}
 use Rattle.textline.specs.Words.{are_words}
 use Rattle.textline.specs.laws.Lines.{both_true, true_both, line_told}
 use Rattle.logtext.specs.declared.entry.Entry.{Entry}
 use Rattle.logtext.specs.declared.entry.Entry.TheVariants.{Head, Step, Finish}
-use Rattle.logtext.specs.Spelling.{guess_words, basic_kinds, kind_words, witness_words, assignment_words, line_words}
+use Rattle.logtext.specs.Spelling.{guess_words, basic_kinds, hier_kinds, kind_words, witness_words, assignment_words, line_words}
 use Rattle.logtext.specs.Entries.{entry_text, entry_words, is_fit_entry}
 use Rattle.logtext.specs.laws.Leads.{tag, behind}
 use Rattle.logtext.specs.laws.Told.{moments_told, guess_told, assignment_told}
-use Rattle.logtext.specs.laws.Kinds.{are_different, is_placed, basic_differ, basic_plain, basic_placed, word_at, kind_told, kind_is_no_extra}
+use Rattle.logtext.specs.laws.Kinds.{are_different, is_placed, basic_differ, basic_plain, basic_placed, hier_differ, hier_plain, hier_placed, word_at, kind_told, begins, one_crate}
 use Rattle.logtext.specs.laws.Plain.{count_word, moment_word, first_and, front_and, each_plain, guess_plain, assignment_plain}
 
 -- valid witnesses have few and small numbers, which tell them apart
@@ -48,13 +50,16 @@ kind_witness_told kinds numbers valid differ placed laws a b ha hb e =
 pub basic_laws : AreTold numbers_of is_valid
 basic_laws = record { few = few_numbers; small = small_numbers; apart = told_apart }
 
+pub hier_laws : AreTold hier_numbers is_valid_hier
+hier_laws = record { few = few_hier; small = small_hier; apart = hier_apart }
+
 -- a witness is the last thing of its line
 pub witness_told : {W : Type 0} → (numbers : W → List ℤ) (valid : W → Bool) → AreTold numbers valid → (a b : Witness W) → is_fit_witness valid a ≡ true → is_fit_witness valid b ≡ true → witness_words numbers a ≡ witness_words numbers b → a ≡ b
 witness_told numbers valid laws (Basic a) (Basic b) ha hb e = ap Basic (kind_witness_told basic_kinds numbers_of is_valid basic_differ basic_placed basic_laws a b ha hb e)
+witness_told numbers valid laws (Hier a) (Hier b) ha hb e = ap Hier (kind_witness_told hier_kinds hier_numbers is_valid_hier hier_differ hier_placed hier_laws a b ha hb e)
 witness_told numbers valid laws (Extra a) (Extra b) ha hb e =
     let same = moments_told (numbers a) (numbers b) (all_small (numbers a) (laws.small a ha)) (all_small (numbers b) (laws.small b hb)) (behind _ _ _ _ (behind _ _ _ _ e)) in ap Extra (laws.apart a b ha hb same)
-witness_told numbers valid laws (Basic a) (Extra b) ha hb e = absurd (kind_is_no_extra (numbers_of a) _ (basic_placed a) (sym e))
-witness_told numbers valid laws (Extra a) (Basic b) ha hb e = absurd (kind_is_no_extra (numbers_of b) _ (basic_placed b) e)
+witness_told numbers valid laws v w ha hb e = let one = one_crate numbers v w e in let few = (begins numbers v).within in let also = (begins numbers w).within in absurd (omega (arith, one, few, also))
 
 pub line_words_told : {W : Type 0} → (numbers : W → List ℤ) (valid : W → Bool) → AreTold numbers valid → (a b : Line W) → is_fit valid a ≡ true → is_fit valid b ≡ true → line_words numbers a ≡ line_words numbers b → a ≡ b
 line_words_told numbers valid laws (Derive g v) (Derive h w) ha hb e =
@@ -96,6 +101,7 @@ kind_plain kinds (pos k ∷ zs) plain h = first_and (get_or kinds k []) (map sig
 
 pub witness_plain : {W : Type 0} → (numbers : W → List ℤ) (valid : W → Bool) → AreTold numbers valid → (w : Witness W) → is_fit_witness valid w ≡ true → are_words (witness_words numbers w) ≡ true
 witness_plain numbers valid laws (Basic w) h = kind_plain basic_kinds (numbers_of w) basic_plain (all_small (numbers_of w) (small_numbers w h))
+witness_plain numbers valid laws (Hier w) h = kind_plain hier_kinds (hier_numbers w) hier_plain (all_small (hier_numbers w) (small_hier w h))
 witness_plain numbers valid laws (Extra w) h =
     first_and (decimal (length (numbers w))) (map signed_decimal (numbers w)) (count_word (length (numbers w)) (few_is_count (length (numbers w)) (laws.few w h))) (numbers_plain (numbers w) (all_small (numbers w) (laws.small w h)))
 

@@ -1,4 +1,4 @@
--- Each witness that derives has one propagator, and one that has none refutes nothing.
+-- Each witness of this crate's kinds has one propagator, and one that has none refutes nothing.
 use Rattle.std.specs.Prelude.{◌≡◌, ℕ, zero, suc, ◌+◌, ◌-◌, ◌<◌, ◌≤◌, ℤ, Bool, true, false, ◌&&◌, List, [], ◌∷◌, length, Option, slice_get, nat_eq, nat_lt, cond}
 use Rattle.std.proofs.Common.{refl, sym, ap, subst, ◌∙◌, arith}
 use Rattle.std.proofs.lemmas.Bool.{true≢false, and_parts}
@@ -9,14 +9,13 @@ use Rattle.region.specs.Cells.{Region}
 use Rattle.region.specs.Looks.{Seen, IsRegionOf, is_narrowed}
 use Rattle.region.specs.laws.Lists.{placewise-length}
 use Rattle.refute_basic.specs.declared.witness.BasicWitness.{BasicWitness}
-use Rattle.refute_basic.specs.declared.witness.BasicWitness.TheVariants.{Size, Expr, Obj, Leaf}
+use Rattle.refute_basic.specs.declared.witness.BasicWitness.TheVariants.{Size, Arc, Cycle, Expr, Obj, Leaf}
 use Rattle.refute_basic.specs.Witness.{is_number}
 use Rattle.refute_basic.specs.Size.{size_row}
 use Rattle.refute_basic.specs.Expr.{is_never_true, expr_row}
 use Rattle.refute_basic.specs.Basic.{refutes}
-use Rattle.refute_basic.specs.Listed.{is_derived}
 use Rattle.refute_basic.specs.laws.Size.{none_past}
-use Rattle.prop_basic.specs.Tasks.{size_of, looks_after, witness_at, quiet, IsSilent}
+use Rattle.prop_basic.specs.Tasks.{size_of, is_own, looks_after, witness_at, quiet, IsSilent}
 
 same_number : (i j : ℕ) → nat_eq i j ≡ true → i ≡ j
 same_number i j h = grind (arith, nat_tests)
@@ -56,6 +55,8 @@ owned m k (Expr c) h =
     let two = and_parts (nat_lt c (length m.constraints)) (nat_eq k (1 + (length m.intervals + c))) h in
     let at : k ≡ suc (length m.intervals + c) = let e = same_number k (1 + (length m.intervals + c)) two.1 in omega (arith, e) in
     sym (ap (witness_at m) at ∙ expr_at m c)
+owned m k (Arc c d) h = cc
+owned m k (Cycle arcs) h = cc
 owned m k (Leaf i u) h = cc
 
 -- and does look after it
@@ -74,15 +75,15 @@ owner m (suc i) within = by_case (nat_lt i (length m.intervals)) refl
         both (nat_lt (i - length m.intervals) (length m.constraints)) (nat_eq (suc i) (1 + (length m.intervals + (i - length m.intervals))))
         (is_below (i - length m.intervals) (length m.constraints) (omega (arith, more, within))) (is_same (suc i) (1 + (length m.intervals + (i - length m.intervals))) (omega (arith, more)))
 
-pub derives : (m : Data) (k : ℕ) → is_derived (witness_at m k) ≡ true
-derives m zero = refl
-derives m (suc i) = by_case (nat_lt i (length m.intervals))
+pub owns : (m : Data) (k : ℕ) → is_own (witness_at m k) ≡ true
+owns m zero = refl
+owns m (suc i) = by_case (nat_lt i (length m.intervals))
   where
-    by_case : (b : Bool) → is_derived (cond b (Size i) (Expr (i - length m.intervals))) ≡ true
+    by_case : (b : Bool) → is_own (cond b (Size i) (Expr (i - length m.intervals))) ≡ true
     by_case true = refl
     by_case false = refl
 
--- no other witness that derives refutes anything
+-- no other witness of these kinds refutes anything
 none_there : {X : Type 0} (test : X → Bool) (xs : List X) (i : ℕ) → length xs ≤ i → passes test (slice_get xs i) ≡ false
 none_there test [] i h = refl
 none_there test (x ∷ xs) zero h = absurd (omega (arith, h))
@@ -92,10 +93,12 @@ nothing_more : (b c : Bool) → c ≡ false → (b && c) ≡ false
 nothing_more true c h = h
 nothing_more false c h = refl
 
-pub unowned : (m : Data) (l : Seen) (w : BasicWitness) → IsRegionOf m l.region → is_derived w ≡ true → ((k : ℕ) → k < size_of m → looks_after m k w ≡ false) → refutes m l w ≡ false
-unowned m l Obj of derived none = absurd (true≢false (none 0 (omega arith)))
-unowned m l (Leaf k u) of derived none = cc
-unowned m l (Size x) of derived none = by_case (nat_lt x (length m.intervals)) refl
+pub unowned : (m : Data) (l : Seen) (w : BasicWitness) → IsRegionOf m l.region → is_own w ≡ true → ((k : ℕ) → k < size_of m → looks_after m k w ≡ false) → refutes m l w ≡ false
+unowned m l Obj of own none = absurd (true≢false (none 0 (omega arith)))
+unowned m l (Arc c d) of own none = cc
+unowned m l (Cycle arcs) of own none = cc
+unowned m l (Leaf k u) of own none = cc
+unowned m l (Size x) of own none = by_case (nat_lt x (length m.intervals)) refl
   where
     same : length m.intervals ≡ length l.region.bounds
     same = placewise-length is_narrowed m.intervals l.region.bounds of.bounds
@@ -105,7 +108,7 @@ unowned m l (Size x) of derived none = by_case (nat_lt x (length m.intervals)) r
         let within = below x (length m.intervals) is in
         absurd (true≢false (sym (is_same (1 + x) (1 + x) refl) ∙ ap (λ b. b && nat_eq (1 + x) (1 + x)) (sym is) ∙ none (1 + x) (omega (arith, within))))
     by_case false is = let more = past x (length m.intervals) is in nothing_more (is_number x) (size_row l x) (sym (none_past l x (omega (arith, more, same))))
-unowned m l (Expr c) of derived none = by_case (nat_lt c (length m.constraints)) refl
+unowned m l (Expr c) of own none = by_case (nat_lt c (length m.constraints)) refl
   where
     by_case : (b : Bool) → nat_lt c (length m.constraints) ≡ b → refutes m l (Expr c) ≡ false
     by_case true is =

@@ -23,14 +23,14 @@ use Rattle.findings.specs.laws.Alike.{alike_from_cells}
 use Rattle.findings.specs.laws.Kept.{unrefuted_kept}
 use Rattle.findings.specs.laws.Everywhere.{unrefuted_everywhere}
 use Rattle.refute_basic.specs.declared.witness.BasicWitness.{BasicWitness}
-use Rattle.refute_basic.specs.declared.witness.BasicWitness.TheVariants.{Size, Expr, Obj, Leaf}
+use Rattle.refute_basic.specs.declared.witness.BasicWitness.TheVariants.{Size, Arc, Cycle, Expr, Obj, Leaf}
 use Rattle.refute_basic.specs.Witness.{is_number}
 use Rattle.refute_basic.specs.Size.{has_no_size, size_row}
 use Rattle.refute_basic.specs.Basic.{refutes}
-use Rattle.refute_basic.specs.Listed.{asks_size, is_on_one, lists, is_derived}
+use Rattle.refute_basic.specs.Listed.{asks_size, is_on_one, lists}
 use Rattle.refute_basic.specs.laws.Size.{none_past, size_alike}
 use Rattle.refute_basic.specs.laws.Hulls.{logic_names, objective_names, expr_alike, obj_alike}
-use Rattle.prop_basic.specs.Tasks.{reads_of, IsSilent}
+use Rattle.prop_basic.specs.Tasks.{is_own, reads_of, IsSilent}
 
 -- what is asked of one list of guesses is asked of another that has them
 asked_more : (p q : Guess → Bool) (r : Region) (guess : Option Guess) → ((g : Guess) → p g ≡ true → q g ≡ true) → is_asked p r guess ≡ true → is_asked q r guess ≡ true
@@ -133,16 +133,18 @@ size_looks : (m : Data) (x : ℕ) → LooksOnlyAt refutes m (Size x) (reads_of m
 size_looks m x l k of also alike best = ap (λ b. is_number x && b) (size_alike l k x (alike.bounds (itv_at x) (ap (λ b. b || false) (same_self (itv_at x)))))
 
 -- what is read stays, and so does silence
-pub silent_kept : (m : Data) (w : BasicWitness) (r q : Region) (b c : Option ℤ) → is_derived w ≡ true → IsRegionOf m r → IsRegionOf m q → ((cell : CellName) → IsTrue (reads_cell (reads_of m w) cell) → SameCell cell r q)
+pub silent_kept : (m : Data) (w : BasicWitness) (r q : Region) (b c : Option ℤ) → is_own w ≡ true → IsRegionOf m r → IsRegionOf m q → ((cell : CellName) → IsTrue (reads_cell (reads_of m w) cell) → SameCell cell r q)
     → (IsTrue (reads_of m w).best → b ≡ c) → IsSilent m r b w → IsSilent m q c w
-silent_kept m (Size x) r q b c derived of also cells best silent =
+silent_kept m (Size x) r q b c own of also cells best silent =
     size_silent m q c x (unrefuted_kept refutes m (Size x) (reads_of m (Size x)) r q b c (size_looks m x) of also (alike_from_cells m (reads_of m (Size x)) r q of also cells) best (size_unrefuted m r b x silent))
-silent_kept m (Expr k) r q b c derived of also cells best silent =
+silent_kept m (Expr k) r q b c own of also cells best silent =
     let looks = expr_looks m k (logic_names (slice_get m.constraints k)) (λ x h. h) in
     silent_on m q c (Expr k) (logic_names (slice_get m.constraints k)) false (λ g. refl) looks also
     (unrefuted_kept refutes m (Expr k) (reads_of m (Expr k)) r q b c looks of also (alike_from_cells m (reads_of m (Expr k)) r q of also cells) best (unrefuted_from m r b (Expr k) (logic_names (slice_get m.constraints k)) (λ g. refl) silent))
-silent_kept m Obj r q b c derived of also cells best silent =
+silent_kept m Obj r q b c own of also cells best silent =
     let looks = obj_looks m (objective_names m.objective) (λ x h. h) in
     silent_on m q c Obj (objective_names m.objective) true (λ g. refl) looks also
     (unrefuted_kept refutes m Obj (reads_of m Obj) r q b c looks of also (alike_from_cells m (reads_of m Obj) r q of also cells) best (unrefuted_from m r b Obj (objective_names m.objective) (λ g. refl) silent))
-silent_kept m (Leaf k u) r q b c derived of also cells best silent = cc
+silent_kept m (Arc k d) r q b c own of also cells best silent = cc
+silent_kept m (Cycle arcs) r q b c own of also cells best silent = cc
+silent_kept m (Leaf k u) r q b c own of also cells best silent = cc

@@ -8,7 +8,7 @@ use Rattle.region.specs.Guesses.{SameCell}
 use Rattle.region.specs.Looks.{IsRegionOf}
 use Rattle.refute_basic.specs.declared.witness.BasicWitness.TheVariants.{Size, Expr}
 use Rattle.prop_basic.specs.Tasks.{reads_of, witness_at, watching, watching_best, quiet, IsSilent}
-use Rattle.prop_basic.specs.laws.Owners.{owned, derives}
+use Rattle.prop_basic.specs.laws.Owners.{owned, owns}
 use Rattle.prop_basic.specs.laws.Silent.{silent_kept}
 
 best_watched : (m : Data) (k : ℕ) → (reads_of m (witness_at m k)).best ≡ true → nat_eq k 0 ≡ true
@@ -24,5 +24,5 @@ unwatched m k r q b c of also cells best still = record {
   unrefuted = λ w guess mine asked.
       let is = owned m k w mine in
       let silent : IsSilent m r b w = λ g h. still.unrefuted w g mine h in
-      subst (IsSilent m q c) (sym is) (silent_kept m (witness_at m k) r q b c (derives m k) of also cells (λ h. best (best_watched m k h)) (subst (IsSilent m r b) is silent)) guess asked;
+      subst (IsSilent m q c) (sym is) (silent_kept m (witness_at m k) r q b c (owns m k) of also cells (λ h. best (best_watched m k h)) (subst (IsSilent m r b) is silent)) guess asked;
 }

@@ -1,22 +1,33 @@
 -- Where each propagator is quiet, the region is.
-use Rattle.std.specs.Prelude.{◌≡◌, ◌⊎◌, ℕ, zero, suc, ◌<◌, ℤ, Bool, true, false, IsTrue, Option}
-use Rattle.std.proofs.Common.{inl, inr, refl, arith}
+use Rattle.std.specs.Prelude.{◌≡◌, ◌⊎◌, ℕ, zero, suc, ◌+◌, ◌-◌, ◌<◌, ℤ, Bool, true, false, IsTrue, Option, nat_lt}
+use Rattle.std.proofs.lemmas.Bool.Decides.{nat_tests}
+use Rattle.std.proofs.Common.{inl, inr, refl, subst, arith}
 use Rattle.sched_model.specs.Data.{Data}
 use Rattle.region.specs.declared.types.Guess.{Guess}
 use Rattle.region.specs.Cells.{Region}
-use Rattle.region.specs.Looks.{IsRegionOf, seen_at}
+use Rattle.region.specs.Looks.{Seen, Refuting, IsRegionOf, seen_at}
 use Rattle.region.specs.laws.Narrowing.{looked_stays}
 use Rattle.findings.specs.Ends.{is_asked}
+use Rattle.findings.specs.Found.{IsQuiet}
 use Rattle.findings.specs.laws.Kept.{asked_admits}
 use Rattle.refute_basic.specs.declared.witness.BasicWitness.{BasicWitness}
+use Rattle.refute_basic.specs.declared.witness.BasicWitness.TheVariants.{Size, Arc, Cycle, Expr, Obj, Leaf}
 use Rattle.refute_basic.specs.Basic.{refutes}
 use Rattle.refute_basic.specs.Listed.{lists, is_derived as is_derived_basic}
 use Rattle.kernel.specs.declared.types.Witness.{Witness}
-use Rattle.kernel.specs.declared.types.Witness.TheVariants.{Basic, Extra}
+use Rattle.kernel.specs.declared.types.Witness.TheVariants.{Basic, Hier, Extra}
 use Rattle.kernel.specs.declared.no_extra.NoWitness.{NoWitness}
+use Rattle.engine.specs.Pairs.{chosen}
 use Rattle.engine.specs.Plain.{refutes_plain}
-use Rattle.prop_basic.specs.Tasks.{size_of, looks_after, quiet}
+use Rattle.refute_hier.specs.declared.witness.HierWitness.{HierWitness}
+use Rattle.refute_hier.specs.Hier.{refutes as refutes_hier}
+use Rattle.refute_hier.specs.Listed.{lists as lists_hier, is_derived as is_derived_hier}
+use Rattle.prop_basic.specs.Tasks.{size_of, looks_after, quiet, is_own}
 use Rattle.prop_basic.specs.laws.Owners.{unowned}
+use Rattle.prop_temporal.specs.Tasks.{size_of as size_of_temporal, looks_after as looks_after_temporal, quiet as quiet_temporal, is_temporal}
+use Rattle.prop_temporal.specs.laws.Owners.{unowned as unowned_temporal}
+use Rattle.prop_hier.specs.Tasks.{size_of as size_of_hier, looks_after as looks_after_hier, quiet as quiet_hier}
+use Rattle.prop_hier.specs.laws.Owners.{unowned as unowned_hier}
 use Rattle.propagators.specs.Quiet.{is_derived, lists_all, IsQuietRegion}
 
 -- one of the first numbers passes a test, or none does
@@ -39,18 +50,68 @@ one_or_none test (suc n) = by_case (test zero) refl (one_or_none (λ k. test (su
     by_case false is (inl more) = inl (suc more.0, let less = more.1 in omega (arith, less), more.2)
     by_case false is (inr none) = inr (none_more is none)
 
--- of the witnesses of sizes, expressions and the objective
-pub basic_unrefuted : (m : Data) (r : Region) (best : Option ℤ) → IsRegionOf m r → ((k : ℕ) → k < size_of m → quiet m k r best)
-    → (w : BasicWitness) (guess : Option Guess) → is_derived_basic w ≡ true → IsTrue (is_asked (lists m w) r guess) → refutes m (seen_at r best guess) w ≡ false
-basic_unrefuted m r best of all w guess derived asked = elim (one_or_none (λ k. looks_after m k w) (size_of m)) [
+-- where each propagator of a crate is quiet, its witnesses refute nothing that is asked
+unrefuted_by : {W : Type 0} (refutes : Refuting W) (lists : Data → W → Guess → Bool) (looks_after : Data → ℕ → W → Bool) (size : ℕ) (m : Data) (r : Region) (best : Option ℤ) → IsRegionOf m r
+    → ((k : ℕ) → k < size → IsQuiet refutes lists (λ n w. looks_after n k w) m r best)
+    → (w : W) → ((l : Seen) → IsRegionOf m l.region → ((k : ℕ) → k < size → looks_after m k w ≡ false) → refutes m l w ≡ false)
+    → (guess : Option Guess) → IsTrue (is_asked (lists m w) r guess) → refutes m (seen_at r best guess) w ≡ false
+unrefuted_by refutes lists looks_after size m r best of all w unowned guess asked = elim (one_or_none (λ k. looks_after m k w) size) [
   | inl owner ↦ (all owner.0 owner.1).unrefuted w guess owner.2 asked
-  | inr none ↦ unowned m (seen_at r best guess) w (looked_stays guess m r (asked_admits (lists m w) r guess asked) of) derived none
+  | inr none ↦ unowned (seen_at r best guess) (looked_stays guess m r (asked_admits (lists m w) r guess asked) of) none
 ]
 
-all_unrefuted : (m : Data) (r : Region) (best : Option ℤ) → IsRegionOf m r → ((k : ℕ) → k < size_of m → quiet m k r best)
+-- a kind of `refute_basic` that derives is asked by one of two crates
+own_or_temporal : (w : BasicWitness) → is_derived_basic w ≡ true → (is_own w ≡ true) ⊎ (is_temporal w ≡ true)
+own_or_temporal (Size x) h = inl refl
+own_or_temporal (Arc c d) h = inr refl
+own_or_temporal (Cycle arcs) h = inr refl
+own_or_temporal (Expr c) h = inl refl
+own_or_temporal Obj h = inl refl
+own_or_temporal (Leaf k u) h = cc
+
+-- the propagators of all crates
+pub record AllQuiet (m : Data) (r : Region) (best : Option ℤ) : Type 0 where
+  pub basic : (k : ℕ) → k < size_of m → quiet m k r best
+  pub temporal : (k : ℕ) → k < size_of_temporal m → quiet_temporal m k r best
+  pub hier : (k : ℕ) → k < size_of_hier m → quiet_hier m k r best
+
+basic_unrefuted : (m : Data) (r : Region) (best : Option ℤ) → IsRegionOf m r → AllQuiet m r best
+    → (w : BasicWitness) (guess : Option Guess) → is_derived_basic w ≡ true → IsTrue (is_asked (lists m w) r guess) → refutes m (seen_at r best guess) w ≡ false
+basic_unrefuted m r best of all w guess derived asked = elim (own_or_temporal w derived) [
+  | inl own ↦ unrefuted_by refutes lists looks_after (size_of m) m r best of all.basic w (λ l stays none. unowned m l w stays own none) guess asked
+  | inr also ↦ unrefuted_by refutes lists looks_after_temporal (size_of_temporal m) m r best of all.temporal w (λ l stays none. unowned_temporal m l w also none) guess asked
+]
+
+all_unrefuted : (m : Data) (r : Region) (best : Option ℤ) → IsRegionOf m r → AllQuiet m r best
     → (w : Witness NoWitness) (guess : Option Guess) → IsTrue (is_derived m w) → IsTrue (is_asked (lists_all m w) r guess) → refutes_plain m (seen_at r best guess) w ≡ false
 all_unrefuted m r best of all (Basic w) guess derived asked = basic_unrefuted m r best of all w guess derived asked
+all_unrefuted m r best of all (Hier w) guess derived asked =
+    unrefuted_by refutes_hier lists_hier looks_after_hier (size_of_hier m) m r best of all.hier w (λ l stays none. unowned_hier m l w stays refl none) guess asked
 all_unrefuted m r best of all (Extra w) guess derived asked = refl
 
-pub covered : (m : Data) (r : Region) (best : Option ℤ) → IsRegionOf m r → ((k : ℕ) → k < size_of m → quiet m k r best) → IsQuietRegion m r best
+pub covered : (m : Data) (r : Region) (best : Option ℤ) → IsRegionOf m r → AllQuiet m r best → IsQuietRegion m r best
 covered m r best of all = record { unrefuted = all_unrefuted m r best of all }
+
+-- numbered through, the first are those of one crate, and the others follow
+pub firsts : (a b : ℕ) (P Q : ℕ → Type 0) → ((k : ℕ) → k < a + b → chosen (nat_lt k a) (P k) (Q (k - a))) → (k : ℕ) → k < a → P k
+firsts a b P Q each k within = here (nat_lt k a) (is_below k a within) (each k (omega (arith, within)))
+  where
+    is_below : (k a : ℕ) → k < a → nat_lt k a ≡ true
+    is_below k a h = grind (arith, nat_tests)
+
+    here : (t : Bool) → t ≡ true → chosen t (P k) (Q (k - a)) → P k
+    here true h p = p
+    here false h p = cc
+
+pub others : (a b : ℕ) (P Q : ℕ → Type 0) → ((k : ℕ) → k < a + b → chosen (nat_lt k a) (P k) (Q (k - a))) → (k : ℕ) → k < b → Q k
+others a b P Q each k within = subst Q (back k a) (there (nat_lt (a + k) a) (not_below k a) (each (a + k) (omega (arith, within))))
+  where
+    not_below : (k a : ℕ) → nat_lt (a + k) a ≡ false
+    not_below k a = grind (arith, nat_tests)
+
+    back : (k a : ℕ) → (a + k) - a ≡ k
+    back k a = omega arith
+
+    there : (t : Bool) → t ≡ false → chosen t (P (a + k)) (Q ((a + k) - a)) → Q ((a + k) - a)
+    there false h p = p
+    there true h p = cc

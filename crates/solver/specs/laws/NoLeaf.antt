@@ -1,5 +1,5 @@
--- On a settled region of a model that is served, which no LEAF refutes, the one assignment is a solution, and better than
--- the best value where there are an objective and a best value.
+-- On a settled region of a model that is served, which neither a LEAF nor a witness of an interval and its parts refutes,
+-- the one assignment is a solution, and better than the best value where there are an objective and a best value.
 use Rattle.std.specs.Prelude.{◌≡◌, ℕ, zero, suc, ◌<◌, ◌≤◌, ℤ, Bool, true, false, not, ◌&&◌, IsTrue, List, [], ◌∷◌, Option, Some, None, map, length, slice_get}
 use Rattle.std.specs.List.{list_all}
 use Rattle.std.proofs.Common.{refl, sym, ap, ◌∙◌, arith}
@@ -34,6 +34,9 @@ use Rattle.refute_basic.specs.Leaf.{is_leaf_constraint, settled_alone, has_size,
 use Rattle.refute_basic.specs.Basic.{refutes}
 use Rattle.refute_basic.specs.laws.Fits.{settled_fits, few_of}
 use Rattle.refute_basic.specs.laws.SameSlots.{value_same, holds_same}
+use Rattle.refute_hier.specs.declared.witness.HierWitness.{HierWitness}
+use Rattle.refute_hier.specs.Hier.{refutes as hier_refutes}
+use Rattle.refute_hier.specs.laws.Settled.{keeps_family, all_unrefuted_hold}
 use Rattle.solver.specs.Leaves.{empty_for_each, settled_assignment, Solves}
 
 -- a settled region allows the assignment at the settled values
@@ -89,38 +92,38 @@ beats_best m l (Some o) is (Some v) same h =
     ap (λ q. passes (λ p. beats p.sense (value_of (settled_assignment m l.region) p.expr) v) q) is
     ∙ ap (λ z. beats o.sense z v) (value_same (settled_assignment m l.region) (settled_alone l.region) refl o.expr) ∙ not-false _ at
 
--- LEAF looks at each constraint of a model that is served
-served_leaf : (c : Constraint) → is_served_constraint c ≡ true → is_leaf_constraint c ≡ true
-served_leaf (Temporal from to equal x y z) of = refl
-served_leaf (Logic e) of = refl
-served_leaf (Span x parts) of = cc
-served_leaf (Alternative x parts) of = cc
-served_leaf (Synchronize x parts) of = cc
-served_leaf (NoOverlap p matrix direct) of = cc
-served_leaf (First p x) of = cc
-served_leaf (Last p x) of = cc
-served_leaf (Before p x y) of = cc
-served_leaf (Prev p x y) of = cc
-served_leaf (CumulIn f w lo hi) of = cc
-served_leaf (AlwaysEqual g x v i j) of = cc
-served_leaf (AlwaysNoState g x) of = cc
+-- each constraint of a model that is served is one at which LEAF looks, or one on an interval and its parts
+served_holds : (m : Data) (a b : Assignment) (c : Constraint) → a.slots ≡ b.slots → is_served_constraint c ≡ true → (is_leaf_constraint c implies holds m b c) ≡ true → keeps_family m a c ≡ true → holds m a c ≡ true
+served_holds m a b (Temporal from to equal x y z) same of leaf kept = holds_same m a b same (Temporal from to equal x y z) refl ∙ leaf
+served_holds m a b (Logic e) same of leaf kept = holds_same m a b same (Logic e) refl ∙ leaf
+served_holds m a b (Span x parts) same of leaf kept = kept
+served_holds m a b (Alternative x parts) same of leaf kept = kept
+served_holds m a b (Synchronize x parts) same of leaf kept = kept
+served_holds m a b (NoOverlap p matrix direct) same of leaf kept = cc
+served_holds m a b (First p x) same of leaf kept = cc
+served_holds m a b (Last p x) same of leaf kept = cc
+served_holds m a b (Before p x y) same of leaf kept = cc
+served_holds m a b (Prev p x y) same of leaf kept = cc
+served_holds m a b (CumulIn f w lo hi) same of leaf kept = cc
+served_holds m a b (AlwaysEqual g x v i j) same of leaf kept = cc
+served_holds m a b (AlwaysNoState g x) same of leaf kept = cc
 
 -- so where none fails all of them hold
-all_hold : (m : Data) (r : Region) (cs : List Constraint) → list_all is_served_constraint cs ≡ true → list_all (keeps m r) cs ≡ true → list_all (holds m (settled_assignment m r)) cs ≡ true
-all_hold m r [] of h = refl
-all_hold m r (c ∷ cs) of h =
+all_hold : (m : Data) (r : Region) (cs : List Constraint) → list_all is_served_constraint cs ≡ true → list_all (keeps m r) cs ≡ true → list_all (keeps_family m (settled_assignment m r)) cs ≡ true → list_all (holds m (settled_assignment m r)) cs ≡ true
+all_hold m r [] of leaf kept = refl
+all_hold m r (c ∷ cs) of leaf kept =
     let first = both_true (is_served_constraint c) (list_all is_served_constraint cs) of in
-    let second = both_true (keeps m r c) (list_all (keeps m r) cs) h in
-    let leaf : is_leaf_constraint c ≡ true = served_leaf c first.0 in
-    let here : holds m (settled_alone r) c ≡ true = sym (ap (λ b. b implies holds m (settled_alone r) c) leaf) ∙ second.0 in
-    true_both (holds m (settled_assignment m r) c) _ (holds_same m (settled_assignment m r) (settled_alone r) refl c leaf ∙ here) (all_hold m r cs first.1 second.1)
+    let second = both_true (keeps m r c) (list_all (keeps m r) cs) leaf in
+    let third = both_true (keeps_family m (settled_assignment m r) c) (list_all (keeps_family m (settled_assignment m r)) cs) kept in
+    true_both (holds m (settled_assignment m r) c) _ (served_holds m (settled_assignment m r) (settled_alone r) c refl first.0 second.0 third.0) (all_hold m r cs first.1 second.1 third.1)
 
--- what passes LEAF is a solution
-pub passes_solves : (m : Data) (l : Seen) → IsRegionOf m l.region → is_served m ≡ true → is_settled l.region ≡ true → PassesLeaf m l → Solves m l
-passes_solves m l of served settled passed =
+-- what passes LEAF, and which no witness of an interval and its parts refutes, is a solution
+pub passes_solves : (m : Data) (l : Seen) → IsValid m → IsRegionOf m l.region → is_served m ≡ true → is_settled l.region ≡ true → PassesLeaf m l → ((w : HierWitness) → hier_refutes m l w ≡ false) → Solves m l
+passes_solves m l valid of served settled passed none =
     let two = both_true (is_empty m.sequences) (list_all is_served_constraint m.constraints) served in
+    let kept = all_unrefuted_hold m l (settled_assignment m l.region) valid (record { of = of; settled = settled; slots = refl; fits = settled_fits m l.region of settled passed.sized }) none in
     record {
-      solution = true_both (is_in_domain m (settled_assignment m l.region)) _ (settled_in_domain m l.region of two.0 settled passed.sized) (all_hold m l.region m.constraints two.1 passed.kept);
+      solution = true_both (is_in_domain m (settled_assignment m l.region)) _ (settled_in_domain m l.region of two.0 settled passed.sized) (all_hold m l.region m.constraints two.1 passed.kept kept);
       allowed = settled_allowed m l.region of settled;
       better = beats_best m l m.objective refl l.best refl passed.better;
     }
@@ -147,8 +150,12 @@ unkept_fails m r (Some c) h = not_kept (is_leaf_constraint c) (holds m (settled_
 number_below : (n k : ℕ) → n < k → k ≤ 20000 → is_number n ≡ true
 number_below n k h few = grind (arith, nat_tests)
 
-pub no_leaf_solves : (m : Data) (l : Seen) → IsValid m → IsRegionOf m l.region → IsTrue (is_served m) → is_settled l.region ≡ true → ((k u : ℕ) → IsTrue (refutes m l (Leaf k u)) → ⊥) → Solves m l
-no_leaf_solves m l valid of served settled none = sized_or (all_sized l.region) refl
+unrefuted : (b : Bool) → (IsTrue b → ⊥) → b ≡ false
+unrefuted true h = absurd (h refl)
+unrefuted false h = refl
+
+pub no_leaf_solves : (m : Data) (l : Seen) → IsValid m → IsRegionOf m l.region → IsTrue (is_served m) → is_settled l.region ≡ true → ((k u : ℕ) → IsTrue (refutes m l (Leaf k u)) → ⊥) → ((w : HierWitness) → IsTrue (hier_refutes m l w) → ⊥) → Solves m l
+no_leaf_solves m l valid of served settled none no_hier = sized_or (all_sized l.region) refl
   where
     row : (k u : ℕ) → is_number k ≡ true → is_number u ≡ true → leaf_case m l k u ≡ true → ⊥
     row k u first second h = none k u (true_both (is_number k && is_number u) (leaf_row m l k u) (true_both (is_number k) (is_number u) first second) (true_both (is_settled l.region) (leaf_case m l k u) settled h))
@@ -157,7 +164,7 @@ no_leaf_solves m l valid of served settled none = sized_or (all_sized l.region) 
     few_bounds = omega (arith, (few_of m valid).0, placewise-length is_narrowed m.intervals l.region.bounds of.bounds)
 
     better_or : all_sized l.region ≡ true → list_all (keeps m l.region) m.constraints ≡ true → (b : Bool) → is_no_better m l ≡ b → Solves m l
-    better_or sized hold false is = passes_solves m l of served settled (record { sized = sized; kept = hold; better = is })
+    better_or sized hold false is = passes_solves m l valid of served settled (record { sized = sized; kept = hold; better = is }) (λ w. unrefuted (hier_refutes m l w) (no_hier w))
     better_or sized hold true is = absurd (row 2 0 refl refl (true_both (all_sized l.region) (is_no_better m l) sized is))
 
     hold_or : all_sized l.region ≡ true → (b : Bool) → list_all (keeps m l.region) m.constraints ≡ b → Solves m l

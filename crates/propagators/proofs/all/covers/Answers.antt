@@ -1,5 +1,22 @@
-use Rattle.propagators.specs.laws.Covered.{covered}
+use Rattle.std.specs.Prelude.{ℕ, ℤ, ◌+◌, ◌-◌, Option, nat_lt}
+use Rattle.sched_model.specs.Data.{Data}
+use Rattle.region.specs.Cells.{Region}
+use Rattle.prop_basic.specs.Tasks.{size_of, quiet}
+use Rattle.prop_temporal.specs.Tasks.{size_of as size_of_temporal, quiet as quiet_temporal}
+use Rattle.prop_hier.specs.Tasks.{size_of as size_of_hier, quiet as quiet_hier}
+use Rattle.engine.specs.Pairs.{chosen}
+use Rattle.propagators.specs.laws.Covered.{covered, firsts, others}
 use Rattle.propagators.proofs.all.covers.Goals as goal
 
+-- the propagators behind those of `prop_basic`
+abbrev behind : Data → Region → Option ℤ → ℕ → Type 0
+behind m r best k = chosen (nat_lt k (size_of_temporal m)) (quiet_temporal m k r best) (quiet_hier m (k - size_of_temporal m) r best)
+
 pub returns : goal.returns
-returns c = covered
+returns c = λ m r best of still.
+    let rest = others (size_of m) (size_of_temporal m + size_of_hier m) (λ k. quiet m k r best) (behind m r best) still in
+    covered m r best of (record {
+      basic = firsts (size_of m) (size_of_temporal m + size_of_hier m) (λ k. quiet m k r best) (behind m r best) still;
+      temporal = firsts (size_of_temporal m) (size_of_hier m) (λ k. quiet_temporal m k r best) (λ k. quiet_hier m k r best) rest;
+      hier = others (size_of_temporal m) (size_of_hier m) (λ k. quiet_temporal m k r best) (λ k. quiet_hier m k r best) rest;
+    })

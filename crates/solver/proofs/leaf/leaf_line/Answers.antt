@@ -4,5 +4,5 @@ use Rattle.solver.proofs.leaf.leaf_line.Goals as goal
 pub returns : goal.returns
 returns c = (
   c.in_ok-settled_assignment.ensures.value,
-  passes_solves c.args.model.now c.args.look.now c.requires.of c.requires.served c.requires.settled c.in_default.ensures.none,
+  passes_solves c.args.model.now c.args.look.now c.intervals.ensures.valid c.requires.of c.requires.served c.requires.settled c.in_default.ensures.none c.in_default-find_hier.ensures.none,
 )

@@ -1,0 +1,4 @@
+pub mod Making
+pub mod Asked
+pub mod Counting
+pub mod Members

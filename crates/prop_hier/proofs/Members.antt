@@ -1,0 +1,94 @@
+-- A walk through the intervals of a constraint.
+use Rattle.std.specs.Prelude.{◌≡◌, ◌⊎◌, ℕ, zero, suc, ◌+◌, ◌<◌, ◌≤◌, Bool, true, false, ◌||◌, List, [], ◌∷◌, length, Option, Some, None, take}
+use Rattle.std.proofs.Common.{inl, inr, refl, sym, ap, subst, ◌∙◌, arith, get_or}
+use Rattle.std.proofs.lemmas.List.{take_all}
+use Rattle.sched_base.specs.declared.ids.Itv.{Itv}
+use Rattle.sched_model.specs.Data.{same, has}
+use Rattle.region.specs.declared.types.Topic.{Topic}
+use Rattle.region.specs.declared.types.Topic.TheVariants.{One, Two}
+use Rattle.region.specs.declared.types.Guess.{Guess}
+use Rattle.region.specs.Cells.{Region}
+use Rattle.region.specs.Guesses.{topic}
+use Rattle.region.specs.laws.Lists.{both_true, true_both}
+use Rattle.region.specs.laws.OneSequence.{same_is, same_self, has_first, has_later, has_cases}
+use Rattle.findings.specs.Ends.{is_open_end}
+use Rattle.findings.specs.Reads.{AreUnrefuted, is_among}
+use Rattle.region.specs.Looks.{Seen}
+use Rattle.refute_hier.specs.declared.family.Kind.{Kind}
+use Rattle.prop_hier.specs.declared.counts.Counts.{Counts}
+use Rattle.prop_hier.specs.Counts.{counts_of}
+use Rattle.prop_hier.specs.Ready.{AreParts, IsReady}
+
+-- nothing refutes the region as it stands, once one was asked, nor under a guess on one of the first
+pub record AskedFirst (test : Option Guess → Bool) (r : Region) (xs : List Itv) (n : ℕ) : Type 0 where
+  pub plain : 0 < n → test None ≡ false
+  pub ends : (g : Guess) → is_among (take n xs) [] (topic g) ≡ true → is_open_end r g ≡ true → test (Some g) ≡ false
+
+pub none_yet : (test : Option Guess → Bool) (r : Region) (xs : List Itv) → AskedFirst test r xs 0
+none_yet test r xs = record { plain = λ some. absurd (omega (arith, some)); ends = λ g among open_end. absurd (off (topic g) among) }
+  where
+    off : (t : Topic) → is_among [] [] t ≡ true → ⊥
+    off (One x c) h = cc
+    off (Two p x y) h = cc
+
+-- what is listed among the first, or next
+has_more : (xs : List Itv) (n : ℕ) (x d z : Itv) → n < length xs → x ≡ get_or xs n d → has (take (suc n) xs) z ≡ true → (has (take n xs) z ≡ true) ⊎ (has (x ∷ []) z ≡ true)
+has_more [] n x d z within is h = absurd (omega (arith, within))
+has_more (y ∷ ys) zero x d z within is h = inr (subst (λ w. has (w ∷ []) z ≡ true) (sym is) h)
+has_more (y ∷ ys) (suc n) x d z within is h = elim (has_cases (same z y) (has (take (suc n) ys) z) h) [
+  | inl here ↦ inl (has_first (same z y) (has (take n ys) z) here)
+  | inr later ↦ elim (has_more ys n x d z (omega (arith, within)) is later) [
+    | inl before ↦ inl (has_later (same z y) (has (take n ys) z) before)
+    | inr last ↦ inr last
+  ]
+]
+
+among_more : (xs : List Itv) (n : ℕ) (x d : Itv) (t : Topic) → n < length xs → x ≡ get_or xs n d → is_among (take (suc n) xs) [] t ≡ true → (is_among (take n xs) [] t ≡ true) ⊎ (is_among (x ∷ []) [] t ≡ true)
+among_more xs n x d (One z c) within is h = has_more xs n x d z within is h
+among_more xs n x d (Two p y z) within is h = cc
+
+plus_one : (n : ℕ) → n + 1 ≡ suc n
+plus_one n = omega arith
+
+-- none refutes among the first, and with the next
+pub one_more : (test : Option Guess → Bool) (r : Region) (xs : List Itv) (n : ℕ) (x d : Itv) → n < length xs → x ≡ get_or xs n d → AskedFirst test r xs n → AreUnrefuted test r (x ∷ []) [] → AskedFirst test r xs (n + 1)
+one_more test r xs n x d within is before here = record {
+  plain = λ some. here None refl;
+  ends = λ g among open_end. elim (among_more xs n x d (topic g) within is (subst (λ k. is_among (take k xs) [] (topic g) ≡ true) (plus_one n) among)) [
+    | inl first ↦ before.ends g first open_end
+    | inr last ↦ here (Some g) (true_both (is_among (x ∷ []) [] (topic g)) (is_open_end r g) last open_end)
+  ];
+}
+
+pub all_asked : (test : Option Guess → Bool) (r : Region) (xs bs : List Itv) (a : Itv) (n : ℕ) → xs ≡ a ∷ bs → length xs ≤ n → AskedFirst test r xs n → AreUnrefuted test r (a ∷ bs) []
+all_asked test r xs bs a n same all none None asked = none.plain (let size = ap length same in omega (arith, all, size))
+all_asked test r xs bs a n same all none (Some g) asked =
+    let two = both_true (is_among (a ∷ bs) [] (topic g)) (is_open_end r g) asked in
+    none.ends g (subst (λ zs. is_among zs [] (topic g) ≡ true) (sym (take_all n xs all ∙ same)) two.0) two.1
+
+-- one of the list is listed
+pub has_at : (xs : List Itv) (n : ℕ) (x d : Itv) → n < length xs → x ≡ get_or xs n d → has xs x ≡ true
+has_at [] n x d within is = absurd (omega (arith, within))
+has_at (y ∷ ys) zero x d within is = has_first (same x y) (has ys x) (subst (λ w. same x w ≡ true) is (same_self x))
+has_at (y ∷ ys) (suc n) x d within is = has_later (same x y) (has ys x) (has_at ys n x d (omega (arith, within)) is)
+
+pub ready_at : (kind : Kind) (r : Region) (a : Itv) (bs xs : List Itv) (c : Counts) (n : ℕ) (x d : Itv) (l : Seen) → AreParts bs → l.region ≡ r → c ≡ counts_of kind l.region a bs → xs ≡ a ∷ bs → n < length xs → x ≡ get_or xs n d → IsReady kind r a bs c x
+ready_at kind r a bs xs c n x d l parts shown counts same within is = record { parts = parts; counts = counts ∙ ap (λ k. counts_of kind k a bs) shown; member = subst (λ zs. has zs x ≡ true) same (has_at xs n x d within is) }
+
+alone : (b : Bool) → (b || false) ≡ true → b ≡ true
+alone true h = refl
+alone false h = h
+
+one_among : (xs : List Itv) (x : Itv) (t : Topic) → has xs x ≡ true → is_among (x ∷ []) [] t ≡ true → is_among xs [] t ≡ true
+one_among xs x (One z c) there h = subst (λ w. has xs w ≡ true) (sym (same_is z x (alone (same z x) h))) there
+one_among xs x (Two p y z) there h = cc
+
+-- where none refutes of all, none does of one
+pub of_one : (test : Option Guess → Bool) (r : Region) (xs : List Itv) (x : Itv) → has xs x ≡ true → AreUnrefuted test r xs [] → AreUnrefuted test r (x ∷ []) []
+of_one test r xs x there none None asked = none None refl
+of_one test r xs x there none (Some g) asked =
+    let two = both_true (is_among (x ∷ []) [] (topic g)) (is_open_end r g) asked in
+    none (Some g) (true_both (is_among xs [] (topic g)) (is_open_end r g) (one_among xs x (topic g) there two.0) two.1)
+
+pub busy_at : (test : Option Guess → Bool) (r : Region) (xs bs : List Itv) (a : Itv) (n : ℕ) (x d : Itv) → xs ≡ a ∷ bs → n < length xs → x ≡ get_or xs n d → (AreUnrefuted test r (x ∷ []) [] → ⊥) → AreUnrefuted test r (a ∷ bs) [] → ⊥
+busy_at test r xs bs a n x d same within is busy none = busy (of_one test r (a ∷ bs) x (subst (λ zs. has zs x ≡ true) same (has_at xs n x d within is)) none)

@@ -1,0 +1,12 @@
+-- Numbers of parts that leave room for one more.
+use Rattle.std.specs.Prelude.{◌<◌, ◌^◌}
+use Rattle.prop_hier.specs.declared.counts.Counts.{Counts}
+
+pub record AreFew (n : Counts) : Type 0 where
+  pub there : n.there < 2 ^ 32
+  pub starts_before : n.starts_before < 2 ^ 32
+  pub ends_after : n.ends_after < 2 ^ 32
+  pub clashes : n.clashes < 2 ^ 32
+  pub may_start : n.may_start < 2 ^ 32
+  pub may_end : n.may_end < 2 ^ 32
+  pub may_match : n.may_match < 2 ^ 32

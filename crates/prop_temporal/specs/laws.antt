@@ -1,0 +1,13 @@
+pub mod Given
+pub mod Named
+pub mod Walked
+pub mod Collecting
+pub mod Quieting
+pub mod Elsewhere
+pub mod Own
+pub mod Touching
+pub mod Ready
+pub mod Owners
+pub mod Arcs
+pub mod Silence
+pub mod Unwatched

@@ -1,0 +1,216 @@
+-- Arcs are collected one name after another, and what they show.
+use Rattle.std.specs.Prelude.{◌≡◌, ◌⊎◌, ℕ, zero, suc, ◌+◌, ◌*◌, ◌<◌, ◌≤◌, ℤ, pos, ◌+ℤ◌, ◌≤ℤ◌, ◌<ℤ◌, Bool, true, false, ◌&&◌, List, [], ◌∷◌, ◌++◌, length, map, get_or, Option, Some, None, nat_lt, nat_le, int_lt}
+use Rattle.std.specs.List.{list_all}
+use Rattle.std.proofs.Common.{inl, inr, refl, sym, ap, subst, ◌∙◌, arith}
+use Rattle.std.proofs.lemmas.Int.{ints}
+use Rattle.std.proofs.lemmas.Bool.Decides.{nat_tests}
+use Rattle.std.proofs.lemmas.List.{get_or_append_left, get_or_push, length_push}
+use Rattle.sched_model.specs.Data.{Data}
+use Rattle.region.specs.Cells.{Region}
+use Rattle.sched_model.specs.Valid.{IsValid}
+use Rattle.sched_model.specs.laws.Limits.{limits_of}
+use Rattle.region.specs.Looks.{Seen, IsRegionOf}
+use Rattle.findings.specs.laws.Alike.{as_many_bounds}
+use Rattle.region.specs.laws.Lists.{both_true, true_both}
+use Rattle.refute_basic.specs.declared.edge.Arc.{Arc as Edge}
+use Rattle.cycles.specs.Walks.{no_arc, picked, are_places, total, IsGain, HasHeights}
+use Rattle.cycles.specs.Search.{IsOn}
+use Rattle.refute_basic.specs.declared.arc_name.ArcName.{ArcName}
+use Rattle.refute_basic.specs.declared.witness.BasicWitness.TheVariants.{Cycle}
+use Rattle.refute_basic.specs.Witness.{is_name, is_number, is_valid}
+use Rattle.refute_basic.specs.Basic.{refutes}
+use Rattle.refute_basic.specs.Cycle.{edge_of}
+use Rattle.refute_basic.specs.Cycle.{closes, cycle_row}
+use Rattle.refute_basic.specs.laws.Walks.{AllLose, none_closes}
+use Rattle.prop_temporal.specs.Heights.{AllKeep}
+use Rattle.prop_temporal.specs.laws.Walked.{AreOf, AreOf.none, AreOf.one, closes_led}
+use Rattle.prop_temporal.specs.Shown.{Shown, name, no_name, name_at, IsAmong, AreShown, HasTried, Tries, TriesAll, IsOfConstraint, IsOfInterval}
+use Rattle.prop_temporal.specs.laws.Named.{named, tried_all, same_name}
+
+below_or_last : (j k : ℕ) → j < k + 1 → (j < k) ⊎ (j ≡ k)
+below_or_last j k h = grind arith
+
+abbrev pub empty : Shown
+empty = record { names = []; arcs = [] }
+
+pub none_shown : (m : Data) (r : Region) → AreShown m r empty
+none_shown m r = record {
+  size = refl;
+  are = λ k less. absurd (omega (arith, less));
+  valid = λ k less. absurd (omega (arith, less));
+  on = λ k less. absurd (omega (arith, less));
+}
+
+pub none_tried : (m : Data) (r : Region) → HasTried m r 0 0 empty
+none_tried m r i e tried is = elim tried [ inl h ↦ absurd (omega (arith, h.1)) | inr h ↦ absurd (omega (arith, h.1)) ]
+
+clash : (o : Option Edge) (e : Edge) → o ≡ None → o ≡ Some e → ⊥
+clash o e h k = cc
+
+inner : (e d : Edge) → Some e ≡ Some d → e ≡ d
+inner e d h = cc
+
+pub not_shown : (m : Data) (r : Region) (i : ArcName) (s : Shown) → None ≡ edge_of m r i → Tries m r i s s
+not_shown m r i s not = record {
+  shown = λ are. are;
+  grows = λ e is. is;
+  has = λ e is. absurd (clash (edge_of m r i) e (sym not) is);
+}
+
+among_more : (arcs : List Edge) (e d : Edge) → IsAmong arcs d → IsAmong (arcs ++ e ∷ []) d
+among_more arcs e d is = record { at = is.at; within = omega (arith, is.within, length_push arcs e); is = get_or_append_left arcs (e ∷ []) no_arc is.at is.within ∙ is.is }
+
+among_last : (arcs : List Edge) (e : Edge) → IsAmong (arcs ++ e ∷ []) e
+among_last arcs e = record { at = length arcs; within = omega (arith, length_push arcs e); is = get_or_push arcs e no_arc (length arcs) refl }
+
+pub one_shown : (m : Data) (r : Region) (i : ArcName) (s : Shown) (e : Edge) → Some e ≡ edge_of m r i → is_name i ≡ true → IsOn (2 * length r.bounds) e → Tries m r i s (record { names = s.names ++ i ∷ []; arcs = s.arcs ++ e ∷ [] })
+one_shown m r i s e is valid on = record {
+  shown = λ are. record {
+    size = omega (arith, are.size, length_push s.arcs e, length_push s.names i);
+    are = λ k less. elim (below_or_last k (length s.arcs) (omega (arith, less, length_push s.arcs e))) [
+      | inl h ↦ ap (edge_of m r) (get_or_append_left s.names (i ∷ []) no_name k (omega (arith, h, are.size))) ∙ are.are k h ∙ ap (λ (d : Edge). Some d) (sym (get_or_append_left s.arcs (e ∷ []) no_arc k h))
+      | inr same ↦ ap (edge_of m r) (get_or_push s.names i no_name k (are.size ∙ sym same)) ∙ sym is ∙ ap (λ (d : Edge). Some d) (sym (get_or_push s.arcs e no_arc k (sym same)))
+    ];
+    valid = λ k less. elim (below_or_last k (length s.arcs) (omega (arith, less, length_push s.arcs e))) [
+      | inl h ↦ ap is_name (get_or_append_left s.names (i ∷ []) no_name k (omega (arith, h, are.size))) ∙ are.valid k h
+      | inr same ↦ ap is_name (get_or_push s.names i no_name k (are.size ∙ sym same)) ∙ valid
+    ];
+    on = λ k less. elim (below_or_last k (length s.arcs) (omega (arith, less, length_push s.arcs e))) [
+      | inl h ↦ subst (IsOn (2 * length r.bounds)) (sym (get_or_append_left s.arcs (e ∷ []) no_arc k h)) (are.on k h)
+      | inr same ↦ subst (IsOn (2 * length r.bounds)) (sym (get_or_push s.arcs e no_arc k (sym same))) on
+    ];
+  };
+  grows = λ d is_d. among_more s.arcs e d is_d;
+  has = λ d is_d. subst (IsAmong (s.arcs ++ e ∷ [])) (inner e d (is ∙ is_d)) (among_last s.arcs e);
+}
+
+-- no walk refutes where its row fails
+pub row_fails : (m : Data) (l : Seen) (is : List ArcName) → cycle_row m l is ≡ false → refutes m l (Cycle is) ≡ false
+row_fails m l is h = by_case (is_valid (Cycle is)) h
+  where
+    by_case : (b : Bool) → cycle_row m l is ≡ false → (b && cycle_row m l is) ≡ false
+    by_case true h = h
+    by_case false h = refl
+
+-- where heights serve the arcs that are shown, no walk refutes
+pub all_lose : (m : Data) (r : Region) (h : ℕ → ℤ) (s : Shown) → HasTried m r (length m.constraints) (length r.bounds) s → AllKeep h s.arcs → AllLose m r h
+all_lose m r h s tried keep i e shown =
+    let among = tried i e (tried_all m r i e shown) shown in
+    subst (λ (d : Edge). (d.weight +ℤ h d.head) ≤ℤ h d.tail) among.is (keep among.at among.within)
+
+pub lose_refute_none : (m : Data) (l : Seen) (h : ℕ → ℤ) → AllLose m l.region h → (is : List ArcName) → refutes m l (Cycle is) ≡ false
+lose_refute_none m l h lose is = row_fails m l is (by_case (cycle_row m l is) refl)
+  where
+    by_case : (b : Bool) → cycle_row m l is ≡ b → cycle_row m l is ≡ false
+    by_case false h = h
+    by_case true h = absurd (none_closes m l.region _ is lose (both_true (nat_le (length is) 4000) (closes m l.region is) h).1)
+
+pub heights_refute_none : (m : Data) (l : Seen) (s : Shown) → HasTried m l.region (length m.constraints) (length l.region.bounds) s → HasHeights s.arcs → (is : List ArcName) → refutes m l (Cycle is) ≡ false
+heights_refute_none m l s tried has = lose_refute_none m l has.height (all_lose m l.region has.height s tried has.keeps)
+
+-- a gain along them refutes, by their names
+are_of : (m : Data) (r : Region) (s : Shown) (ks : List ℕ) → AreShown m r s → are_places s.arcs ks ≡ true → AreOf m r (map (name_at s.names) ks) (picked s.arcs ks)
+are_of m r s [] are places = none
+are_of m r s (k ∷ ks) are places =
+    let two = both_true (nat_lt k (length s.arcs)) (are_places s.arcs ks) places in
+    one (are.are k (below k (length s.arcs) two.0)) (are_of m r s ks are two.1)
+  where
+    below : (k n : ℕ) → nat_lt k n ≡ true → k < n
+    below k n h = grind (arith, nat_tests)
+
+pub gain_closes : (m : Data) (l : Seen) (n : ℕ) (s : Shown) (ks : List ℕ) → AreShown m l.region s → n ≤ 4000 → IsGain s.arcs n ks → cycle_row m l (map (name_at s.names) ks) ≡ true
+gain_closes m l n s ks are most gain =
+    true_both _ _ (short (map (name_at s.names) ks) (omega (arith, gain.few, most, as_many ks)))
+    (closes_led m l.region (map (name_at s.names) ks) (picked s.arcs ks) (are_of m l.region s ks are gain.places) gain.closed (lt (total (picked s.arcs ks)) gain.positive))
+  where
+    as_many : (ks : List ℕ) → length (map (name_at s.names) ks) ≡ length ks
+    as_many [] = refl
+    as_many (k ∷ ks) = ap suc (as_many ks)
+
+    short : (is : List ArcName) → length is ≤ 4000 → nat_le (length is) 4000 ≡ true
+    short is h = grind (arith, nat_tests)
+
+    lt : (t : ℤ) → pos 0 <ℤ t → int_lt (pos 0) t ≡ true
+    lt t h = grind (arith, ints)
+
+-- and a log may hold these names
+names_valid : (s : Shown) (ks : List ℕ) → ((k : ℕ) → k < length s.arcs → is_name (name_at s.names k) ≡ true) → are_places s.arcs ks ≡ true → list_all is_name (map (name_at s.names) ks) ≡ true
+names_valid s [] valid places = refl
+names_valid s (k ∷ ks) valid places =
+    let two = both_true (nat_lt k (length s.arcs)) (are_places s.arcs ks) places in
+    true_both (is_name (name_at s.names k)) _ (valid k (below k (length s.arcs) two.0)) (names_valid s ks valid two.1)
+  where
+    below : (k n : ℕ) → nat_lt k n ≡ true → k < n
+    below k n h = grind (arith, nat_tests)
+
+few_numbers : (is : List ArcName) → nat_le (length is) 4000 ≡ true → is_number (2 + 4 * length is) ≡ true
+few_numbers is h = grind (arith, nat_tests)
+
+pub gain_refutes : (m : Data) (l : Seen) (n : ℕ) (s : Shown) (ks : List ℕ) → AreShown m l.region s → n ≤ 4000 → IsGain s.arcs n ks → refutes m l (Cycle (map (name_at s.names) ks)) ≡ true
+gain_refutes m l n s ks are most gain =
+    let row = gain_closes m l n s ks are most gain in
+    true_both _ _ (true_both _ _ (few_numbers (map (name_at s.names) ks) (both_true _ _ row).0) (names_valid s ks are.valid gain.places)) row
+
+pub fewer_tried : (m : Data) (r : Region) (u x n : ℕ) (s : Shown) → n ≤ x → HasTried m r u x s → HasTried m r u n s
+fewer_tried m r u x n s less before i e tried is = elim tried [
+  | inl h ↦ before i e (inl h) is
+  | inr h ↦ before i e (inr (h.0, omega (arith, less, h.1))) is
+]
+
+pub place_below : (arcs : List Edge) (ks : List ℕ) (k : ℕ) → are_places arcs ks ≡ true → k < length ks → get_or ks k 0 < length arcs
+place_below arcs [] k places less = absurd (omega (arith, less))
+place_below arcs (j ∷ ks) zero places less = at j (length arcs) (both_true (nat_lt j (length arcs)) (are_places arcs ks) places).0
+  where
+    at : (j n : ℕ) → nat_lt j n ≡ true → j < n
+    at j n h = grind (arith, nat_tests)
+place_below arcs (j ∷ ks) (suc k) places less = place_below arcs ks k (both_true (nat_lt j (length arcs)) (are_places arcs ks) places).1 (omega (arith, less))
+
+-- the two names of a constraint, and those of an interval
+pub of_constraint : (m : Data) (r : Region) (u : ℕ) (s t w : Shown) → Tries m r (name 0 u 0) s t → Tries m r (name 0 u 1) t w → TriesAll m r (IsOfConstraint u) s w
+of_constraint m r u s t w first second = record {
+  shown = λ are. second.shown (first.shown are);
+  grows = λ e is. second.grows e (first.grows e is);
+  has = λ j e of h. elim ((named m r j e h).of) [
+    | inl n ↦ elim n.2 [
+      | inl y ↦ second.grows e (first.has e (ap (edge_of m r) (sym (same_name j 0 u 0 of.0 of.1 y (named m r j e h).last)) ∙ h))
+      | inr y ↦ second.has e (ap (edge_of m r) (sym (same_name j 0 u 1 of.0 of.1 y (named m r j e h).last)) ∙ h)
+    ]
+    | inr n ↦ elim n.2 [ inl k ↦ absurd (omega (arith, k, of.0)) | inr k ↦ absurd (omega (arith, k, of.0)) ]
+  ];
+}
+
+pub of_interval : (m : Data) (r : Region) (x : ℕ) (s t w : Shown) → Tries m r (name 1 x 0) s t → Tries m r (name 2 x 0) t w → TriesAll m r (IsOfInterval x) s w
+of_interval m r x s t w first second = record {
+  shown = λ are. second.shown (first.shown are);
+  grows = λ e is. second.grows e (first.grows e is);
+  has = λ j e of h. elim ((named m r j e h).of) [
+    | inl n ↦ absurd (of.0 n.0)
+    | inr n ↦ elim n.2 [
+      | inl k ↦ second.grows e (first.has e (ap (edge_of m r) (sym (same_name j 1 x 0 k of.1 n.1 (named m r j e h).last)) ∙ h))
+      | inr k ↦ second.has e (ap (edge_of m r) (sym (same_name j 2 x 0 k of.1 n.1 (named m r j e h).last)) ∙ h)
+    ]
+  ];
+}
+
+-- those of the next one
+pub next_constraint : (m : Data) (r : Region) (u : ℕ) (s w : Shown) → TriesAll m r (IsOfConstraint u) s w → HasTried m r u 0 s → HasTried m r (u + 1) 0 w
+next_constraint m r u s w tries before j e tried h = elim tried [
+  | inl g ↦ elim (below_or_last j.x u g.1) [
+    | inl less ↦ tries.grows e (before j e (inl (g.0, less)) h)
+    | inr same ↦ tries.has j e (g.0, same) h
+  ]
+  | inr g ↦ absurd (omega (arith, g.1))
+]
+
+pub next_interval : (m : Data) (r : Region) (u x : ℕ) (s w : Shown) → TriesAll m r (IsOfInterval x) s w → HasTried m r u x s → HasTried m r u (x + 1) w
+next_interval m r u x s w tries before j e tried h = elim tried [
+  | inl g ↦ tries.grows e (before j e (inl g) h)
+  | inr g ↦ elim (below_or_last j.x x g.1) [
+    | inl less ↦ tries.grows e (before j e (inr (g.0, less)) h)
+    | inr same ↦ tries.has j e (g.0, same) h
+  ]
+]
+
+-- there are few intervals, and so few points
+pub few_bounds : (m : Data) (r : Region) → IsValid m → IsRegionOf m r → length r.bounds ≤ 2000
+few_bounds m r valid of = omega (arith, (limits_of m valid.limits).intervals, as_many_bounds m r of)

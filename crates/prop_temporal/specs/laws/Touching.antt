@@ -1,0 +1,113 @@
+-- Constraints are added to those that name an interval, one after another.
+use Rattle.std.specs.Prelude.{◌≡◌, ◌⊎◌, ℕ, zero, suc, ◌+◌, ◌<◌, ◌≤◌, Bool, true, false, List, [], ◌∷◌, ◌++◌, length, get_or, slice_set, slice_get, None, nat_eq, nat_lt}
+use Rattle.std.specs.List.{list_any}
+use Rattle.std.proofs.Common.{inl, inr, refl, sym, ap, subst, ◌∙◌, arith, take}
+use Rattle.std.proofs.lemmas.Bool.{true≢false}
+use Rattle.std.proofs.lemmas.Bool.Decides.{nat_tests}
+use Rattle.std.proofs.lemmas.List.{get_or-set_same, get_or-set_other, length-set}
+use Rattle.sched_base.specs.declared.ids.Itv.{Itv}
+use Rattle.sched_model.specs.Data.{Data, has, same}
+use Rattle.region.specs.laws.OneSequence.{same_is, has_cases, has_first, has_later}
+use Rattle.findings.specs.laws.Members.{any_more}
+use Rattle.refute_basic.specs.laws.Arc.{ends_of}
+use Rattle.prop_temporal.specs.Heights.{is_touched, AreTouched}
+use Rattle.prop_temporal.specs.Touches.{Touches, AreTouchedBy}
+
+any_before : (c : ℕ) (xs : List ℕ) (d : ℕ) → list_any (λ k. nat_eq c k) xs ≡ true → list_any (λ k. nat_eq c k) (xs ++ d ∷ []) ≡ true
+any_before c [] d h = absurd (true≢false (sym h))
+any_before c (x ∷ xs) d h = elim (has_cases (nat_eq c x) (list_any (λ k. nat_eq c k) xs) h) [ inl e ↦ has_first _ _ e | inr e ↦ has_later _ _ (any_before c xs d e) ]
+
+any_last : (xs : List ℕ) (c : ℕ) → list_any (λ k. nat_eq c k) (xs ++ c ∷ []) ≡ true
+any_last [] c = has_first _ _ (itself c)
+  where
+    itself : (n : ℕ) → nat_eq n n ≡ true
+    itself n = grind (arith, nat_tests)
+any_last (x ∷ xs) c = has_later _ _ (any_last xs c)
+
+same_or_not : (i j : ℕ) → (i ≡ j) ⊎ (i ≡ j → ⊥)
+same_or_not i j = by_case (nat_eq i j) refl
+  where
+    by_case : (b : Bool) → nat_eq i j ≡ b → (i ≡ j) ⊎ (i ≡ j → ⊥)
+    by_case true is = inl (grind (arith, nat_tests))
+    by_case false is = inr (λ e. grind (arith, nat_tests))
+
+abbrev pub with_one : List (List ℕ) → ℕ → ℕ → List (List ℕ)
+with_one ts x c = slice_set ts x (get_or ts x [] ++ c ∷ [])
+
+one_grows : (ts : List (List ℕ)) (x c : ℕ) → x < length ts → (y d : ℕ) → is_touched ts y d ≡ true → is_touched (with_one ts x c) y d ≡ true
+one_grows ts x c within y d h = elim (same_or_not y x) [
+  | inl e ↦ subst (λ (cs : List ℕ). list_any (λ k. nat_eq d k) cs ≡ true) (sym (ap (λ n. get_or (with_one ts x c) n []) e ∙ get_or-set_same ts x _ [] within))
+      (any_before d (get_or ts x []) c (subst (λ (n : ℕ). is_touched ts n d ≡ true) e h))
+  | inr other ↦ subst (λ (cs : List ℕ). list_any (λ k. nat_eq d k) cs ≡ true) (sym (get_or-set_other ts x y _ [] other)) h
+]
+
+one_has : (ts : List (List ℕ)) (x c : ℕ) → x < length ts → is_touched (with_one ts x c) x c ≡ true
+one_has ts x c within = subst (λ (cs : List ℕ). list_any (λ k. nat_eq c k) cs ≡ true) (sym (get_or-set_same ts x _ [] within)) (any_last (get_or ts x []) c)
+
+pub touches_none : (ts : List (List ℕ)) (c : ℕ) → Touches ts ts [] c
+touches_none ts c = record { size = refl; grows = λ x d h. h; has = λ x within h. absurd (true≢false (sym h)) }
+
+one_more : (k : ℕ) → k + 1 ≡ suc k
+one_more k = omega arith
+
+-- one more of its intervals
+pub touches_more : (old ts : List (List ℕ)) (ends : List Itv) (k : ℕ) (x : Itv) (c : ℕ) → k < length ends → x ≡ get_or ends k x → x.0 < length ts → Touches old ts (take k ends) c → Touches old (with_one ts x.0 c) (take (k + 1) ends) c
+touches_more old ts ends k x c within at inside t = record {
+  size = length-set ts x.0 _ ∙ t.size;
+  grows = λ y d h. one_grows ts x.0 c inside y d (t.grows y d h);
+  has = λ y below h. elim (any_more (same y) ends k x within at (subst (λ n. has (take n ends) y ≡ true) (one_more k) h)) [
+    | inl here ↦ subst (λ (z : Itv). is_touched (with_one ts x.0 c) z.0 c ≡ true) (sym (same_is y x here)) (one_has ts x.0 c inside)
+    | inr earlier ↦ one_grows ts x.0 c inside y.0 c (t.has y below earlier)
+  ];
+}
+
+pub touches_past : (old ts : List (List ℕ)) (ends : List Itv) (k : ℕ) (x : Itv) (c : ℕ) → k < length ends → x ≡ get_or ends k x → length ts ≤ x.0 → Touches old ts (take k ends) c → Touches old ts (take (k + 1) ends) c
+touches_past old ts ends k x c within at outside t = record {
+  size = t.size;
+  grows = t.grows;
+  has = λ y below h. elim (any_more (same y) ends k x within at (subst (λ n. has (take n ends) y ≡ true) (one_more k) h)) [
+    | inl here ↦ absurd (omega (arith, below, outside, t.size, ap (λ z. z.0) (same_is y x here)))
+    | inr earlier ↦ t.has y below earlier
+  ];
+}
+
+pub touched_none : (m : Data) (ts : List (List ℕ)) → length ts ≡ length m.intervals → AreTouchedBy m 0 ts
+touched_none m ts size = record { size = size; each = λ x c below. absurd (omega (arith, below)) }
+
+below_or_last : (j k : ℕ) → j < k + 1 → (j < k) ⊎ (j ≡ k)
+below_or_last j k h = grind arith
+
+pub touched_more : (m : Data) (n : ℕ) (old new : List (List ℕ)) (ends : List Itv) → ends ≡ ends_of (slice_get m.constraints n) → Touches old new ends n → AreTouchedBy m n old → AreTouchedBy m (n + 1) new
+touched_more m n old new ends is t before = record {
+  size = t.size ∙ before.size;
+  each = λ x c below within h. elim (below_or_last c n below) [
+    | inl less ↦ t.grows x.0 c (before.each x c less within h)
+    | inr last ↦ subst (λ (k : ℕ). is_touched new x.0 k ≡ true) (sym last)
+        (t.has x (omega (arith, within, before.size)) (subst (λ (xs : List Itv). has xs x ≡ true) (ap (λ k. ends_of (slice_get m.constraints k)) last ∙ sym is) h))
+  ];
+}
+
+-- beyond the last constraint none names anything
+none_names : (m : Data) (c : ℕ) (x : Itv) → length m.constraints ≤ c → has (ends_of (slice_get m.constraints c)) x ≡ true → ⊥
+none_names m c x past h = true≢false (sym h ∙ ap (λ o. has (ends_of o) x) (nothing m.constraints c past))
+  where
+    nothing : {X : Type 0} (xs : List X) (i : ℕ) → length xs ≤ i → slice_get xs i ≡ None
+    nothing [] i h = refl
+    nothing (x ∷ xs) zero h = absurd (omega (arith, h))
+    nothing (x ∷ xs) (suc i) h = nothing xs i (omega (arith, h))
+
+pub touched_all : (m : Data) (n : ℕ) (ts : List (List ℕ)) → length m.constraints ≤ n → AreTouchedBy m n ts → AreTouched m ts
+touched_all m n ts past before = record {
+  size = before.size;
+  each = λ x c within h. by_case x c (nat_lt c n) refl within h;
+}
+  where
+    less : (c : ℕ) → nat_lt c n ≡ true → c < n
+    less c h = grind (arith, nat_tests)
+
+    more : (c : ℕ) → nat_lt c n ≡ false → n ≤ c
+    more c h = grind (arith, nat_tests)
+
+    by_case : (x : Itv) (c : ℕ) (b : Bool) → nat_lt c n ≡ b → x.0 < length m.intervals → has (ends_of (slice_get m.constraints c)) x ≡ true → is_touched ts x.0 c ≡ true
+    by_case x c true is within h = before.each x c (less c is) within h
+    by_case x c false is within h = absurd (none_names m c x (let over = more c is in omega (arith, over, past)) h)

@@ -1,0 +1,12 @@
+//! Propagators of precedences: ARC of each constraint, and CYCLE.
+#![tactic(auto)]
+
+mod ends;
+mod heights;
+mod shown;
+mod silence;
+mod table;
+mod touching;
+mod walks;
+
+pub use table::PropTemporal;

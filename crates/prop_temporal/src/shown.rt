@@ -1,0 +1,130 @@
+//! The arcs that a look shows, with their names.
+ghost use Rattle.std.specs.Prelude.{◌≡◌, ◌≤ℤ◌, ◌^◌, pos, neg_ℤ, true, length, OnOk};
+ghost use Rattle.region.specs.Looks.{IsRegionOf};
+ghost use Rattle.refute_basic.specs.Witness.{is_name};
+ghost use Rattle.prop_temporal.specs.Shown.{AreShown, HasTried, Tries, TriesAll, IsOfConstraint, IsOfInterval, name};
+ghost use Rattle.prop_temporal.specs.laws.Own.{HasOwn};
+
+use refute_basic::{Arc, ArcName, edge_of};
+use region::Look;
+use sched_base::NoMemory;
+use sched_model::Model;
+use std::alloc::Global;
+
+/// Arcs and their names, both in the same order.
+#[derive(Debug, Drop)]
+pub struct Shown {
+    names: Vec<ArcName>,
+    arcs: Vec<Arc>,
+}
+
+impl std::marker::Model for Shown {
+    ghost use Rattle.prop_temporal.specs.Shown.{Shown};
+
+    ghost Value = { Shown };
+
+    ghost view = { λ s. record { names = s.names.items; arcs = s.arcs.items } };
+}
+
+/// The arc itself, whose weight is a number of 64 bits.
+fn weighed(e: Arc) -> Arc
+    ensures same { result ≡ e }
+    ensures lower { neg_ℤ (pos (2 ^ 63)) ≤ℤ e.weight }
+    ensures upper { e.weight ≤ℤ pos (2 ^ 63) }
+{
+    e
+}
+
+fn named(kind: u32, x: u32, y: u32) -> ArcName
+    ensures value { result ≡ name kind x y }
+    ensures valid { is_name result ≡ true }
+{
+    ArcName { kind, x, y, z: 0 }
+}
+
+impl Shown {
+    pub fn new(alloc: Global) -> Shown {
+        Shown {
+            names: Vec::new(alloc),
+            arcs: Vec::new(alloc),
+        }
+    }
+
+    pub fn arcs(&self) -> &[Arc]
+        ensures { result.now ≡ self.now.arcs }
+    {
+        &self.arcs
+    }
+
+    pub fn names(&self) -> &[ArcName]
+        ensures { result.now ≡ self.now.names }
+    {
+        &self.names
+    }
+
+    /// Takes an arc, if the look shows it.
+    fn try_name(&mut self, model: &Model, look: &Look<'_>, i: ArcName) -> Result<(), NoMemory>
+        requires { is_name i ≡ true }
+        ensures { OnOk result (Tries model.now look.now.region i self.old self.new) }
+    {
+        let Some(e) = edge_of(model, look, i) else {
+            return Ok(());
+        };
+        self.names.push(i)?;
+        self.arcs.push(weighed(e))?;
+        Ok(())
+    }
+
+    fn try_constraint(&mut self, model: &Model, look: &Look<'_>, u: u32) -> Result<(), NoMemory>
+        ensures { OnOk result (TriesAll model.now look.now.region (IsOfConstraint u) self.old self.new) }
+    {
+        self.try_name(model, look, named(0, u, 0))?;
+        self.try_name(model, look, named(0, u, 1))?;
+        Ok(())
+    }
+
+    fn try_interval(&mut self, model: &Model, look: &Look<'_>, x: u32) -> Result<(), NoMemory>
+        ensures { OnOk result (TriesAll model.now look.now.region (IsOfInterval x) self.old self.new) }
+    {
+        self.try_name(model, look, named(1, x, 0))?;
+        self.try_name(model, look, named(2, x, 0))?;
+        Ok(())
+    }
+
+    /// Takes all arcs that the look shows in place of those that it had.
+    pub fn fill(&mut self, model: &Model, look: &Look<'_>) -> Result<(), NoMemory>
+        requires { IsRegionOf model.now look.now.region }
+        ensures shown { OnOk result (AreShown model.now look.now.region self.new) }
+        ensures tried { OnOk result (HasTried model.now look.now.region (length model.now.constraints) (length look.now.region.bounds) self.new) }
+    {
+        self.names.clear();
+        self.arcs.clear();
+        for u in 0..model.constraints().len() as u32 {
+            self.try_constraint(model, look, u)?;
+        }
+        for x in 0..look.len() as u32 {
+            self.try_interval(model, look, x)?;
+        }
+        Ok(())
+    }
+
+    /// Takes the arcs of one interval that the look shows in place of those that it had: those of
+    /// these constraints, and of its sizes.
+    pub fn fill_of(
+        &mut self,
+        model: &Model,
+        look: &Look<'_>,
+        x: u32,
+        constraints: &[u32],
+    ) -> Result<(), NoMemory>
+        ensures { OnOk result (HasOwn model.now look.now.region x constraints.now self.new) }
+    {
+        self.names.clear();
+        self.arcs.clear();
+        for c in constraints {
+            self.try_constraint(model, look, *c)?;
+        }
+        self.try_interval(model, look, x)?;
+        Ok(())
+    }
+}

@@ -1,0 +1,194 @@
+//! The propagators of a model.
+ghost use Rattle.std.specs.Prelude.{◌≡◌, ◌<◌, ◌^◌, ◌∷◌, [], ℕ, length, map, Some, IsTrue, IfOk, IfNone, IfSome};
+ghost use Rattle.sched_model.specs.Data.{Data, has};
+ghost use Rattle.region.specs.declared.types.CellName.{CellName as CellNames};
+ghost use Rattle.region.specs.Looks.{IsRegionOf};
+ghost use Rattle.findings.specs.Found.{IsFinding};
+ghost use Rattle.refute_basic.specs.Basic.{refutes};
+ghost use Rattle.refute_basic.specs.laws.Arc.{ends_of};
+ghost use Rattle.prop_temporal.specs.Tasks.{size_of, quiet, watching, watching_best, is_cell_of, is_presence};
+ghost use Rattle.prop_temporal.specs.Tables.{FitEach, AreOptional, IsFor};
+
+use crate::ends::ask_constraint;
+use crate::touching::touching_of;
+use crate::walks::Walks;
+use findings::Finding;
+use refute_basic::BasicWitness;
+use region::{CellName, Region};
+use sched_base::{Itv, List, NoMemory};
+use sched_model::{Constraint, IntervalDef, Model};
+use std::alloc::Global;
+
+/// One propagator for all walks (number 0), and one for each constraint after it, which is quiet
+/// where the constraint is no precedence.
+#[derive(Drop)]
+pub struct PropTemporal {
+    optionals: Vec<Itv>,
+    ends: Vec<List<Itv>>,
+    touching: Vec<List<u32>>,
+    walks: Walks,
+}
+
+impl std::marker::Model for PropTemporal {
+    ghost use Rattle.std.specs.Prelude.{◌<◌, ◌^◌, length};
+    ghost use Rattle.prop_temporal.specs.Tables.{Table};
+
+    ghost Value = { Table };
+
+    ghost view = { λ p. record { optionals = p.optionals.items; ends = p.ends.items; touching = p.touching.items } };
+
+    ghost invariant = { λ p. length p.ends.items < 2 ^ 31 };
+}
+
+/// The optional intervals.
+#[tactic(auto, using(crate::proofs::Making::optional_none, crate::proofs::Making::optional_more, crate::proofs::Making::optional_same, crate::proofs::Making::optional_all))]
+fn optional_intervals(alloc: Global, intervals: &[IntervalDef]) -> Result<Vec<Itv>, NoMemory>
+    requires { length intervals.now < 2 ^ 32 }
+    ensures { IfOk result (λ v. AreOptional intervals.now (length intervals.now) v.items) }
+{
+    let mut list = Vec::new(alloc);
+    for x in 0..intervals.len() as u32 {
+        if intervals[x as usize].optional {
+            list.push(Itv(x))?;
+        }
+    }
+    Ok(list)
+}
+
+/// The two intervals of a precedence.
+fn ends_of(alloc: Global, constraint: &Constraint) -> Result<List<Itv>, NoMemory>
+    ensures { IfOk result (λ xs. xs ≡ ends_of (Some constraint.now)) }
+{
+    let mut ends = List::new(alloc);
+    if let Constraint::Temporal { a, b, .. } = constraint {
+        ends.push(*a)?;
+        ends.push(*b)?;
+    }
+    Ok(ends)
+}
+
+#[tactic(auto, using(crate::proofs::Making::fit_none, crate::proofs::Making::fit_more, crate::proofs::Making::fit_all))]
+fn ends_of_all(alloc: Global, constraints: &[Constraint]) -> Result<Vec<List<Itv>>, NoMemory>
+    ensures { IfOk result (λ v. FitEach constraints.now v.items) }
+{
+    let mut ends = Vec::new(alloc);
+    for constraint in constraints {
+        ends.push(ends_of(alloc, constraint)?)?;
+    }
+    Ok(ends)
+}
+
+/// Whether the cell is one of these intervals.
+fn is_cell_of(intervals: &[Itv], cell: CellName) -> bool
+    ensures { result ≡ is_cell_of intervals.now cell }
+{
+    match cell {
+        CellName::Presence(x) => has(intervals, x),
+        CellName::StartMin(x) => has(intervals, x),
+        CellName::StartMax(x) => has(intervals, x),
+        CellName::EndMin(x) => has(intervals, x),
+        CellName::EndMax(x) => has(intervals, x),
+        CellName::Order(..) => false,
+    }
+}
+
+/// Whether the cell is the presence of one of these intervals.
+fn is_presence(cell: CellName, optionals: &[Itv]) -> bool
+    ensures { (m : Data) → AreOptional m.intervals (length m.intervals) optionals.now → result ≡ is_presence m cell }
+{
+    match cell {
+        CellName::Presence(x) => has(optionals, x),
+        _ => false,
+    }
+}
+
+fn has(intervals: &[Itv], x: Itv) -> bool
+    ensures { result ≡ has intervals.now x }
+{
+    intervals.iter().any(|y| x.0 == y.0)
+}
+
+impl PropTemporal {
+    /// The propagators of a model.
+    pub fn new(alloc: Global, model: &Model) -> Result<PropTemporal, NoMemory>
+        ensures { IfOk result (λ p. IsFor p model.now) }
+    {
+        let optionals = optional_intervals(alloc, model.intervals())?;
+        let ends = ends_of_all(alloc, model.constraints())?;
+        let touching = touching_of(alloc, model, &ends)?;
+        Ok(PropTemporal {
+            optionals,
+            ends,
+            touching,
+            walks: Walks::new(alloc),
+        })
+    }
+
+    /// How many there are.
+    pub fn count(&self) -> u32
+        ensures { (m : Data) → IsFor self.now m → result ≡ size_of m }
+    {
+        1 + self.ends.len() as u32
+    }
+
+    /// What one of them finds; nothing exactly where it is quiet.
+    pub fn next(
+        &mut self,
+        k: u32,
+        model: &Model,
+        region: &Region,
+        best: Option<i64>,
+    ) -> Result<Option<Finding<BasicWitness>>, NoMemory>
+        requires of { IsFor self.old model.now }
+        requires below { k < size_of model.now }
+        requires region { IsRegionOf model.now region.now.region }
+        ensures kept { (m : Data) → IsFor self.old m → IsFor self.new m }
+        ensures none { IfOk result (λ o. IfNone o (quiet model.now k region.now.region best)) }
+        ensures some { IfOk result (λ o. IfSome o (IsFinding refutes model.now region.now.region best)) }
+        ensures busy { IfOk result (λ o. IfSome o (λ f. quiet model.now k region.now.region best → ⊥)) }
+    {
+        if k == 0 {
+            return self.walks.next(model, region, best, &self.touching);
+        }
+        let c = k - 1;
+        let ends = self.ends[c as usize].as_slice();
+        Ok(ask_constraint(model, region, best, c, ends))
+    }
+
+    /// The intervals that have a cell which it watches.
+    pub fn watched(&self, k: u32) -> &[Itv]
+        requires { (m : Data) × IsFor self.now m × (k < size_of m) }
+        ensures { (m : Data) → IsFor self.now m → (cell : CellNames) → IsTrue (watching m k cell) → IsTrue (is_cell_of result.now cell) }
+    {
+        if k == 0 {
+            return &self.optionals;
+        }
+        self.ends[k as usize - 1].as_slice()
+    }
+
+    /// Whether it watches a cell.
+    pub fn watches(&self, k: u32, cell: CellName) -> bool
+        requires { (m : Data) × IsFor self.now m × (k < size_of m) }
+        ensures { (m : Data) → IsFor self.now m → result ≡ watching m k cell }
+    {
+        if k == 0 {
+            return is_presence(cell, &self.optionals);
+        }
+        is_cell_of(self.ends[k as usize - 1].as_slice(), cell)
+    }
+
+    /// Whether it watches the best value.
+    pub fn watches_best(&self, k: u32) -> bool
+        ensures { (m : Data) → result ≡ watching_best m k }
+    {
+        let _ = k;
+        false
+    }
+
+    /// The level on which it is woken. Walks are looked for among the first, since precedences that
+    /// close to a walk too long push each other's bounds for as many lines as there are moments.
+    pub fn level(&self, k: u32) -> u8 {
+        let _ = k;
+        0
+    }
+}

@@ -1,0 +1,68 @@
+use engine::Propagator;
+use findings::Finding;
+use kernel::{NoWitness, Witness};
+use prop_hier::PropHier;
+use region::Region;
+use sched_base::{Itv, NoMemory, Seq};
+use sched_model::Model;
+
+/// The propagators of spans, alternatives and synchronizations, with their witnesses as a log has
+/// them.
+#[derive(Debug, Drop)]
+pub struct FromHier(pub PropHier);
+
+impl Propagator for FromHier {
+    ghost use Rattle.prop_hier.specs.Tables.{IsFor};
+    ghost use Rattle.prop_hier.specs.Tasks.{size_of, quiet, watching, watching_best};
+    ghost use Rattle.prop_hier.specs.laws.Unwatched.{unwatched};
+
+    ghost is_of = { λ p m. IsFor p.0 m };
+
+    ghost size = { size_of };
+
+    ghost quiet = { quiet };
+
+    ghost watching = { watching };
+
+    ghost watching_best = { watching_best };
+
+    fn count(&self) -> u32 {
+        self.0.count()
+    }
+
+    fn next(
+        &mut self,
+        k: u32,
+        model: &Model,
+        region: &Region,
+        best: Option<i64>,
+    ) -> Result<Option<Finding<Witness<NoWitness>>>, NoMemory> {
+        let Some(Finding { guess, witness }) = self.0.next(k, model, region, best) else {
+            return Ok(None);
+        };
+        Ok(Some(Finding {
+            guess,
+            witness: Witness::Hier(witness),
+        }))
+    }
+
+    #[tactic(auto, using(crate::proofs::Watching::named))]
+    fn watched(&self, k: u32) -> &[Itv] {
+        self.0.watched(k)
+    }
+
+    #[tactic(auto, using(crate::proofs::Watching::no_orders))]
+    fn watched_orders(&self, _: u32) -> &[Seq] {
+        &[]
+    }
+
+    fn watches_best(&self, k: u32) -> bool {
+        self.0.watches_best(k)
+    }
+
+    fn level(&self, k: u32) -> u8 {
+        self.0.level(k)
+    }
+
+    ghost unwatched = { unwatched };
+}

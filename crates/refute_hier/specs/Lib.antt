@@ -1,0 +1,9 @@
+pub mod Witness
+pub mod Parts
+pub mod Span
+pub mod Alt
+pub mod Sync
+pub mod Hier
+pub mod Listed
+pub mod Rows
+pub mod laws

@@ -1,0 +1,87 @@
+-- Where a witness of this crate refutes, no better solution is allowed.
+use Rattle.std.specs.Prelude.{◌≡◌, ℕ, Bool, true, IsTrue, slice_get}
+use Rattle.std.proofs.Common.{subst}
+use Rattle.std.proofs.lemmas.Bool.{and_parts}
+use Rattle.std.proofs.lemmas.Option.{slice_get_within, get_or_from_slice_get}
+use Rattle.sched_model.specs.declared.types.Assignment.{Assignment}
+use Rattle.sched_model.specs.declared.types.Constraint.{Constraint}
+use Rattle.sched_model.specs.declared.types.Constraint.TheVariants as constraint
+use Rattle.sched_model.specs.Words.{passes}
+use Rattle.sched_model.specs.Data.{Data}
+use Rattle.sched_model.specs.Valid.{IsValid}
+use Rattle.sched_model.specs.Sentences.{Holds}
+use Rattle.region.specs.Cells.{Region}
+use Rattle.region.specs.Looks.{Seen, IsRegionOf, HasNone}
+use Rattle.refute_hier.specs.declared.witness.HierWitness.{HierWitness}
+use Rattle.refute_hier.specs.declared.witness.HierWitness.TheVariants.{Span, Alt, Sync}
+use Rattle.refute_hier.specs.Witness.{is_valid}
+use Rattle.refute_hier.specs.Span.{span_of}
+use Rattle.refute_hier.specs.Alt.{alt_of}
+use Rattle.refute_hier.specs.Sync.{sync_of}
+use Rattle.refute_hier.specs.Hier.{refutes, row_of}
+use Rattle.refute_hier.specs.laws.Filtered.{never, found_at}
+use Rattle.refute_hier.specs.laws.Present.{IsAllowed}
+use Rattle.refute_hier.specs.laws.Span.{span_never}
+use Rattle.refute_hier.specs.laws.Alt.{alt_never}
+use Rattle.refute_hier.specs.laws.Sync.{sync_never}
+
+-- no allowed assignment keeps the constraint
+abbrev Never : Data → Region → Constraint → Type 0
+Never m r c = (a : Assignment) → IsAllowed m r a → Holds m a c → ⊥
+
+-- the law of a row of one constraint, from that of the constraint itself
+by_constraint : (m : Data) (l : Seen) (c : ℕ) (row : Constraint → Bool) → IsRegionOf m l.region → ((d : Constraint) → row d ≡ true → Never m l.region d) → passes row (slice_get m.constraints c) ≡ true → HasNone m l
+by_constraint m l c row of one h a solution better allows =
+    let f = found_at row m.constraints c h in
+    one f.item f.passes a (record { of = of; domain = solution.domain; allows = allows })
+    (subst (Holds m a) (get_or_from_slice_get m.constraints c f.item f.item f.is) (solution.holds c f.item (slice_get_within m.constraints c f.item f.is)))
+
+span_one : (m : Data) (r : Region) (k i : ℕ) (d : Constraint) → span_of r k i d ≡ true → Never m r d
+span_one m r k i (constraint.Span x parts) h a ok holds = span_never m r a k i x parts ok holds h
+span_one m r k i (constraint.Temporal from to equal x y z) h a ok holds = never h
+span_one m r k i (constraint.Logic e) h a ok holds = never h
+span_one m r k i (constraint.Alternative x parts) h a ok holds = never h
+span_one m r k i (constraint.Synchronize x parts) h a ok holds = never h
+span_one m r k i (constraint.NoOverlap p matrix direct) h a ok holds = never h
+span_one m r k i (constraint.First p x) h a ok holds = never h
+span_one m r k i (constraint.Last p x) h a ok holds = never h
+span_one m r k i (constraint.Before p x y) h a ok holds = never h
+span_one m r k i (constraint.Prev p x y) h a ok holds = never h
+span_one m r k i (constraint.CumulIn f w lo hi) h a ok holds = never h
+span_one m r k i (constraint.AlwaysEqual g x v p q) h a ok holds = never h
+span_one m r k i (constraint.AlwaysNoState g x) h a ok holds = never h
+
+alt_one : (m : Data) (r : Region) (k i j : ℕ) (d : Constraint) → alt_of r k i j d ≡ true → Never m r d
+alt_one m r k i j (constraint.Alternative x parts) h a ok holds = alt_never m r a k i j x parts ok holds h
+alt_one m r k i j (constraint.Span x parts) h a ok holds = never h
+alt_one m r k i j (constraint.Temporal from to equal x y z) h a ok holds = never h
+alt_one m r k i j (constraint.Logic e) h a ok holds = never h
+alt_one m r k i j (constraint.Synchronize x parts) h a ok holds = never h
+alt_one m r k i j (constraint.NoOverlap p matrix direct) h a ok holds = never h
+alt_one m r k i j (constraint.First p x) h a ok holds = never h
+alt_one m r k i j (constraint.Last p x) h a ok holds = never h
+alt_one m r k i j (constraint.Before p x y) h a ok holds = never h
+alt_one m r k i j (constraint.Prev p x y) h a ok holds = never h
+alt_one m r k i j (constraint.CumulIn f w lo hi) h a ok holds = never h
+alt_one m r k i j (constraint.AlwaysEqual g x v p q) h a ok holds = never h
+alt_one m r k i j (constraint.AlwaysNoState g x) h a ok holds = never h
+
+sync_one : (m : Data) (r : Region) (i : ℕ) (d : Constraint) → sync_of r i d ≡ true → Never m r d
+sync_one m r i (constraint.Synchronize x parts) h a ok holds = sync_never m r a i x parts ok holds h
+sync_one m r i (constraint.Span x parts) h a ok holds = never h
+sync_one m r i (constraint.Alternative x parts) h a ok holds = never h
+sync_one m r i (constraint.Temporal from to equal x y z) h a ok holds = never h
+sync_one m r i (constraint.Logic e) h a ok holds = never h
+sync_one m r i (constraint.NoOverlap p matrix direct) h a ok holds = never h
+sync_one m r i (constraint.First p x) h a ok holds = never h
+sync_one m r i (constraint.Last p x) h a ok holds = never h
+sync_one m r i (constraint.Before p x y) h a ok holds = never h
+sync_one m r i (constraint.Prev p x y) h a ok holds = never h
+sync_one m r i (constraint.CumulIn f w lo hi) h a ok holds = never h
+sync_one m r i (constraint.AlwaysEqual g x v p q) h a ok holds = never h
+sync_one m r i (constraint.AlwaysNoState g x) h a ok holds = never h
+
+pub sound_law : (m : Data) (l : Seen) (w : HierWitness) → IsValid m → IsRegionOf m l.region → IsTrue (refutes m l w) → HasNone m l
+sound_law m l (Span c k i) valid of h = by_constraint m l c (span_of l.region k i) of (span_one m l.region k i) (and_parts (is_valid (Span c k i)) (row_of m l (Span c k i)) h).1
+sound_law m l (Alt c k i j) valid of h = by_constraint m l c (alt_of l.region k i j) of (alt_one m l.region k i j) (and_parts (is_valid (Alt c k i j)) (row_of m l (Alt c k i j)) h).1
+sound_law m l (Sync c i) valid of h = by_constraint m l c (sync_of l.region i) of (sync_one m l.region i) (and_parts (is_valid (Sync c i)) (row_of m l (Sync c i)) h).1

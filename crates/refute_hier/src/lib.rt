@@ -1,0 +1,22 @@
+//! The refuters of an interval and its parts: of a span, an alternative and a synchronization.
+#![tactic(auto)]
+
+mod alt;
+mod family;
+mod find;
+mod hier;
+mod parts;
+mod rows;
+mod span;
+mod spelling;
+mod sync;
+mod witness;
+mod witnesses;
+
+pub use family::{Family, Kind, as_family};
+pub use find::find_hier;
+pub use hier::Hier;
+pub use parts::{Role, at_part, known, plays, plays_in, some_part};
+pub use rows::some_refutes;
+pub use witness::HierWitness;
+pub use witnesses::find_witness;
