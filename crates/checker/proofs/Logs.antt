@@ -1,5 +1,5 @@
 -- One text has one log in it.
-use Rattle.std.proofs.Common.{◌≡◌, ℕ, ◌+◌, ◌≤◌, Bool, true, false, List, [], ◌∷◌, ◌++◌, Option, Some, None, Ok, refl, sym, ap, subst, ◌∙◌, arith, append_assoc}
+use Rattle.std.proofs.Common.{◌≡◌, ℕ, ◌+◌, ◌≤◌, List, [], ◌∷◌, ◌++◌, Option, Some, None, Ok, refl, sym, ap, subst, ◌∙◌, arith, append_assoc}
 use Rattle.std.specs.Prelude.{All}
 use Rattle.std.proofs.lemmas.List.{append_cancel_left}
 use Rattle.std.proofs.lemmas.List.Elements.{All-append, All-nil, All-cons, All-head, All-tail}
@@ -7,11 +7,11 @@ use Rattle.sched_model.specs.Data.{Data}
 use Rattle.region.specs.Cells.{Region}
 use Rattle.textline.specs.Lines.{Bytes}
 use Rattle.kernel.specs.declared.types.Line.TheVariants.{Derive, Fail, Split, Sol}
-use Rattle.kernel.specs.declared.types.StepFault.{StepFault}
 use Rattle.kernel.specs.NoExtra.{numbers_of, is_valid, refutes_none}
 use Rattle.kernel.specs.Refuting.{refutes_with}
-use Rattle.kernel.specs.Steps.{LogState, Node, Outcome, Steps, step, step_at, step_on, node_of, taken, unless}
+use Rattle.kernel.specs.Steps.{LogState, Node, Outcome, Steps, step, step_at, step_on, node_of, taken}
 use Rattle.kernel.specs.Steps.Steps.{done, more}
+use Rattle.kernel.specs.laws.Outcomes.{same_ok, unless_ok}
 use Rattle.logtext.specs.declared.entry.Entry.TheVariants.{Step, Finish}
 use Rattle.logtext.specs.Spelling.{head_text, end_text}
 use Rattle.logtext.specs.Reading.{HasNoWholeLine}
@@ -39,9 +39,6 @@ pub record SameLog (ls ks : List PlainLine) (s t : LogState) (x y : Bytes) : Typ
 
 same_step : (l k : PlainLine) → Step l ≡ Step k → l ≡ k
 same_step l k h = cc
-
-same_ok : (s t : LogState) → ◌≡◌ {A = Outcome} (Ok s) (Ok t) → s ≡ t
-same_ok s t h = cc
 
 cons_lines : (l k : PlainLine) (ls ks : List PlainLine) → l ≡ k → ls ≡ ks → l ∷ ls ≡ k ∷ ks
 cons_lines l k ls ks h g = cc
@@ -89,10 +86,6 @@ log_more m ls l s t log line goes = record {
 }
 
 -- a step opens at most one node
-unless_ok : (b : Bool) (f : StepFault) (out : Outcome) (t : LogState) → unless b f out ≡ Ok t → out ≡ Ok t
-unless_ok true f out t h = h
-unless_ok false f out t h = cc
-
 at_nodes : (m : Data) (n : Node) (l : PlainLine) (t : LogState) → step_at (refutes_with refutes_none) m n l ≡ Ok t → t.nodes ≡ n.nodes
 at_nodes m n (Derive g w) t h = sym (ap (λ s. s.nodes) (same_ok _ t (unless_ok _ _ _ t (unless_ok _ _ _ t h))))
 at_nodes m n (Fail w) t h = sym (ap (λ s. s.nodes) (same_ok _ t (unless_ok _ _ _ t h)))

@@ -2,9 +2,10 @@
 use Rattle.std.proofs.Common.{◌≡◌, Bool, true, false, refl, sym, ap, ◌∙◌, List, [], ◌∷◌, Option, Some, None, option_map, codes, eqb-true}
 use Rattle.std.specs.Prelude.{◌||◌, option_and_then, if◌then◌else◌}
 use Rattle.std.specs.Str.{bytes_eq}
-use Rattle.std.proofs.lemmas.Bool.{or_right}
+use Rattle.std.proofs.lemmas.Bool.{or_right, or_left}
 use Rattle.command_line.specs.Commands.{Command, Parts, Word, is_option, limit_of, parts_of, placed, solve_in, solve_of, stripped, with_argument, with_limit}
 use Rattle.command_line.specs.Found.{listed, solve_found}
+use Rattle.base_laws.specs.laws.Truth.{alone}
 
 abbrev pub taken_of : Bool → List Word → Option Parts
 taken_of true [] = None
@@ -58,9 +59,6 @@ by_test : (b : Bool) (x y u v : Option Parts) → Near x y → Near u v → Near
 by_test true x y u v first second = first
 by_test false x y u v first second = second
 
-sooner : (a b : Bool) → a ≡ true → (a || b) ≡ true
-sooner a b e = rw e refl
-
 more_limits : (w : Word) (x y : Option Parts) → Near x y → Near (option_map (with_limit w) x) (option_map (with_limit w) y)
 more_limits w x y (alike o) = alike _
 more_limits w x y (missed p has) = missed (with_limit w p) (or_right (is_option w) (has_option p.limits) has)
@@ -75,7 +73,7 @@ placed_near None w x y near = by_test (is_option w) None None _ _ (alike None) (
 
 refused : (w : Word) (o : Option Parts) → is_option w ≡ true → Near None (option_map (with_limit w) o)
 refused w None is = alike None
-refused w (Some p) is = missed (with_limit w p) (sooner (is_option w) (has_option p.limits) is)
+refused w (Some p) is = missed (with_limit w p) (or_left (is_option w) (has_option p.limits) is)
 
 value_near : (b : Bool) (w : Word) (x y : Option Parts) → is_option w ≡ b → Near x y
     → Near (if b then None else option_map (with_limit w) x) (option_map (with_limit w) y)
@@ -100,10 +98,6 @@ none_solved [] = refl
 none_solved (a ∷ []) = refl
 none_solved (a ∷ b ∷ []) = refl
 none_solved (a ∷ b ∷ c ∷ rest) = refl
-
-alone : (b : Bool) → (b || false) ≡ true → b ≡ true
-alone true e = refl
-alone false e = e
 
 not_solved : (arguments limits : List Word) → has_option limits ≡ true → solve_in arguments (limit_of limits) ≡ None
 not_solved arguments [] has = absurd (cc has)

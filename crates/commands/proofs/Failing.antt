@@ -1,5 +1,5 @@
 -- Testing the constraints of a model one after another.
-use Rattle.std.proofs.Common.{◌≡◌, ◌<◌, ◌≤◌, ◌+◌, ◌↔◌, ◌⊎◌, ℕ, zero, suc, Bool, true, false, List, [], ◌∷◌, length, get_or, Some, IsTrue, slice_get, refl, sym, ap, subst, ◌∙◌, inl, inr, arith}
+use Rattle.std.proofs.Common.{◌≡◌, ◌<◌, ◌≤◌, ◌+◌, ◌↔◌, ℕ, zero, suc, Bool, true, false, List, [], ◌∷◌, length, get_or, Some, IsTrue, slice_get, refl, sym, subst, ◌∙◌, inl, inr, arith}
 use Rattle.sched_model.specs.declared.types.Assignment.{Assignment}
 use Rattle.sched_model.specs.declared.types.Constraint.{Constraint}
 use Rattle.sched_model.specs.Data.{Data}
@@ -7,6 +7,7 @@ use Rattle.sched_model.specs.Domain.{is_in_domain}
 use Rattle.sched_model.specs.Sentences.{Holds}
 use Rattle.sched_model.specs.Solution.{IsSolution}
 use Rattle.commands.specs.Runs.{FailsFirst}
+use Rattle.base_laws.specs.laws.Numbers.{below_or_last}
 
 -- the constraints before this one hold
 abbrev pub HoldBefore : Data → Assignment → ℕ → Type 0
@@ -26,17 +27,8 @@ there [] i d within = absurd (omega (arith, within))
 there (x ∷ xs) zero d within = refl
 there (x ∷ xs) (suc i) d within = there xs i d (omega (arith, within))
 
-earlier : (j i : ℕ) → j < i + 1 → (j < i) ⊎ (j ≡ i)
-earlier zero zero h = inr refl
-earlier zero (suc i) h = inl (omega arith)
-earlier (suc j) zero h = absurd (omega (arith, h))
-earlier (suc j) (suc i) h = elim (earlier j i (omega (arith, h))) [
-  | inl before ↦ inl (omega (arith, before))
-  | inr same ↦ inr (ap suc same)
-]
-
 pub one_more : (m : Data) (a : Assignment) (i : ℕ) (b : Bool) → HoldBefore m a i → TellsWhether m a i b → b ≡ true → HoldBefore m a (i + 1)
-one_more m a i b hold tells is j k within at = elim (earlier j i within) [
+one_more m a i b hold tells is j k within at = elim (below_or_last j i within) [
   | inl before ↦ hold j k before at
   | inr same ↦ (tells k (subst (λ n. slice_get m.constraints n ≡ Some k) same at)).0 is
 ]

@@ -1,5 +1,5 @@
 -- The last solution in a log is what its state has found.
-use Rattle.std.proofs.Common.{◌≡◌, ℕ, ℤ, Bool, true, false, List, [], ◌∷◌, ◌++◌, Option, Some, None, Ok, Err, refl, sym, ap, ◌∙◌}
+use Rattle.std.proofs.Common.{◌≡◌, ℕ, ℤ, true, false, List, [], ◌∷◌, ◌++◌, Option, Some, None, Ok, Err, refl, sym, ap, ◌∙◌}
 use Rattle.std.specs.Prelude.{option_map, option_to_list, if◌then◌else◌}
 use Rattle.std.specs.Option.{option_or}
 use Rattle.sched_model.specs.declared.types.Answer.{Answer}
@@ -12,20 +12,16 @@ use Rattle.kernel.specs.declared.types.Witness.{Witness}
 use Rattle.kernel.specs.declared.types.Line.{Line}
 use Rattle.kernel.specs.declared.types.Line.TheVariants.{Derive, Fail, Split, Sol}
 use Rattle.kernel.specs.declared.types.Found.{Found}
-use Rattle.kernel.specs.declared.types.StepFault.{StepFault}
 use Rattle.kernel.specs.declared.types.Verdict.TheVariants.{Unclosed}
 use Rattle.region.specs.Looks.{Refuting}
-use Rattle.kernel.specs.Steps.{LogState, Node, Outcome, Steps, step, step_at, unless, best_of, best_verdict, closed_verdict}
+use Rattle.kernel.specs.Steps.{LogState, Node, Outcome, Steps, step, step_at, best_of, best_verdict, closed_verdict}
 use Rattle.kernel.specs.Steps.Steps.{done, more}
+use Rattle.kernel.specs.laws.Outcomes.{unless_ok}
 use Rattle.solver.specs.Answers.{verdict_in, is_unfinished}
 use Rattle.commands.specs.LastSchedule.{schedule_in, last_schedule}
 
 abbrev pub found_schedule : Option Found → Option Assignment
 found_schedule found = option_map (λ f. f.assignment) found
-
-unless_ok : (b : Bool) (fault : StepFault) (out : Outcome) (t : LogState) → unless b fault out ≡ Ok t → out ≡ Ok t
-unless_ok true fault out t is = is
-unless_ok false fault out t is = absurd cc
 
 abbrev pub found_in : Outcome → Option Found → Option Found
 found_in (Ok s) other = s.found

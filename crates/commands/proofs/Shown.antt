@@ -1,6 +1,5 @@
 -- The text of an answer that is right and shows a schedule.
-use Rattle.std.proofs.Common.{◌≡◌, ℤ, true, ◌&&◌, Option, Some, None, option_map, is_some, refl, sym, subst, arith}
-use Rattle.std.proofs.lemmas.Bool.{and_parts}
+use Rattle.std.proofs.Common.{◌≡◌, ℤ, true, Option, Some, None, option_map, is_some, refl, sym, subst, arith}
 use Rattle.sched_model.specs.declared.types.Answer.{Answer}
 use Rattle.sched_model.specs.declared.types.Answer.TheVariants.{Optimal, Feasible, Infeasible, Unfinished}
 use Rattle.sched_model.specs.declared.types.Assignment.{Assignment}
@@ -8,25 +7,22 @@ use Rattle.sched_model.specs.declared.types.Expr.{Expr}
 use Rattle.sched_model.specs.declared.types.Objective.{Objective}
 use Rattle.sched_model.specs.Bounds.{is_small}
 use Rattle.sched_model.specs.Data.{Data}
-use Rattle.sched_model.specs.Domain.{fits_def, lists_present, are_segments, is_in_domain}
+use Rattle.sched_model.specs.Domain.{is_in_domain}
 use Rattle.sched_model.specs.Hull.{hull_of}
 use Rattle.sched_model.specs.Ranges.{Ends}
 use Rattle.sched_model.specs.Solution.{IsSolution, objective_of}
 use Rattle.sched_model.specs.Valid.{IsValid}
 use Rattle.sched_model.specs.Value.{value_of}
-use Rattle.sched_model.specs.Words.{placewise}
 use Rattle.sched_model.specs.laws.Held.{held_small, value_held}
 use Rattle.sched_model.specs.laws.Listed.{hull_of_objective}
 use Rattle.read_schedule.specs.Promises.{AnswersAreSchedules, Shows}
 use Rattle.solver.specs.Answers.{IsAnswer, shown_in}
 use Rattle.commands.specs.AnswersVerify.{AnswersVerify}
-
-fits : (m : Data) (a : Assignment) → is_in_domain m a ≡ true → placewise fits_def m.intervals a.slots ≡ true
-fits m a h = (and_parts (placewise fits_def m.intervals a.slots) (placewise (lists_present a) m.sequences a.orders) (and_parts (placewise fits_def m.intervals a.slots && placewise (lists_present a) m.sequences a.orders) (placewise (are_segments m) m.states a.segs) h).0).0
+use Rattle.sched_model.specs.laws.Domain.{slots_fit}
 
 in_hull : (m : Data) (a : Assignment) (e : Expr) (h : Option Ends) → h ≡ hull_of m e → is_some h ≡ true → is_in_domain m a ≡ true → is_small (value_of a e) ≡ true
 in_hull m a e None is some domain = absurd cc
-in_hull m a e (Some r) is some domain = held_small r (value_of a e) (value_held m a (fits m a domain) e r (sym is))
+in_hull m a e (Some r) is some domain = held_small r (value_of a e) (value_held m a (slots_fit m a domain) e r (sym is))
 
 value_small : (m : Data) (a : Assignment) (o : Option Objective) (v : ℤ) → o ≡ m.objective → IsValid m → is_in_domain m a ≡ true → option_map (λ p. value_of a p.expr) o ≡ Some v → is_small v ≡ true
 value_small m a None v is valid domain value = absurd cc

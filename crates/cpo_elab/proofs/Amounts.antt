@@ -6,6 +6,7 @@ use Rattle.std.proofs.lemmas.Int.{ints}
 use Rattle.std.proofs.lemmas.List.{length-append, length-map}
 use Rattle.std.proofs.lemmas.Bool.{and_parts, and_from, or_parts}
 use Rattle.base_laws.specs.laws.Items.{all_append}
+use Rattle.base_laws.specs.laws.Truth.{all_three}
 use Rattle.sched_model.specs.Valid.{is_moment, is_span_of_moments, is_small, is_amount}
 use Rattle.cpo_text.specs.Tokens.{literal_limit}
 use Rattle.cpo_text.specs.declared.tree.Int.{Int}
@@ -13,7 +14,7 @@ use Rattle.cpo_elab.specs.Numbers.{size_of, int_of, int_or_zero}
 use Rattle.cpo_elab.specs.Elaborated.{types_in}
 use Rattle.cpo_elab.specs.Held.{some_int, some_in_rows}
 use Rattle.cpo_elab.specs.Judged.{is_outside, is_reversed, is_negative, is_large}
-use Rattle.cpo_elab.proofs.Truth.{not_true, all_three}
+use Rattle.cpo_elab.proofs.Truth.{not_true}
 
 size_by : (b : Bool) (n : ℕ) → nat_le n literal_limit ≡ b → unwrap_or (if b then Some n else None) 0 ≤ 2 ^ 62
 size_by true n h = grind (arith, nat_tests)

@@ -5,6 +5,7 @@ use Rattle.std.proofs.lemmas.Bool.Decides.{nat_tests}
 use Rattle.std.proofs.lemmas.List.{length-map}
 use Rattle.std.proofs.lemmas.Bool.{and_parts, and_from}
 use Rattle.base_laws.specs.laws.Items.{all_push}
+use Rattle.base_laws.specs.laws.Truth.{all_three}
 use Rattle.sched_model.specs.declared.types.SequenceDef.{SequenceDef}
 use Rattle.sched_model.specs.declared.types.CumulDef.{CumulDef}
 use Rattle.sched_model.specs.Data.{Data, with_interval, with_matrix, with_sequence, with_cumul, with_state}
@@ -22,7 +23,7 @@ use Rattle.cpo_elab.specs.Numbers.{size_of, int_of}
 use Rattle.cpo_elab.specs.Elaborated.{plain_interval, interval_of, types_in, sequence_named, matrix_named, state_named, cumul_named, defined}
 use Rattle.cpo_elab.specs.Judged.{is_of_other_sort}
 use Rattle.cpo_elab.specs.Shaped.{is_spelt}
-use Rattle.cpo_elab.proofs.Truth.{all_three, not_true}
+use Rattle.cpo_elab.proofs.Truth.{not_true}
 use Rattle.cpo_elab.proofs.Inserted.{Inserted, inserted_left, inserted_right, names_inserted, absent_name, map_inserted, named_inserted, unnamed_same}
 use Rattle.cpo_elab.proofs.Ids.{right_itvs, right_mat}
 use Rattle.cpo_elab.proofs.Amounts.{types_small, cells_small, cell_number}

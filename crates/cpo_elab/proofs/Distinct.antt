@@ -94,12 +94,6 @@ pub more_in : (m : Data) (names : List (List ℕ)) (i : ℕ) (n : List ℕ) (x :
 more_in m names i n x ks new within at_i is same pushed =
     ap (λ ys. itvs ys ++ itvs_of m (drop (i + 1) names)) pushed ∙ moved ks x (itvs_of m (drop (i + 1) names)) ∙ sym (next m names i n x ks within at_i is same)
 
-pub there_already : (f b : Bool) → f ≡ not b → not f ≡ true → b ≡ true
-there_already true true is h = cc
-there_already true false is h = cc
-there_already false true is h = refl
-there_already false false is h = cc
-
 pub not_there : (f b : Bool) → f ≡ not b → not f ≡ false → b ≡ false
 not_there true true is h = cc
 not_there true false is h = refl

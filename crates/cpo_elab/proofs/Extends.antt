@@ -3,7 +3,7 @@ use Rattle.std.proofs.Common.{◌≡◌, ℕ, ℤ, true, ◌&&◌, List, [], ◌
 use Rattle.std.specs.List.{list_all}
 use Rattle.std.proofs.lemmas.Option.{unwrap_or-slice_get}
 use Rattle.std.proofs.lemmas.Bool.{and_parts, and_from}
-use Rattle.base_laws.specs.laws.Truth.{three_true}
+use Rattle.base_laws.specs.laws.Truth.{three_true, all_three}
 use Rattle.base_laws.specs.laws.Items.{all_weaker}
 use Rattle.base_laws.specs.laws.Places.{same_item, within}
 use Rattle.sched_base.specs.declared.ids.Itv.{Itv}
@@ -23,7 +23,6 @@ use Rattle.sched_model.specs.declared.types.Window.TheVariants.{Always, Moments,
 use Rattle.sched_model.specs.Words.{passes_if_any}
 use Rattle.sched_model.specs.Data.{Data, has, members_of, sequence_of, state_matrix, matrix_of, with_interval, with_matrix, with_sequence, with_cumul, with_state}
 use Rattle.sched_model.specs.Valid.{is_amount, is_itv, is_mat, is_seq, is_member, are_parts, are_distinct, is_shape, is_window, is_sequence_def, is_cumul_def, is_state_def}
-use Rattle.cpo_elab.proofs.Truth.{all_three}
 
 -- what has an id in m has it in n
 pub record Extends (m n : Data) : Type 0 where

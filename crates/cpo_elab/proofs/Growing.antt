@@ -2,7 +2,7 @@
 use Rattle.std.proofs.Common.{◌≡◌, ℕ, zero, suc, ℤ, pos, Bool, true, not, ◌&&◌, List, [], ◌∷◌, map, length, slice_index_or, Option, Some, None, is_some, nat_lt, int_le, refl, ap, subst, ◌∙◌}
 use Rattle.std.specs.List.{list_all}
 use Rattle.std.proofs.lemmas.Bool.{and_parts, and_from}
-use Rattle.base_laws.specs.laws.Truth.{three_true, four_true}
+use Rattle.base_laws.specs.laws.Truth.{three_true, four_true, all_three}
 use Rattle.base_laws.specs.laws.Items.{all_weaker}
 use Rattle.sched_base.specs.declared.ids.Itv.{Itv}
 use Rattle.sched_base.specs.declared.ids.Seq.{Seq}
@@ -24,7 +24,6 @@ use Rattle.sched_model.specs.Ranges.{Ends, negated, total_range, product_range, 
 use Rattle.sched_model.specs.Hull.{limited, range_or, start_range, end_range, size_range, presence_range, of_one, of_all, truth_of, interval_hull, hull_step, hull_of}
 use Rattle.sched_model.specs.Valid.{is_small, is_amount, is_itv, is_mat, is_seq, is_member, is_window, are_parts, expr_step, is_expr, fits_types, is_constraint, is_state_def}
 use Rattle.sched_model.specs.laws.Held.{composed}
-use Rattle.cpo_elab.proofs.Truth.{all_three}
 use Rattle.cpo_elab.proofs.Extends.{Extends, itv_grows, mat_grows, seq_grows, cum_grows, stf_grows, same_sequence, same_state, same_matrix, member_grows, parts_grow, window_grows}
 
 -- the tests of an expression but for its hull

@@ -2,7 +2,7 @@
 use Rattle.std.proofs.Common.{◌≡◌, ℕ, pos, true, false, ◌&&◌, List, [], ◌∷◌, int_le, refl}
 use Rattle.std.specs.List.{list_any}
 use Rattle.std.proofs.lemmas.Bool.{and_parts, and_from, or_parts}
-use Rattle.base_laws.specs.laws.Truth.{three_true}
+use Rattle.base_laws.specs.laws.Truth.{three_true, all_three}
 use Rattle.sched_model.specs.declared.types.IntervalDef.{IntervalDef}
 use Rattle.sched_model.specs.Words.{passes}
 use Rattle.sched_model.specs.Valid.{is_span_of_moments, is_interval_def}
@@ -12,7 +12,6 @@ use Rattle.cpo_elab.specs.Numbers.{range_of}
 use Rattle.cpo_elab.specs.Elaborated.{with_ivarg, with_ivargs, plain_interval}
 use Rattle.cpo_elab.specs.Held.{ivarg_range, least_size, some_range}
 use Rattle.cpo_elab.specs.Judged.{is_outside, is_reversed, is_negative}
-use Rattle.cpo_elab.proofs.Truth.{all_three}
 use Rattle.cpo_elab.proofs.Amounts.{ordered, spans}
 
 -- the three ranges of an interval, and its least size

@@ -35,7 +35,7 @@ use Rattle.cpo_elab.specs.Held.{some_moments, some_height, logic_in}
 use Rattle.cpo_elab.specs.Elaborated.{sequence_named, cumul_named, hierarchy_of, extreme_of, order_of, bound_of, window_of, named_itself, cumul_id, constraint_of, with_unnamed, with_listed, with_written}
 use Rattle.cpo_elab.specs.Judged.{is_of_other_sort, is_no_member, is_reversed, is_outside, is_negative, is_large}
 use Rattle.cpo_elab.specs.Shaped.{has_operands}
-use Rattle.cpo_elab.proofs.Truth.{all_three, not_true}
+use Rattle.cpo_elab.proofs.Truth.{not_true}
 use Rattle.cpo_elab.proofs.Ids.{right_itv, right_itvs, right_seq, right_stf}
 use Rattle.cpo_elab.proofs.Amounts.{int_small, delay_small, ordered, spans, amount}
 use Rattle.cpo_elab.proofs.Functions.{parts_well_made}
@@ -46,6 +46,7 @@ use Rattle.cpo_elab.proofs.Kept.{limits_without, with_constraint_valid}
 use Rattle.cpo_elab.proofs.Defined.{list_valid, unnamed_valid}
 use Rattle.cpo_elab.proofs.Facts.{Facts}
 use Rattle.cpo_elab.specs.lemmas.Names.{right_cum, lone_right}
+use Rattle.base_laws.specs.laws.Truth.{all_three}
 
 -- what a constraint writes without a name
 

@@ -1,6 +1,6 @@
 -- Every text deserves an answer, where each can be read or refused.
-use Rattle.std.proofs.Common.{◌≡◌, ◌⊎◌, inl, inr, ℕ, ◌+◌, ◌<◌, ◌≤◌, Bool, true, false, nat_lt, List, [], ◌∷◌, length, Option, Some, None, refl, arith}
-use Rattle.std.proofs.lemmas.Bool.Decides.{nat_tests}
+use Rattle.std.proofs.Common.{◌≡◌, ◌⊎◌, inl, inr, ℕ, ◌+◌, Bool, true, false, nat_lt, List, [], ◌∷◌, length, Option, Some, None, refl}
+use Rattle.base_laws.specs.laws.Numbers.{below_or_past}
 use Rattle.sched_model.specs.Data.{empty_model}
 use Rattle.cpo_text.specs.Words.{Word}
 use Rattle.cpo_text.specs.Tokens.{Token}
@@ -40,13 +40,9 @@ readings decide (r ∷ rs) =
     let rest = readings decide rs in
     (record { at = offset r; form = form.0 } ∷ rest.0, (refl, form.1, rest.1))
 
-long_or_short : (n m : ℕ) (b : Bool) → nat_lt n m ≡ b → (n < m) ⊎ (m ≤ n)
-long_or_short n m true h = inl (grind (arith, nat_tests))
-long_or_short n m false h = inr (grind (arith, nat_tests))
-
 -- every text is read or refused
 read_or_refused : EveryTextHasTokensOrBadByte → GrammarIsDecided → (text : List ℕ) → ((tree : Tree) × IsRead text tree) ⊎ ((r : Refusal) × IsRefused text r)
-read_or_refused bytes grammar text = elim (long_or_short text_limit (length text) (nat_lt text_limit (length text)) refl) [
+read_or_refused bytes grammar text = elim (below_or_past text_limit (length text) (nat_lt text_limit (length text)) refl) [
   | inl above ↦ inr (record { number = 11; statement = 0; at = text_limit }, too_long above refl)
   | inr short ↦ elim (bytes text) [
     | inl read ↦

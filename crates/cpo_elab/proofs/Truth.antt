@@ -1,10 +1,5 @@
 -- Three tests joined, and tests that pass alike.
-use Rattle.std.proofs.Common.{◌≡◌, Bool, true, false, not, ◌&&◌, ◌||◌, refl, sym}
-
-pub all_three : (p q r : Bool) → p ≡ true → q ≡ true → r ≡ true → (p && q && r) ≡ true
-all_three true true r first second third = third
-all_three true false r first second third = cc
-all_three false q r first second third = cc
+use Rattle.std.proofs.Common.{◌≡◌, Bool, true, false, not, ◌||◌, refl, sym}
 
 pub none_of_three : (p q r : Bool) → (p || q || r) ≡ false → (p ≡ false) × (q ≡ false) × (r ≡ false)
 none_of_three true true r h = cc

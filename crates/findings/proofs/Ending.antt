@@ -15,6 +15,7 @@ use Rattle.findings.specs.declared.finding.Pair.{Pair}
 use Rattle.findings.specs.Ends.{is_end}
 use Rattle.findings.specs.Search.{is_on, is_of_pair, IsRefutedEnd, NoEndRefuted}
 use Rattle.findings.specs.laws.Members.{one_of_two, is_forward, is_turned}
+use Rattle.base_laws.specs.laws.Truth.{other_fails}
 
 -- the guesses at the ends of an interval, in the order in which they are tried
 abbrev pub end_guesses : Bounds → Itv → List Guess
@@ -32,10 +33,6 @@ place r x (StartGe y t) on end = let e = same_is y x on in (4, omega arith, ap (
 place r x (EndLe y t) on end = let e = same_is y x on in (5, omega arith, ap (λ z. EndLe z (bounds_of r z).emin) (sym e) ∙ ap (EndLe y) (sym (same_int t (bounds_of r y).emin end)))
 place r x (Before p y z) on end = cc
 
-off : (p q : Bool) → (p && q) ≡ false → p ≡ true → q ≡ false
-off true q h k = h
-off false q h k = cc
-
 -- where none of the six is admitted and refuted
 pub none_on : (refuted : Option Guess → Bool) (r : Region) (x : Itv) (gs : List Guess) (n : ℕ) → gs ≡ end_guesses (bounds_of r x) x → length gs ≡ n
     → ((i : ℕ) → i < n → (admits r (get_or gs i (Present x)) && refuted (Some (get_or gs i (Present x)))) ≡ false) → NoEndRefuted refuted r (is_on x)
@@ -44,7 +41,7 @@ none_on refuted r x gs n is count before g on open_end =
     let here = place r x g on two.1 in
     let at : get_or gs here.0 (Present x) ≡ g = ap (λ hs. get_or hs here.0 (Present x)) is ∙ here.2 in
     let six : 6 ≡ n = sym (ap length is) ∙ count in
-    off (admits r g) (refuted (Some g)) (subst (λ h. (admits r h && refuted (Some h)) ≡ false) at (before here.0 (omega (arith, here.1, six)))) two.0
+    other_fails (admits r g) (refuted (Some g)) (subst (λ h. (admits r h && refuted (Some h)) ≡ false) at (before here.0 (omega (arith, here.1, six)))) two.0
 
 -- and each of the six is one at its end
 same_end : (z : ℤ) → int_eq z z ≡ true
@@ -79,8 +76,8 @@ none_between refuted r q forward backward (Before p x y) on open_end =
     let two = one_of_two p x y q on in
     let admitted = (both_true (admits r (Before p x y)) true open_end).0 in
     elim two.1 [
-      | inl e ↦ off (admits r (Before p x y)) (refuted (Some (Before p x y))) (rw (two.0, e.0, e.1) forward) admitted
-      | inr e ↦ off (admits r (Before p x y)) (refuted (Some (Before p x y))) (rw (two.0, e.0, e.1) backward) admitted
+      | inl e ↦ other_fails (admits r (Before p x y)) (refuted (Some (Before p x y))) (rw (two.0, e.0, e.1) forward) admitted
+      | inr e ↦ other_fails (admits r (Before p x y)) (refuted (Some (Before p x y))) (rw (two.0, e.0, e.1) backward) admitted
     ]
 none_between refuted r q forward backward (Present x) on open_end = cc
 none_between refuted r q forward backward (Absent x) on open_end = cc

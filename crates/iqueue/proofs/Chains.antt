@@ -8,7 +8,8 @@ use Rattle.iqueue.specs.declared.place.Place.{Place}
 use Rattle.iqueue.specs.declared.place.Place.TheVariants.{Out, Last, Before}
 use Rattle.iqueue.specs.Queue.{Queue, AreDistinctBelow, is_in, woken}
 use Rattle.iqueue.specs.Links.{waits, next_of, linked, first_of, numbers, IsChain, newest, IsLinked}
-use Rattle.iqueue.proofs.Members.{apart, in_tail, in_end, in_front, in_below, newest_in, newest_end, distinct_end, at_most}
+use Rattle.iqueue.proofs.Members.{apart, in_tail, in_front, in_below, newest_in, newest_end, distinct_end, at_most}
+use Rattle.iqueue.specs.laws.Ends.{in_end}
 
 get_other : (places : List Place) (i j : ℕ) (p : Place) → (j ≡ i → ⊥) → slice_get (set places i p) j ≡ slice_get places j
 get_other [] i j p other = refl

@@ -1,17 +1,10 @@
 -- Lists of distinct numbers below a bound.
 use Rattle.std.proofs.Common.{◌≡◌, ℕ, ◌<◌, ◌≤◌, Bool, true, false, ◌||◌, List, [], ◌∷◌, ◌++◌, Some, length, nat_eq, refl, sym, ap, ◌∙◌, arith}
-use Rattle.std.proofs.lemmas.Bool.{eq-eqb, eqb-true, eqb-false, or_parts, or_right}
+use Rattle.std.proofs.lemmas.Bool.{eq-eqb, ne_eqb, eqb-true, eqb-false, or_parts, or_right}
 use Rattle.std.proofs.lemmas.Map.Steps.{length-le_from_distinct_below}
 use Rattle.std.specs.List.{IsDistinct, AllByRecursion, list_any}
 use Rattle.iqueue.specs.Queue.{AreDistinctBelow, is_in}
 use Rattle.iqueue.specs.Links.{newest}
-
-test_no : (a b : ℕ) → (a ≡ b → ⊥) → nat_eq a b ≡ false
-test_no a b other = decided (nat_eq a b) refl
-  where
-    decided : (t : Bool) → nat_eq a b ≡ t → nat_eq a b ≡ false
-    decided true is = absurd (other (eqb-true a b is))
-    decided false is = is
 
 pub apart : (k j : ℕ) (js : List ℕ) → is_in k (j ∷ js) ≡ false → (k ≡ j → ⊥) × (is_in k js ≡ false)
 apart k j js absent = let r = or_parts (nat_eq k j) (is_in k js) absent in (eqb-false k j r.0, r.1)
@@ -20,11 +13,7 @@ pub in_head : (k : ℕ) (js : List ℕ) → is_in k (k ∷ js) ≡ true
 in_head k js = rw (eq-eqb k k refl) refl
 
 pub in_tail : (j k : ℕ) (ks : List ℕ) → (j ≡ k → ⊥) → is_in j (k ∷ ks) ≡ is_in j ks
-in_tail j k ks other = rw (test_no j k other) refl
-
-pub in_end : (k : ℕ) (ks : List ℕ) → is_in k (ks ++ k ∷ []) ≡ true
-in_end k [] = in_head k []
-in_end k (a ∷ ks) = or_right (nat_eq k a) (is_in k (ks ++ k ∷ [])) (in_end k ks)
+in_tail j k ks other = rw (ne_eqb j k other) refl
 
 pub in_front : (j k : ℕ) (ks : List ℕ) → (j ≡ k → ⊥) → is_in j (ks ++ k ∷ []) ≡ is_in j ks
 in_front j k [] other = in_tail j k [] other

@@ -1,12 +1,12 @@
 -- One step of a walk over some expressions that joins their ranges.
-use Rattle.std.proofs.Common.{◌≡◌, ℕ, ◌+◌, ◌<◌, ℤ, ◌+ℤ◌, Bool, true, false, ◌&&◌, ◌||◌, List, [], ◌∷◌, ◌++◌, length, map, drop, get_or, fold, Option, Some, None, refl, sym, ap, ◌∙◌, arith}
+use Rattle.std.proofs.Common.{◌≡◌, ℕ, ◌+◌, ◌<◌, ℤ, ◌+ℤ◌, Bool, true, false, ◌&&◌, ◌||◌, List, [], ◌∷◌, ◌++◌, length, map, drop, get_or, fold, Option, Some, None, refl, sym, ap, ◌∙◌}
 use Rattle.std.specs.List.{list_all, list_any}
 use Rattle.std.specs.Option.{option_to_list}
-use Rattle.std.proofs.lemmas.Int.{ints}
 use Rattle.std.proofs.lemmas.List.{at_drop_more}
 use Rattle.sched_model.specs.Words.{total}
 use Rattle.sched_model.specs.Ranges.{Ends, lows, highs, greatest_range, least_range}
 use Rattle.sched_model.specs.Saturated.{saturated_range}
+use Rattle.base_laws.specs.laws.Numbers.{regroup}
 
 -- the next range, at the front of what is left
 next_of : {A X : Type 0} (F : List Ends → A) (f : X → Ends) (xs : List X) (i : ℕ) (x : X) (r : Ends) → i < length xs → x ≡ get_or xs i x → r ≡ f x
@@ -21,9 +21,6 @@ pub turn : {A B X : Type 0} (G : B → List Ends → A) (f : X → Ends) (xs : L
     → i < length xs → x ≡ get_or xs i x → r ≡ f x → ((rs : List Ends) → G b (r ∷ rs) ≡ G d rs) → G d (map f (drop (i + 1) xs)) ≡ whole
 turn G f xs i x r b d whole before within at_i is same =
     sym (next_of (G b) f xs i x r within at_i is ∙ same (map f (drop (i + 1) xs))) ∙ before
-
-regroup : (x y z w : ℤ) → w ≡ x +ℤ y → x +ℤ (y +ℤ z) ≡ w +ℤ z
-regroup x y z w h = omega (arith, ints, h)
 
 pub low_turn : {X : Type 0} (f : X → Ends) (xs : List X) (i : ℕ) (x : X) (r : Ends) (sum sum' whole : ℤ) → sum +ℤ total (lows (map f (drop i xs))) ≡ whole
     → i < length xs → x ≡ get_or xs i x → r ≡ f x → sum' ≡ sum +ℤ r.0 → sum' +ℤ total (lows (map f (drop (i + 1) xs))) ≡ whole

@@ -14,7 +14,8 @@ use Rattle.textline.specs.Lines.{Bytes}
 use Rattle.read_schedule.specs.Rows.{order_row, state_row}
 use Rattle.read_schedule.specs.Reads.{are_all_itvs, are_spelled, sequence_at, state_at}
 use Rattle.read_schedule.proofs.Taken.{Told}
-use Rattle.read_schedule.proofs.Spelled.{name_is_word, label_is_word, orders_told, segments_told}
+use Rattle.read_schedule.proofs.Spelled.{label_is_word, orders_told, segments_told}
+use Rattle.sched_text.specs.laws.Names.{name_is_word}
 
 pub at_place : {X : Type 0} (p : X → Bool) (xs : List X) (i : ℕ) (d : X) → list_all p xs ≡ true → i < length xs → p (slice_index_or xs i d) ≡ true
 at_place p [] i d h within = absurd (omega (arith, within))

@@ -25,6 +25,7 @@ use Rattle.read_schedule.proofs.Assignments.{domain_parts, some_domain}
 use Rattle.read_schedule.proofs.Rows.{text_append}
 use Rattle.read_schedule.proofs.Body.{body_text}
 use Rattle.read_schedule.proofs.Refusing.{AllUnlike, header_lines, refuses}
+use Rattle.sched_text.specs.laws.Answers.{second}
 
 -- no line of a body has the form of a header's first
 
@@ -41,9 +42,6 @@ other_tag ws f o u (inr valued) = elim valued.2 [
   | inl best ↦ o (ap tag best)
   | inr found ↦ u (ap tag found)
 ]
-
-second : (a b c d : Bytes) → a ∷ b ∷ [] ≡ c ∷ d ∷ [] → b ≡ d
-second a b c d e = cc
 
 slot_no_verdict : (d : IntervalDef) (slot : Slot) → IsVerdict (slot_row 0 d slot) → ⊥
 slot_no_verdict d Absent (inl plain) = cc

@@ -2,13 +2,13 @@
 use Rattle.std.proofs.Common.{◌≡◌, inl, inr, ℕ, ◌^◌, ◌<◌, true, false, List, [], ◌∷◌, ◌++◌, codes, Some, None, refl, sym, ap, ◌∙◌, subst, arith, append-nil, append_assoc}
 use Rattle.std.specs.Fmt.{decimal, signed_decimal}
 use Rattle.std.proofs.lemmas.Fmt.{decimal_injective}
+use Rattle.sched_model.specs.laws.Small.{small_mag}
 use Rattle.textline.specs.Lines.{Bytes, line, words_of}
 use Rattle.textline.specs.laws.Lines.{one_word}
-use Rattle.textline.specs.laws.Numbers.{decimal_is_word}
+use Rattle.textline.specs.laws.Numbers.{decimal_is_word, signed_is_word}
 use Rattle.read_schedule.specs.Schedules.{IsVerdict, IsCount, is_line, text}
 use Rattle.read_schedule.specs.Reads.{Decides, IsCountAlone, TakesHeader, TakesLine}
 use Rattle.read_schedule.proofs.Taken.{same_words}
-use Rattle.read_schedule.proofs.Spelled.{small_word}
 
 pub far_count : (w : Bytes) (n : ℕ) (old new : List Bytes) → old ≡ w ∷ new → w ≡ decimal n → n < 2 ^ 64 → 2 ^ 62 < n → IsCountAlone old → ⊥
 far_count w n old new stands is range over count =
@@ -21,8 +21,8 @@ far_count w n old new stands is range over count =
 pub verdict_is_line : (ws : List Bytes) → IsVerdict ws → is_line ws ≡ true
 verdict_is_line ws (inl plain) = ap is_line plain
 verdict_is_line ws (inr valued) = elim valued.2 [
-  | inl best ↦ ap is_line best ∙ one_word (codes "optimal") (signed_decimal valued.0 ∷ []) refl (one_word (signed_decimal valued.0) [] (small_word valued.0 valued.1) refl)
-  | inr found ↦ ap is_line found ∙ one_word (codes "unfinished") (signed_decimal valued.0 ∷ []) refl (one_word (signed_decimal valued.0) [] (small_word valued.0 valued.1) refl)
+  | inl best ↦ ap is_line best ∙ one_word (codes "optimal") (signed_decimal valued.0 ∷ []) refl (one_word (signed_decimal valued.0) [] (signed_is_word valued.0 (small_mag valued.0 valued.1)) refl)
+  | inr found ↦ ap is_line found ∙ one_word (codes "unfinished") (signed_decimal valued.0 ∷ []) refl (one_word (signed_decimal valued.0) [] (signed_is_word valued.0 (small_mag valued.0 valued.1)) refl)
 ]
 
 pub count_is_line : (ws : List Bytes) → IsCount ws → is_line ws ≡ true

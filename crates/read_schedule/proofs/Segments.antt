@@ -4,11 +4,8 @@ use Rattle.std.proofs.lemmas.Bool.{and_parts}
 use Rattle.sched_model.specs.declared.types.Segment.{Segment}
 use Rattle.textline.specs.Lines.{Bytes}
 use Rattle.sched_text.specs.Answers.{segment_words}
-use Rattle.sched_text.specs.laws.Lines.{is_spelled_segment}
+use Rattle.sched_text.specs.laws.Lines.{is_spelled_segment, behind_three}
 use Rattle.read_schedule.specs.Reads.{are_spelled}
-
-behind_three : (a b c d e f : Bytes) (x y : List Bytes) → a ∷ b ∷ c ∷ x ≡ d ∷ e ∷ f ∷ y → x ≡ y
-behind_three a b c d e f x y h = cc
 
 pub no_segments : (whole ws : List Bytes) (ss vs : List Segment) → whole ≡ flat_map segment_words ss ++ ws → (ws ≡ [] → ⊥) → ((s : Segment) (us : List Bytes) → is_spelled_segment s ≡ true → ws ≡ segment_words s ++ us → ⊥) → are_spelled vs ≡ true → whole ≡ flat_map segment_words vs → ⊥
 no_segments whole ws ss vs same some none fit e = by ss vs fit (sym same ∙ e)

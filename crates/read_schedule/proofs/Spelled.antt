@@ -1,17 +1,15 @@
 -- The lines of slots, orders and segments: each tells its value, and is a line.
-use Rattle.std.proofs.Common.{◌≡◌, ◌^◌, ◌<◌, ℕ, ℤ, pos, true, ◌&&◌, List, [], ◌∷◌, ◌++◌, codes, flat_map, map, Option, Some, None, refl, ap, ◌∙◌}
+use Rattle.std.proofs.Common.{◌≡◌, ◌^◌, ◌<◌, ℕ, true, List, [], ◌∷◌, ◌++◌, codes, flat_map, map, Option, Some, None, refl, ap, ◌∙◌}
 use Rattle.std.specs.Fmt.{decimal, signed_decimal}
 use Rattle.std.specs.List.{list_all}
 use Rattle.std.proofs.lemmas.Bool.{and_parts, and_from}
-use Rattle.sched_base.specs.declared.ids.Itv.{Itv}
 use Rattle.sched_model.specs.declared.types.IntervalDef.{IntervalDef}
 use Rattle.sched_model.specs.declared.types.SequenceDef.{SequenceDef}
 use Rattle.sched_model.specs.declared.types.StateDef.{StateDef}
 use Rattle.sched_model.specs.declared.types.Slot.{Slot}
 use Rattle.sched_model.specs.declared.types.Slot.TheVariants.{Absent, Present}
-use Rattle.sched_model.specs.declared.types.Segment.{Segment}
 use Rattle.sched_model.specs.declared.types.Assignment.{Assignment}
-use Rattle.sched_model.specs.Data.{Data, empty_model, with_interval}
+use Rattle.sched_model.specs.Data.{Data}
 use Rattle.sched_model.specs.Bounds.{is_small}
 use Rattle.sched_model.specs.Domain.{fits_def, lists_present, are_segments}
 use Rattle.sched_model.specs.Valid.{IsValid, is_interval_def, is_sequence_def, is_state_def, is_name}
@@ -22,21 +20,13 @@ use Rattle.textline.specs.laws.Lines.{one_word}
 use Rattle.textline.specs.laws.Numbers.{decimal_is_word, signed_is_word}
 use Rattle.sched_text.specs.Pieces.{interval_names}
 use Rattle.sched_text.specs.Answers.{label, segment_words, slot_words}
-use Rattle.sched_text.specs.laws.Names.{names_of, names_are_words}
-use Rattle.sched_text.specs.laws.Lines.{spelled_slot, slots_tell, orders_tell, spelled_order, segments_tell, spelled_segments, is_spelled_segment}
+use Rattle.sched_text.specs.laws.Names.{name_is_word, names_of, names_are_words}
+use Rattle.sched_text.specs.laws.Lines.{spelled_slot, slots_tell, orders_tell, spelled_order, segments_tell, spelled_segments, segments_are_words}
 use Rattle.read_schedule.specs.Rows.{slot_row, order_row, state_row}
 use Rattle.read_schedule.specs.Reads.{is_spelled, are_spelled, are_all_itvs}
 use Rattle.read_schedule.proofs.Taken.{Told}
 
 -- names
-
-abbrev named : Bytes → IntervalDef
-named n = record { name = n; optional = true; start_lo = pos 0; start_hi = pos 0; end_lo = pos 0; end_hi = pos 0; size_lo = pos 0; size_hi = pos 0 }
-
-pub name_is_word : (n : Bytes) → is_name n ≡ true → is_word n ≡ true
-name_is_word n h =
-    let first : Itv = record { 0 = 0 } in
-    (and_parts (is_word n) true (names_are_words (with_interval (named n) empty_model) (record { proper = and_from (is_name n) true h refl; distinct = refl }) (first ∷ []) refl)).0
 
 names_pass : (ds : List IntervalDef) → list_all is_name (map (λ d. d.name) ds) ≡ true → list_all (λ d. is_word d.name) ds ≡ true
 names_pass [] h = refl
@@ -46,17 +36,12 @@ names_pass (d ∷ ds) h =
 pub interval_words : (m : Data) (ds : List IntervalDef) → IsValid m → ds ≡ m.intervals → list_all (λ d. is_word d.name) ds ≡ true
 interval_words m ds valid same = ap (list_all (λ d. is_word d.name)) same ∙ names_pass m.intervals (names_of m valid).proper
 
--- numbers
-
-pub small_word : (z : ℤ) → is_small z ≡ true → is_word (signed_decimal z) ≡ true
-small_word z h = signed_is_word z (small_mag z h)
-
 -- slots
 
 slot_is_words : (slot : Slot) → is_spelled slot ≡ true → are_words (slot_words slot) ≡ true
 slot_is_words Absent h = refl
 slot_is_words (Present s e) h =
-    let two = and_parts (is_small s) (is_small e) h in one_word (signed_decimal s) (signed_decimal e ∷ []) (small_word s two.0) (one_word (signed_decimal e) [] (small_word e two.1) refl)
+    let two = and_parts (is_small s) (is_small e) h in one_word (signed_decimal s) (signed_decimal e ∷ []) (signed_is_word s (small_mag s two.0)) (one_word (signed_decimal e) [] (signed_is_word e (small_mag e two.1)) refl)
 
 able_slot : (d : IntervalDef) (slot : Slot) → is_interval_def d ≡ true → fits_def d slot ≡ true → is_spelled slot ≡ true
 able_slot d Absent valid fits = refl
@@ -89,16 +74,6 @@ orders_told m valid a i d def name = record {
 }
 
 -- segments
-
-segments_are_words : (ss : List Segment) → list_all is_spelled_segment ss ≡ true → are_words (flat_map segment_words ss) ≡ true
-segments_are_words [] h = refl
-segments_are_words (s ∷ ss) h =
-    let two = and_parts (is_spelled_segment s) (list_all is_spelled_segment ss) h in
-    let h2 = and_parts (is_small s.p && is_small s.q) (is_small s.v) two.0 in
-    let h1 = and_parts (is_small s.p) (is_small s.q) h2.0 in
-    one_word (signed_decimal s.p) (signed_decimal s.q ∷ signed_decimal s.v ∷ flat_map segment_words ss) (small_word s.p h1.0)
-    (one_word (signed_decimal s.q) (signed_decimal s.v ∷ flat_map segment_words ss) (small_word s.q h1.1)
-    (one_word (signed_decimal s.v) (flat_map segment_words ss) (small_word s.v h2.1) (segments_are_words ss two.1)))
 
 pub segments_told : (m : Data) (i : ℕ) (d : StateDef) → is_state_def m d ≡ true → is_word d.name ≡ true → Told (state_row i d) are_spelled (are_segments m d)
 segments_told m i d def name = record {

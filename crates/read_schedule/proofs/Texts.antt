@@ -1,39 +1,22 @@
 -- Lines of bytes as lines of words.
-use Rattle.std.proofs.Common.{◌≡◌, ℕ, zero, suc, ◌+◌, ◌<◌, ◌≤◌, Bool, true, false, not, List, [], ◌∷◌, ◌++◌, ◌==◌, length, take, drop, get_or, sym, ◌∙◌, ap, refl, arith, append_assoc, Option, Some, None, ◌&&◌}
+use Rattle.std.proofs.Common.{◌≡◌, ℕ, zero, suc, ◌+◌, ◌<◌, ◌≤◌, Bool, true, false, List, [], ◌∷◌, ◌++◌, length, take, drop, get_or, sym, ◌∙◌, ap, refl, arith, append_assoc, Option, Some, None, ◌&&◌}
 use Rattle.std.specs.List.{list_all}
 use Rattle.std.proofs.lemmas.Bool.{and_parts, and_from}
 use Rattle.std.proofs.lemmas.Bool.Decides.{nat_tests}
 use Rattle.memchr.specs.Find.{IsFirstByte, is_byte}
 use Rattle.textline.specs.Lines.{Bytes, line, words_of}
 use Rattle.textline.specs.Words.{are_words}
-use Rattle.textline.specs.laws.Lines.{first_of, line_of_words, words_are_words, line_has_feed, line_told}
+use Rattle.textline.specs.laws.Lines.{no_feed, none_before, first_of, line_of_words, words_are_words, line_has_feed, line_told}
 use Rattle.read_schedule.specs.Schedules.{is_line, text}
 use Rattle.read_schedule.specs.Reads.{FindsFeed, Starts, TakesLine}
-
-abbrev no_feed : ℕ → Bool
-no_feed b = not (b == 10)
-
-none_before : (xs : Bytes) (k : ℕ) → ((j : ℕ) → j < k → j < length xs → get_or xs j 0 ≡ 10 → ⊥) → list_all no_feed (take k xs) ≡ true
-none_before xs zero none = refl
-none_before [] (suc k) none = refl
-none_before (x ∷ xs) (suc k) none =
-    and_from (no_feed x) (list_all no_feed (take k xs)) (other x (none zero (omega arith) (omega arith))) (none_before xs k (λ j less within. none (suc j) (omega (arith, less)) (omega (arith, within))))
-  where
-    other : (x : ℕ) → (x ≡ 10 → ⊥) → no_feed x ≡ true
-    other x is_not = grind (arith, nat_tests)
-
-take_whole : {A : Type 0} (xs : List A) (n : ℕ) → length xs ≤ n → take n xs ≡ xs
-take_whole [] zero h = refl
-take_whole [] (suc n) h = refl
-take_whole (x ∷ xs) zero h = absurd (omega (arith, h))
-take_whole (x ∷ xs) (suc n) h = ap (λ ys. x ∷ ys) (take_whole xs n (omega (arith, h)))
+use Rattle.std.proofs.lemmas.List.{take_all}
 
 pub finds_feed : (bytes : Bytes) (r : Option ℕ) → IsFirstByte (is_byte 10) bytes r → FindsFeed bytes r
 finds_feed bytes (Some k) first =
     let is : get_or bytes k 0 ≡ 10 = grind (arith, nat_tests, first.1) in
     (first.0.high, is, none_before bytes k (λ j less within e. first.0.before j (omega arith) less (grind (arith, nat_tests))))
 finds_feed bytes None none =
-    ap (list_all no_feed) (sym (take_whole bytes (length bytes) (omega arith))) ∙ none_before bytes (length bytes) (λ j less within e. none j (omega arith) less (grind (arith, nat_tests)))
+    ap (list_all no_feed) (sym (take_all (length bytes) bytes (omega arith))) ∙ none_before bytes (length bytes) (λ j less within e. none j (omega arith) less (grind (arith, nat_tests)))
 
 -- a byte and what stands around it
 around : (xs : Bytes) (k b : ℕ) → k < length xs → get_or xs k 0 ≡ b → xs ≡ take k xs ++ b ∷ drop (suc k) xs

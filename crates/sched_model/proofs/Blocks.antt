@@ -21,8 +21,8 @@ use Rattle.sched_model.specs.Data.{Data, parts_of}
 use Rattle.sched_model.specs.Cumulative.{begin_of, corners, is_in_window, is_level_at, level_at, shape_at, signed}
 use Rattle.sched_model.specs.Changes.{changes_in, changes_inside, is_inside, keep_inside, keeps_at, rise, sum_until, window_span}
 use Rattle.sched_model.specs.laws.Corners.{at_corners, every_moment, every_moment_of}
-use Rattle.sched_model.proofs.Segments.{implied, implied_true}
 use Rattle.sched_model.proofs.Moments.{parts_until, until_permuted, until_same}
+use Rattle.sched_model.specs.laws.Words.{implied, if_implied}
 
 pub on_some : {A : Type 0} (o : Option A) (P Q : Type 0) → (P → Q) → OnSome o P → OnSome o Q
 on_some None P Q f h = h
@@ -141,7 +141,7 @@ each_keeps m a f w lo hi s each = all_each (λ c. is_level_at m a f w lo hi c.t)
 pub one_moment : (m : Data) (a : Assignment) (f : Cum) (w : Window) (lo hi : ℤ) (s : Span) → s.to ≤ℤ (s.from +ℤ pos 1) → is_level_at m a f w lo hi s.to ≡ true → keep_inside m a f w lo hi s ≡ true
 one_moment m a f w lo hi s narrow kept =
     all_filtered (λ c. is_level_at m a f w lo hi c.t) (λ c. is_inside s c.t) cs
-    ∙ all_each (λ c. is_inside s c.t implies is_level_at m a f w lo hi c.t) (λ c. implied_true (is_inside s c.t) _ (λ inside. ap (is_level_at m a f w lo hi) (the_one c.t s.from s.to (inside_from s c.t inside) (inside_to s c.t inside) narrow) ∙ kept)) cs
+    ∙ all_each (λ c. is_inside s c.t implies is_level_at m a f w lo hi c.t) (λ c. if_implied (is_inside s c.t) _ (λ inside. ap (is_level_at m a f w lo hi) (the_one c.t s.from s.to (inside_from s c.t inside) (inside_to s c.t inside) narrow) ∙ kept)) cs
   where
     cs : List Change
     cs = changes_in a (parts_of m f)
@@ -154,7 +154,7 @@ abbrev pub span : ℤ → ℤ → Span
 span from to = record { from = from; to = to }
 
 in_either : (from t to u : ℤ) (kept : Bool) → from <ℤ t → t <ℤ to → (is_inside (span from t) u implies kept) ≡ true → (is_inside (span t to) u implies kept) ≡ true → (is_inside (span from to) u implies kept) ≡ true
-in_either from t to u kept low high first second = implied_true (is_inside (span from to) u) kept (λ inside. decided inside (int_le u t) refl)
+in_either from t to u kept low high first second = if_implied (is_inside (span from to) u) kept (λ inside. decided inside (int_le u t) refl)
   where
     early : int_le u t ≡ true → (int_lt from u && int_le u to) ≡ true → (int_lt from u && int_le u t) ≡ true
     early e inside = grind (arith, ints)
@@ -207,7 +207,7 @@ window_decides m a f w lo hi u b begin first inside outside = decided b refl
     in_window t h false e inside = implied (is_in_window a w t) _ (implied (is_inside (window_span a w) t) (kept t) h (in_window_span a w t inside e)) inside
 
     one : (t : ℤ) → (is_inside (window_span a w) t implies kept t) ≡ true → kept t ≡ true
-    one t h = implied_true (is_in_window a w t) _ (in_window t h (int_eq t (begin_of a w)) refl)
+    one t h = if_implied (is_in_window a w t) _ (in_window t h (int_eq t (begin_of a w)) refl)
 
     all : keep_inside m a f w lo hi (window_span a w) ≡ true → list_all (λ c. kept c.t) cs ≡ true
     all h = all_from (λ c. is_inside (window_span a w) c.t implies kept c.t) (λ c. true) (λ c. kept c.t) (λ c k tt. one c.t k) cs

@@ -1,5 +1,5 @@
 -- What every element of a list passes, one of them passes.
-use Rattle.std.proofs.Common.{◌≡◌, ℕ, zero, suc, ◌<◌, Bool, true, ◌&&◌, List, [], ◌∷◌, Some, length, get_or, sym, ap, subst, ◌∙◌, arith}
+use Rattle.std.proofs.Common.{◌≡◌, ℕ, zero, suc, ◌<◌, Bool, true, List, [], ◌∷◌, Some, length, get_or, sym, ap, subst, ◌∙◌, arith}
 use Rattle.std.specs.Prelude.{◌↔◌, IsTrue, slice_get, is_some}
 use Rattle.std.specs.List.{list_all}
 use Rattle.std.proofs.lemmas.Bool.{and_parts}
@@ -12,9 +12,8 @@ use Rattle.sched_model.specs.Hull.{hull_of}
 use Rattle.sched_base.specs.declared.ids.Con.{Con}
 use Rattle.sched_model.specs.Sentences.{Holds, holds, holds_at}
 use Rattle.sched_model.specs.laws.Tested.{sentence_tested}
-use Rattle.sched_model.specs.Words.{passes, passes_if_any, placewise}
+use Rattle.sched_model.specs.Words.{passes, passes_if_any}
 use Rattle.sched_model.specs.declared.types.Assignment.{Assignment}
-use Rattle.sched_model.specs.Domain.{are_segments, fits_def, is_in_domain, lists_present}
 use Rattle.sched_model.specs.Valid.{IsValid, is_constraint, is_expr}
 
 pub passes_at : {X : Type 0} (p : X → Bool) (xs : List X) (i : ℕ) (x : X) → list_all p xs ≡ true → i < length xs → x ≡ get_or xs i x → p x ≡ true
@@ -30,9 +29,6 @@ hull_from_expr m x h = (and_parts _ (is_some (hull_of m x)) h).1
 
 pub objective_hull : (m : Data) (o : Objective) → IsValid m → Some o ≡ m.objective → is_some (hull_of m o.expr) ≡ true
 objective_hull m o valid there = hull_from_expr m o.expr (subst (λ z. passes_if_any (λ o. is_expr m o.expr) z ≡ true) (sym there) valid.objective)
-
-pub fits_from_domain : (m : Data) (a : Assignment) → is_in_domain m a ≡ true → placewise fits_def m.intervals a.slots ≡ true
-fits_from_domain m a h = (and_parts (placewise fits_def m.intervals a.slots) (placewise (lists_present a) m.sequences a.orders) (and_parts (placewise fits_def m.intervals a.slots && placewise (lists_present a) m.sequences a.orders) (placewise (are_segments m) m.states a.segs) h).0).0
 
 -- what is tested of the constraint of an id is its sentence
 pub sentence_there : (m : Data) (a : Assignment) (k : Con) (c : Constraint) (b : Bool) → b ≡ holds_at m k a → slice_get m.constraints k.0 ≡ Some c → IsTrue b ↔ Holds m a c

@@ -10,6 +10,7 @@ use Rattle.sched_model.specs.declared.types.Window.{Window}
 use Rattle.sched_model.specs.Data.{Data, parts_of}
 use Rattle.sched_model.specs.Words.{◌implies◌, is_between, total}
 use Rattle.sched_model.specs.Cumulative.{begin_of, changes_of, corners, is_in_window, is_level_at, level_at, shape_at, signed}
+use Rattle.base_laws.specs.laws.Numbers.{regroup}
 
 pub level_by : (m : Data) (a : Assignment) (f : Cum) (w : Window) (lo hi t lo' hi' t' z z' : ℤ) (is : List Part) (b : Bool) → true ≡ is_in_window a w t' → is ≡ parts_of m f
     → z ≡ total (map (λ i. signed i.minus (shape_at a i.shape t')) is) → b ≡ is_between lo' hi' z' → t' ≡ t → lo' ≡ lo → hi' ≡ hi → z' ≡ z → b ≡ is_level_at m a f w lo hi t
@@ -21,9 +22,6 @@ level_by m a f w lo hi t lo' hi' t' z z' is b inside parts sum within same_t sam
 
 pub level_fails : (m : Data) (a : Assignment) (f : Cum) (w : Window) (lo hi t : ℤ) → t ≡ begin_of a w → false ≡ is_level_at m a f w lo hi t → false ≡ list_all (is_level_at m a f w lo hi) (corners m a f w)
 level_fails m a f w lo hi t begin h = ap (λ b. b && list_all (is_level_at m a f w lo hi) (flat_map (λ i. changes_of a i.shape) (parts_of m f))) (h ∙ ap (is_level_at m a f w lo hi) begin)
-
-regroup : (x y z w : ℤ) → w ≡ x +ℤ y → x +ℤ (y +ℤ z) ≡ w +ℤ z
-regroup x y z w h = omega (arith, ints, h)
 
 -- one more part in the sum, and the end
 pub sum_turn : {X : Type 0} (f : X → ℤ) (xs : List X) (i : ℕ) (d : X) (z sum sum' whole : ℤ) → sum +ℤ total (map f (drop i xs)) ≡ whole → i < length xs → z ≡ f (get_or xs i d) → sum' ≡ sum +ℤ z

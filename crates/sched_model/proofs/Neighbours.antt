@@ -19,7 +19,7 @@ use Rattle.sched_model.specs.Domain.{fits_def, is_in_domain}
 use Rattle.sched_model.specs.Valid.{IsValid, is_interval_def}
 use Rattle.sched_model.specs.Value.{start_or, end_or}
 use Rattle.sched_model.specs.Sequence.{RunsForward, has_no_overlap, is_apart}
-use Rattle.sched_model.proofs.Elements.{fits_from_domain}
+use Rattle.sched_model.specs.laws.Domain.{slots_fit}
 
 ends_later : (d : IntervalDef) (s : Slot) → is_interval_def d ≡ true → fits_def d s ≡ true → start_or (pos 0) s ≤ℤ end_or (pos 0) s
 ends_later d Absent valid fits = omega (arith, ints)
@@ -37,7 +37,7 @@ each_ends_later (d ∷ ds) [] valid fits i = cc
 
 -- in the domain of a valid model no interval ends before it starts
 pub runs_forward : (m : Data) (a : Assignment) → IsValid m → is_in_domain m a ≡ true → RunsForward a
-runs_forward m a valid domain x = each_ends_later m.intervals a.slots valid.intervals (fits_from_domain m a domain) x.0
+runs_forward m a valid domain x = each_ends_later m.intervals a.slots valid.intervals (slots_fit m a domain) x.0
 
 apart_through : (a : Assignment) (x y z : Itv) → RunsForward a → is_apart a (pos 0) x y ≡ true → is_apart a (pos 0) y z ≡ true → is_apart a (pos 0) x z ≡ true
 apart_through a x y z forward h i = let later = forward y in grind (arith, ints, later)

@@ -7,6 +7,7 @@ use Rattle.std.proofs.lemmas.List.{at_drop_more, take_rest}
 use Rattle.sched_base.specs.declared.ids.Itv.{Itv}
 use Rattle.sched_model.specs.Data.{same, has}
 use Rattle.sched_model.specs.Sequence.{stands_before, stands_next}
+use Rattle.sched_model.specs.laws.Members.{has_last}
 
 and_false : (p : Bool) → (p && false) ≡ false
 and_false true = refl
@@ -78,10 +79,6 @@ behind_none (z ∷ zs) l x y h =
 each_behind_none : (front ys : List Itv) (l x : Itv) → has front x ≡ false → list_all (λ y. not (stands_before (front ++ l ∷ []) x y)) ys ≡ true
 each_behind_none front [] l x h = refl
 each_behind_none front (y ∷ ys) l x h = and_from _ _ (not_from_false _ (behind_none front l x y h)) (each_behind_none front ys l x h)
-
-has_last : (front : List Itv) (l : Itv) → has (front ++ l ∷ []) l ≡ true
-has_last [] l = or_left _ false (itself l)
-has_last (z ∷ zs) l = or_right (same l z) _ (has_last zs l)
 
 -- each other stands before the last
 last_behind : (front : List Itv) (l x : Itv) → has front x ≡ true → stands_before (front ++ l ∷ []) x l ≡ true

@@ -14,6 +14,7 @@ use Rattle.sched_model.specs.Words.{◌implies◌, is_between, pairwise}
 use Rattle.sched_model.specs.Data.{Data, distance, matrix_of, cell_at}
 use Rattle.sched_model.specs.Domain.{is_row, is_segment, keeps_distance}
 use Rattle.sched_model.specs.Sweep.{is_of, keeps_from, begins_after, later_end, end_with}
+use Rattle.sched_model.specs.laws.Words.{implied, if_implied}
 use Rattle.std.proofs.lemmas.List.{at_drop_more}
 use Rattle.base_laws.specs.laws.Items.{all_weaker}
 
@@ -103,29 +104,21 @@ pairs_implied p q r each (x ∷ xs) h i =
 abbrev pub keeps_below : Data → StateDef → ℕ → Segment → Segment → Bool
 keeps_below m g v i j = nat_lt (nat_abs i.v) v implies keeps_distance m g i j
 
-pub implied_true : (p q : Bool) → (p ≡ true → q ≡ true) → (p implies q) ≡ true
-implied_true true q h = h refl
-implied_true false q h = refl
-
-pub implied : (p q : Bool) → (p implies q) ≡ true → p ≡ true → q ≡ true
-implied true q h is = h
-implied false q h is = cc
-
 pub below_none : (m : Data) (g : StateDef) (is : List Segment) → pairwise (keeps_below m g 0) is ≡ true
 below_none m g [] = refl
 below_none m g (i ∷ is) = and_from _ _ (each is) (below_none m g is)
   where
     each : (js : List Segment) → list_all (keeps_below m g 0 i) js ≡ true
     each [] = refl
-    each (j ∷ js) = and_from _ _ (implied_true (nat_lt (nat_abs i.v) 0) _ (λ h. grind (arith, nat_tests))) (each js)
+    each (j ∷ js) = and_from _ _ (if_implied (nat_lt (nat_abs i.v) 0) _ (λ h. grind (arith, nat_tests))) (each js)
 
 pub below_more_state : (m : Data) (g : StateDef) (is : List Segment) (v w : ℕ) → pairwise (keeps_below m g v) is ≡ true → w ≡ v → true ≡ pairwise (keeps_from m g false w) is → pairwise (keeps_below m g (v + 1)) is ≡ true
 below_more_state m g is v w h same from = let i : pairwise (keeps_from m g false v) is ≡ true = ap (λ n. pairwise (keeps_from m g false n) is) (sym same) ∙ sym from in
     pairs_implied (keeps_below m g v) (keeps_from m g false v) (keeps_below m g (v + 1)) (λ i j below at. decided i j (nat_eq (nat_abs i.v) v) refl below at) is h i
   where
     decided : (i j : Segment) (b : Bool) → nat_eq (nat_abs i.v) v ≡ b → keeps_below m g v i j ≡ true → keeps_from m g false v i j ≡ true → keeps_below m g (v + 1) i j ≡ true
-    decided i j true same below at = implied_true _ _ (λ h. implied (nat_eq (nat_abs i.v) v) _ at same)
-    decided i j false other below at = implied_true _ _ (λ h. implied (nat_lt (nat_abs i.v) v) _ below (smaller (nat_abs i.v) v h other))
+    decided i j true same below at = if_implied _ _ (λ h. implied (nat_eq (nat_abs i.v) v) _ at same)
+    decided i j false other below at = if_implied _ _ (λ h. implied (nat_lt (nat_abs i.v) v) _ below (smaller (nat_abs i.v) v h other))
       where
         smaller : (n v : ℕ) → nat_lt n (v + 1) ≡ true → nat_eq n v ≡ false → nat_lt n v ≡ true
         smaller n v h e = grind (arith, nat_tests)

@@ -1,11 +1,11 @@
 -- One step of a walk over some expressions that joins their values.
-use Rattle.std.proofs.Common.{◌≡◌, ℕ, ◌+◌, ◌<◌, ℤ, ◌+ℤ◌, ◌*ℤ◌, Bool, true, false, ◌&&◌, ◌||◌, List, [], ◌∷◌, ◌++◌, length, map, drop, get_or, fold, Option, Some, None, refl, sym, ap, ◌∙◌, arith}
+use Rattle.std.proofs.Common.{◌≡◌, ℕ, ◌+◌, ◌<◌, ℤ, ◌+ℤ◌, ◌*ℤ◌, Bool, true, false, ◌&&◌, ◌||◌, List, [], ◌∷◌, ◌++◌, length, map, drop, get_or, fold, Option, Some, None, refl, sym, ap, ◌∙◌}
 use Rattle.std.specs.Int.{saturate_signed, w128}
 use Rattle.std.specs.List.{list_all, list_any}
 use Rattle.std.specs.Option.{option_to_list}
-use Rattle.std.proofs.lemmas.Int.{ints}
 use Rattle.std.proofs.lemmas.List.{at_drop_more}
 use Rattle.sched_model.specs.Words.{total, greatest, least}
+use Rattle.base_laws.specs.laws.Numbers.{regroup}
 
 -- the next value, at the front of what is left
 next_value : {A X : Type 0} (F : List ℤ → A) (f : X → ℤ) (xs : List X) (i : ℕ) (x : X) (z : ℤ) → i < length xs → x ≡ get_or xs i x → z ≡ f x
@@ -14,9 +14,6 @@ next_value F f xs i x z within at_i is =
     at_drop_more (λ ys. F (map f ys)) xs i x within
     ∙ ap (λ y. F (f y ∷ map f (drop (i + 1) xs))) (sym at_i)
     ∙ ap (λ o. F (o ∷ map f (drop (i + 1) xs))) (sym is)
-
-regroup : (x y z w : ℤ) → w ≡ x +ℤ y → x +ℤ (y +ℤ z) ≡ w +ℤ z
-regroup x y z w h = omega (arith, ints, h)
 
 pub total_turn : {X : Type 0} (f : X → ℤ) (xs : List X) (i : ℕ) (x : X) (z sum sum' whole : ℤ) → sum +ℤ total (map f (drop i xs)) ≡ whole → i < length xs → x ≡ get_or xs i x → z ≡ f x → sum' ≡ sum +ℤ z
     → sum' +ℤ total (map f (drop (i + 1) xs)) ≡ whole

@@ -9,3 +9,5 @@ pub mod Limits
 pub mod Members
 pub mod Names
 pub mod Listed
+pub mod Words
+pub mod Domain

@@ -18,6 +18,7 @@ mod types;
 mod values;
 mod whole;
 
+pub use distances::distance;
 pub use domain::in_domain;
 pub use hulls::hull;
 pub use sched_base::{Boxed, Con, Cum, H, Itv, List, Mat, NoMemory, Seq, Stf};

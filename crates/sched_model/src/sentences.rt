@@ -35,7 +35,7 @@ fn are_both_present(a: &Assignment, x: Itv, y: Itv) -> bool
     is_present(a, x) && is_present(a, y)
 }
 
-#[tactic(auto, using(crate::proofs::Elements::fits_from_domain))]
+#[tactic(auto, using(crate::specs::laws::Domain::slots_fit))]
 fn holds_in(model: &Model, c: &Constraint, a: &Assignment) -> bool
     requires model { IsValid model.now }
     requires valid { is_constraint model.now c.now ≡ true }
@@ -86,7 +86,7 @@ fn holds_in(model: &Model, c: &Constraint, a: &Assignment) -> bool
     }
 }
 
-#[tactic(auto, using(crate::proofs::Elements::valid_there, crate::proofs::Elements::fits_from_domain))]
+#[tactic(auto, using(crate::proofs::Elements::valid_there, crate::specs::laws::Domain::slots_fit))]
 fn holds_there(model: &Model, c: Con, a: &Assignment) -> bool
     requires { is_in_domain model.now a.now ≡ true }
     ensures { result ≡ holds_at model.now c a.now }
@@ -109,7 +109,7 @@ pub fn holds(model: &Model, c: Con, a: &Assignment) -> bool
 }
 
 /// The value of the objective; none exactly where the model has no objective.
-#[tactic(auto, using(crate::proofs::Elements::objective_hull, crate::proofs::Elements::fits_from_domain))]
+#[tactic(auto, using(crate::proofs::Elements::objective_hull, crate::specs::laws::Domain::slots_fit))]
 pub fn value(model: &Model, a: &Assignment) -> Option<i64>
     requires { is_in_domain model.now a.now ≡ true }
     ensures { result ≡ objective_of model.now a.now }
@@ -140,7 +140,7 @@ fn all_hold(model: &Model, a: &Assignment) -> bool
 }
 
 /// Whether the assignment is a solution: in the domain, and every constraint holds.
-#[tactic(auto, using(crate::specs::laws::Tested::solution_from_test, crate::specs::laws::Tested::test_from_solution, crate::proofs::Elements::fits_from_domain))]
+#[tactic(auto, using(crate::specs::laws::Tested::solution_from_test, crate::specs::laws::Tested::test_from_solution, crate::specs::laws::Domain::slots_fit))]
 pub fn is_solution(model: &Model, a: &Assignment) -> bool
     ensures test { result ≡ is_solution model.now a.now }
     ensures fact { IsTrue result ↔ IsSolution model.now a.now }

@@ -6,6 +6,7 @@ use Rattle.iqueue.specs.Queue.{is_in}
 use Rattle.wake_levels.specs.Waking.{Waking, is_awake, is_in_any, woken_on}
 use Rattle.wake_levels.specs.Calm.{WakesEach}
 use Rattle.wake_levels.specs.laws.Turning.{kept_on, has_on, count_on}
+use Rattle.base_laws.specs.laws.Numbers.{below_or_last}
 
 only : (j k : ℕ) → is_in j (k ∷ []) ≡ true → j ≡ k
 only j k h = same j k h
@@ -45,9 +46,6 @@ wakes_more ks n k a b c before within is now = record {
 }
 
 -- each below k, and then k
-below_or_last : (j k : ℕ) → j < k + 1 → (j < k) ⊎ (j ≡ k)
-below_or_last j k h = grind arith
-
 here : (k : ℕ) → is_in k (k ∷ []) ≡ true
 here k = self k
   where

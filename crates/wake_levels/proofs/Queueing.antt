@@ -1,5 +1,5 @@
 -- The lists of queues of which one is changed.
-use Rattle.std.proofs.Common.{◌≡◌, ◌⊎◌, ℕ, zero, suc, ◌+◌, ◌<◌, List, [], ◌∷◌, length, set, drop, replicate, get_or, slice_get, Option, option_map, Some, None, refl, sym, ap, arith, ◌∙◌}
+use Rattle.std.proofs.Common.{◌≡◌, ℕ, zero, suc, ◌+◌, ◌<◌, List, [], ◌∷◌, length, set, drop, replicate, get_or, slice_get, Option, option_map, Some, None, refl, sym, ap, arith, ◌∙◌}
 use Rattle.std.specs.Prelude.{IfSome, IfNone}
 use Rattle.iqueue.specs.Queue.{Queue, woken, AreDistinctBelow}
 use Rattle.wake_levels.specs.declared.levels.Turn.{Turn}
@@ -116,6 +116,3 @@ first_below n k (j ∷ ks) is distinct = let same : k ≡ j = cc in rw same dist
 pub empty_list : (ks : List ℕ) → None ≡ slice_get ks 0 → ks ≡ []
 empty_list [] is = refl
 empty_list (k ∷ ks) is = cc
-
-pub below_or_last : (j k : ℕ) → j < k + 1 → (j < k) ⊎ (j ≡ k)
-below_or_last j k h = grind arith

@@ -1,7 +1,7 @@
 -- What all items of a list pass, and what none passes.
-use Rattle.std.proofs.Common.{◌≡◌, ℕ, zero, suc, Bool, true, false, List, [], ◌∷◌, ◌++◌, slice_get, Some, refl, sym, ap, ◌∙◌}
+use Rattle.std.proofs.Common.{◌||◌, ◌≡◌, ℕ, zero, suc, Bool, true, false, List, [], ◌∷◌, ◌++◌, slice_get, Some, refl, sym, ap, ◌∙◌}
 use Rattle.std.specs.List.{list_all, list_any}
-use Rattle.std.proofs.lemmas.Bool.{and_parts, and_from, or_parts, or_from}
+use Rattle.std.proofs.lemmas.Bool.{and_parts, and_from, or_parts, or_from, or_left, or_right}
 use Rattle.std.proofs.lemmas.List.Folds.{list_all-append}
 
 -- what follows from a test that all items pass holds of all
@@ -30,3 +30,12 @@ none_split p (x ∷ xs) ys none =
     let parts = or_parts (p x) (list_any p (xs ++ ys)) none in
     let rest = none_split p xs ys parts.1 in
     (or_from (p x) (list_any p xs) parts.0 rest.0, rest.1)
+
+-- some item passes a weaker test where one passes the stronger
+pub any_weaker : {X : Type 0} (p q : X → Bool) → ((x : X) → p x ≡ true → q x ≡ true) → (xs : List X) → list_any p xs ≡ true → list_any q xs ≡ true
+any_weaker p q f [] h = h
+any_weaker p q f (x ∷ xs) h = by_case (p x) (f x) (any_weaker p q f xs) h
+  where
+    by_case : (b : Bool) → (b ≡ true → q x ≡ true) → (list_any p xs ≡ true → list_any q xs ≡ true) → (b || list_any p xs) ≡ true → (q x || list_any q xs) ≡ true
+    by_case true now later h = or_left (q x) (list_any q xs) (now refl)
+    by_case false now later h = or_right (q x) (list_any q xs) (later h)

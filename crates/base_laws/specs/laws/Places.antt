@@ -1,5 +1,6 @@
 -- Which item stands at a place of a list, and where the first stands that passes.
-use Rattle.std.proofs.Common.{◌≡◌, ℕ, zero, suc, ◌+◌, Bool, true, false, not, ◌||◌, cond, List, [], ◌∷◌, ◌++◌, length, slice_get, position, Option, Some, None, is_some, is_none, unwrap_or, nat_lt, refl, ap, ◌∙◌, arith}
+use Rattle.std.proofs.Common.{◌≡◌, ℕ, zero, suc, ◌+◌, Bool, true, false, not, ◌||◌, cond, List, [], ◌∷◌, ◌++◌, length, slice_get, position, Option, Some, None, is_some, is_none, unwrap_or, nat_lt, refl, ap, ◌∙◌, arith, ◌<◌, get_or, sym}
+use Rattle.std.proofs.Math.Seq.{get_or-append_seam}
 use Rattle.std.specs.List.{position_or_len, list_any}
 use Rattle.std.proofs.lemmas.Bool.Decides.{nat_tests}
 use Rattle.base_laws.specs.laws.Numbers.{none_below_zero, one_less}
@@ -64,3 +65,13 @@ found p xs = some_if (nat_lt (position_or_len p xs) (length xs)) (position_or_le
 pub found_below : (c : Bool) (i n : ℕ) → nat_lt i n ≡ c → is_none (cond c (Some i) None) ≡ false → nat_lt (unwrap_or (cond c (Some i) None) 0) n ≡ true
 found_below true i n is there = is
 found_below false i n is there = cc
+
+-- an item that is read inside a list stands there
+pub there : {X : Type 0} (xs : List X) (n : ℕ) (x d : X) → n < length xs → x ≡ get_or xs n d → slice_get xs n ≡ Some x
+there [] n x d h at = absurd (omega (arith, h))
+there (y ∷ xs) zero x d h at = ap Some (sym at)
+there (y ∷ xs) (suc n) x d h at = there xs n x d (omega (arith, h)) at
+
+-- the item that was put last is read at the length before
+pub newest : {X : Type 0} (n : ℕ) (xs : List X) (x d : X) → n ≡ length xs → get_or (xs ++ x ∷ []) n d ≡ x
+newest n xs x d is = ap (λ k. get_or (xs ++ x ∷ []) k d) is ∙ get_or-append_seam xs x [] d

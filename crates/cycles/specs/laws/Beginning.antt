@@ -7,9 +7,7 @@ use Rattle.refute_basic.specs.declared.edge.Arc.{Arc}
 use Rattle.cycles.specs.declared.node.Node.{Node}
 use Rattle.cycles.specs.Search.{node_at, no_node, bound, IsSearch, IsShort}
 use Rattle.cycles.specs.Begun.{IsBegun}
-
-below_or_last : (j k : ℕ) → j < k + 1 → (j < k) ⊎ (j ≡ k)
-below_or_last j k h = grind arith
+use Rattle.base_laws.specs.laws.Numbers.{below_or_last}
 
 pub begun_more : (nodes : List Node) (last : List ℕ) (n : ℕ) (x : Node) → x.point ≡ n → x.len ≡ 0 → neg_ℤ (pos (2 ^ 63)) ≤ℤ x.value → x.value ≤ℤ pos (2 ^ 63)
     → IsBegun nodes last n → IsBegun (nodes ++ x ∷ []) (last ++ n ∷ []) (n + 1)

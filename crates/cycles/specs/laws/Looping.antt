@@ -8,7 +8,8 @@ use Rattle.refute_basic.specs.declared.edge.Arc.{Arc}
 use Rattle.cycles.specs.Walks.{arc_at, picked, leads, is_closed, total, IsGain}
 use Rattle.cycles.specs.Search.{Search, node_at, IsSearch}
 use Rattle.cycles.specs.Ways.{Reach, Reach.there, Reach.further, IsLoop, IsRead, IsReading}
-use Rattle.cycles.specs.laws.Walking.{both_true, same_nat, leads_more, total_more, picked_more, places_more}
+use Rattle.cycles.specs.laws.Walking.{same_nat, leads_more, total_more, picked_more, places_more}
+use Rattle.std.proofs.lemmas.Bool.{and_parts}
 
 -- walks lead to earlier nodes
 pub reach_falls : (arcs : List Arc) (n : ℕ) (s : Search) (to k : ℕ) → IsSearch arcs n s → Reach s.nodes n to k → to ≤ k
@@ -65,7 +66,7 @@ reads_on arcs n s from to walk y is other reading = by_case (node_at s.nodes y).
 closes : (bs : List Arc) (from to : ℕ) → 0 < length bs → leads from bs to ≡ true → to ≡ from → is_closed bs ≡ true
 closes [] from to some lead e = absurd (omega (arith, some))
 closes (b ∷ bs) from to some lead e =
-    let two = both_true (nat_eq from b.tail) (leads b.head bs to) lead in
+    let two = and_parts (nat_eq from b.tail) (leads b.head bs to) lead in
     subst (λ (p : ℕ). leads b.head bs p ≡ true) (e ∙ same_nat from b.tail two.0) two.1
 
 pub read_gains : (arcs : List Arc) (n : ℕ) (s : Search) (from to : ℕ) (walk : List ℕ) → IsSearch arcs n s → IsLoop s.nodes n from to → 0 < length walk → IsRead arcs s.nodes from walk to → IsGain arcs n walk

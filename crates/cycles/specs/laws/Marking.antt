@@ -10,14 +10,11 @@ use Rattle.cycles.specs.declared.node.Node.{Node}
 use Rattle.cycles.specs.Search.{Search, node_at, IsSearch}
 use Rattle.cycles.specs.Ways.{Reach, Reach.there, Reach.further, IsLoop, is_in, AreDistinct, IsMark, IsMarked}
 use Rattle.cycles.specs.laws.Pushed.{same_or_not}
-
-or_false : (p q : Bool) → (p || q) ≡ false → (p ≡ false) × (q ≡ false)
-or_false true q h = cc
-or_false false q h = (refl, h)
+use Rattle.std.proofs.lemmas.Bool.{or_parts}
 
 none_same : (p : ℕ) (ps : List ℕ) → is_in p ps ≡ false → AllByRecursion (λ q. nat_eq p q ≡ false) ps
 none_same p [] h = tt
-none_same p (q ∷ ps) h = let two = or_false (nat_eq p q) (is_in p ps) h in (two.0, none_same p ps two.1)
+none_same p (q ∷ ps) h = let two = or_parts (nat_eq p q) (is_in p ps) h in (two.0, none_same p ps two.1)
 
 distinct : (ps : List ℕ) → AreDistinct ps → IsDistinct nat_eq ps
 unfolding IsDistinct

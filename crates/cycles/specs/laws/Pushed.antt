@@ -9,9 +9,7 @@ use Rattle.cycles.specs.declared.node.Node.{Node}
 use Rattle.cycles.specs.Walks.{arc_at}
 use Rattle.cycles.specs.Search.{Search, node_at, no_node, last_of, height, stage, is_late, IsLink, bound, IsSearch, IsShort, IsOn}
 use Rattle.cycles.specs.Pushes.{pushed, node_by}
-
-pub below_or_last : (j k : ℕ) → j < k + 1 → (j < k) ⊎ (j ≡ k)
-below_or_last j k h = grind arith
+use Rattle.base_laws.specs.laws.Numbers.{below_or_last}
 
 pub same_or_not : (i j : ℕ) → (i ≡ j) ⊎ (i ≡ j → ⊥)
 same_or_not i j = by_case (nat_eq i j) refl

@@ -5,11 +5,7 @@ use Rattle.std.proofs.lemmas.Int.{ints}
 use Rattle.std.proofs.lemmas.Bool.Decides.{nat_tests}
 use Rattle.refute_basic.specs.declared.edge.Arc.{Arc}
 use Rattle.cycles.specs.Walks.{arc_at, picked, leads, is_closed, total, are_places, HasNoGain}
-
-pub both_true : (p q : Bool) → (p && q) ≡ true → (p ≡ true) × (q ≡ true)
-both_true true true h = (refl, refl)
-both_true true false h = cc
-both_true false q h = cc
+use Rattle.std.proofs.lemmas.Bool.{and_parts}
 
 pub same_nat : (i j : ℕ) → nat_eq i j ≡ true → i ≡ j
 same_nat i j h = grind (arith, nat_tests)
@@ -28,7 +24,7 @@ walk_kept h [] from to keep lead = at (h from) (h to) (ap h (same_nat from to le
     at : (a b : ℤ) → a ≡ b → (pos 0 +ℤ b) ≤ℤ a
     at a b e = omega (arith, ints, e)
 walk_kept h (a ∷ bs) from to keep lead =
-    let two = both_true (nat_eq from a.tail) (leads a.head bs to) lead in
+    let two = and_parts (nat_eq from a.tail) (leads a.head bs to) lead in
     at (h from) (h a.tail) (h a.head) (h to) a.weight (total bs) (ap h (same_nat from a.tail two.0)) keep.0 (walk_kept h bs a.head to keep.1 two.1)
   where
     at : (f t d e w s : ℤ) → f ≡ t → (w +ℤ d) ≤ℤ t → (s +ℤ e) ≤ℤ d → ((w +ℤ s) +ℤ e) ≤ℤ f
@@ -44,7 +40,7 @@ closed_kept h (a ∷ bs) keep closed = at (h a.head) (h a.tail) a.weight (total 
 picked_keep : (h : ℕ → ℤ) (arcs : List Arc) (is : List ℕ) → ((i : ℕ) → i < length arcs → Keeps h (arc_at arcs i)) → are_places arcs is ≡ true → AllKeep h (picked arcs is)
 picked_keep h arcs [] keep places = tt
 picked_keep h arcs (i ∷ is) keep places =
-    let two = both_true (nat_lt i (length arcs)) (are_places arcs is) places in
+    let two = and_parts (nat_lt i (length arcs)) (are_places arcs is) places in
     (keep i (below i (length arcs) two.0), picked_keep h arcs is keep two.1)
   where
     below : (i n : ℕ) → nat_lt i n ≡ true → i < n
@@ -61,7 +57,7 @@ leads_more [] a from to lead e = at from a.tail a.head to lead e
     at : (f t h to : ℕ) → nat_eq f t ≡ true → h ≡ to → (nat_eq f t && nat_eq h to) ≡ true
     at f t h to i j = grind (arith, nat_tests)
 leads_more (b ∷ bs) a from to lead e =
-    let two = both_true (nat_eq from b.tail) (leads b.head bs a.tail) lead in
+    let two = and_parts (nat_eq from b.tail) (leads b.head bs a.tail) lead in
     true_both _ _ two.0 (leads_more bs a b.head to two.1 e)
   where
     true_both : (p q : Bool) → p ≡ true → q ≡ true → (p && q) ≡ true
@@ -86,7 +82,7 @@ places_more arcs [] i places within = at i (length arcs) within
     at : (i n : ℕ) → i < n → (nat_lt i n && true) ≡ true
     at i n h = grind (arith, nat_tests)
 places_more arcs (j ∷ is) i places within =
-    let two = both_true (nat_lt j (length arcs)) (are_places arcs is) places in
+    let two = and_parts (nat_lt j (length arcs)) (are_places arcs is) places in
     both (nat_lt j (length arcs)) _ two.0 (places_more arcs is i two.1 within)
   where
     both : (p q : Bool) → p ≡ true → q ≡ true → (p && q) ≡ true

@@ -3,6 +3,7 @@ use Rattle.std.specs.Prelude.{◌≡◌, ℕ, zero, suc, ◌≤◌, Bool, true, 
 use Rattle.std.proofs.Common.{refl, sym, ap, subst, ◌∙◌, arith, get_or}
 use Rattle.std.proofs.lemmas.Bool.Decides.{nat_tests}
 use Rattle.std.proofs.lemmas.List.{get_or_past}
+use Rattle.std.proofs.lemmas.Bool.{or_left, or_right}
 use Rattle.sched_base.specs.declared.ids.Itv.{Itv}
 use Rattle.sched_base.specs.declared.ids.Seq.{Seq}
 use Rattle.sched_model.specs.Data.{Data, same, has}
@@ -21,11 +22,11 @@ use Rattle.region.specs.Orders.{order_in, says_unknown}
 use Rattle.region.specs.Cells.{Region, bounds_of, cells_of, unknown, says_absent}
 use Rattle.region.specs.Claims.{guessed, as_present, is_open_at}
 use Rattle.region.specs.Guesses.{admits, admits_topic, assumed, topic, with_guess, with_bounds, changed_at, SameCell}
-use Rattle.region.specs.Looks.{IsRegionOf, is_narrowed}
-use Rattle.region.specs.laws.Lists.{length-changed_at, placewise-length}
-use Rattle.region.specs.laws.OneSequence.{has_first, has_later, order_told}
+use Rattle.region.specs.Looks.{IsRegionOf}
+use Rattle.region.specs.laws.Lists.{length-changed_at}
+use Rattle.region.specs.laws.OneSequence.{order_told}
 use Rattle.region.specs.laws.Pairs.{IsPaired, paired, pairs_at, cells_there, cells_elsewhere}
-use Rattle.region.specs.laws.Narrowing.{as_many, members_are}
+use Rattle.region.specs.laws.Narrowing.{as_many, members_are, as_many_bounds}
 use Rattle.region.specs.laws.Standing.{SameFive, same_bounds}
 use Rattle.findings.specs.Ends.{is_end_at, is_end, is_open_end}
 use Rattle.findings.specs.Reads.{Reads, AreAlike, reads_cell, is_among, is_paired}
@@ -41,9 +42,6 @@ changed_alike h f keeps zero zero (x ∷ xs) (y ∷ ys) d size same = keeps x y 
 changed_alike h f keeps zero (suc i) (x ∷ xs) (y ∷ ys) d size same = same
 changed_alike h f keeps (suc n) zero (x ∷ xs) (y ∷ ys) d size same = same
 changed_alike h f keeps (suc n) (suc i) (x ∷ xs) (y ∷ ys) d size same = changed_alike h f keeps n i xs ys d (omega (arith, size)) same
-
-pub as_many_bounds : (m : Data) (r : Region) → IsRegionOf m r → length m.intervals ≡ length r.bounds
-as_many_bounds m r of = placewise-length is_narrowed m.intervals r.bounds of.bounds
 
 same_size : (m : Data) (r q : Region) → IsRegionOf m r → IsRegionOf m q → length r.bounds ≡ length q.bounds
 same_size m r q of also = sym (as_many_bounds m r of) ∙ as_many_bounds m q also
@@ -157,12 +155,12 @@ bounds_alike m r q x of also five = by_case (nat_lt x.0 (length m.intervals)) re
 pub alike_from_cells : (m : Data) (reads : Reads) (r q : Region) → IsRegionOf m r → IsRegionOf m q → ((c : CellName) → IsTrue (reads_cell reads c) → SameCell c r q) → AreAlike reads r q
 alike_from_cells m reads r q of also cells = record {
   bounds = λ x one. bounds_alike m r q x of also (record {
-    presence = cells (cell.Presence x) (has_first (has reads.intervals x) (is_paired reads.pairs x) one);
+    presence = cells (cell.Presence x) (or_left (has reads.intervals x) (is_paired reads.pairs x) one);
     smin = cells (cell.StartMin x) one;
     smax = cells (cell.StartMax x) one;
     emin = cells (cell.EndMin x) one;
     emax = cells (cell.EndMax x) one;
   });
-  presences = λ x one. cells (cell.Presence x) (has_later (has reads.intervals x) (is_paired reads.pairs x) one);
+  presences = λ x one. cells (cell.Presence x) (or_right (has reads.intervals x) (is_paired reads.pairs x) one);
   orders = λ p x y one. cells (cell.Order p x y) one;
 }

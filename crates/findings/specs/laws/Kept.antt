@@ -20,6 +20,11 @@ pub asked_admits : (lists : Guess → Bool) (r : Region) (guess : Option Guess) 
 asked_admits lists r None asked = refl
 asked_admits lists r (Some g) asked = (both_true (admits r g) (is_end r (topic g)) (both_true (lists g) (is_open_end r g) asked).1).0
 
+-- what lists more guesses is asked wherever the other is
+pub asked_more : (p q : Guess → Bool) (r : Region) (guess : Option Guess) → ((g : Guess) → p g ≡ true → q g ≡ true) → is_asked p r guess ≡ true → is_asked q r guess ≡ true
+asked_more p q r None more asked = refl
+asked_more p q r (Some g) more asked = let two = both_true (p g) (is_open_end r g) asked in true_both (q g) (is_open_end r g) (more g two.0) two.1
+
 -- a guess that two regions admit
 alike_at : (m : Data) (reads : Reads) (guess : Option Guess) (r q : Region) (b c : Option ℤ) → IsRegionOf m r → IsRegionOf m q → passes_if_any (admits r) guess ≡ true → passes_if_any (admits q) guess ≡ true
     → AreAlike reads r q → AreAlike reads (seen_at r b guess).region (seen_at q c guess).region

@@ -3,34 +3,29 @@ use Rattle.std.specs.Prelude.{◌≡◌, ◌⊎◌, ℕ, zero, suc, ◌<◌, Boo
 use Rattle.std.proofs.Common.{inl, inr, refl, sym, ap, ◌∙◌, arith, take, get_or}
 use Rattle.std.proofs.lemmas.Bool.Decides.{nat_tests}
 use Rattle.std.specs.List.{list_any}
+use Rattle.std.proofs.lemmas.Bool.{or_left, or_right}
 use Rattle.sched_base.specs.declared.ids.Itv.{Itv}
 use Rattle.sched_base.specs.declared.ids.Seq.{Seq}
 use Rattle.sched_model.specs.Data.{same}
 use Rattle.region.specs.laws.Lists.{both_true, true_both}
-use Rattle.region.specs.laws.OneSequence.{same_is, has_cases, has_first, has_later}
+use Rattle.region.specs.laws.OneSequence.{same_is, has_cases}
 use Rattle.findings.specs.declared.finding.Pair.{Pair}
 use Rattle.findings.specs.Reads.{is_pair, has_pair, is_paired}
+use Rattle.base_laws.specs.laws.Items.{any_weaker}
 
 -- an element of the front of a list is the last of it, or one of those before
 pub any_more : {X : Type 0} (test : X → Bool) (xs : List X) (n : ℕ) (x : X) → n < length xs → x ≡ get_or xs n x → list_any test (take (suc n) xs) ≡ true → (test x ≡ true) ⊎ (list_any test (take n xs) ≡ true)
 any_more test [] n x within is h = absurd (omega (arith, within))
 any_more test (z ∷ zs) zero x within is h = elim (has_cases (test z) false h) [ inl e ↦ inl (ap test is ∙ e) | inr e ↦ cc ]
 any_more test (z ∷ zs) (suc n) x within is h = elim (has_cases (test z) (list_any test (take (suc n) zs)) h) [
-  | inl e ↦ inr (has_first (test z) (list_any test (take n zs)) e)
-  | inr e ↦ elim (any_more test zs n x (omega (arith, within)) is e) [ inl here ↦ inl here | inr before ↦ inr (has_later (test z) (list_any test (take n zs)) before) ]
+  | inl e ↦ inr (or_left (test z) (list_any test (take n zs)) e)
+  | inr e ↦ elim (any_more test zs n x (omega (arith, within)) is e) [ inl here ↦ inl here | inr before ↦ inr (or_right (test z) (list_any test (take n zs)) before) ]
 ]
 
 pub any_at : {X : Type 0} (test : X → Bool) (xs : List X) (n : ℕ) (x : X) → n < length xs → x ≡ get_or xs n x → test x ≡ true → list_any test xs ≡ true
 any_at test [] n x within is h = absurd (omega (arith, within))
-any_at test (z ∷ zs) zero x within is h = has_first (test z) (list_any test zs) (sym (ap test is) ∙ h)
-any_at test (z ∷ zs) (suc n) x within is h = has_later (test z) (list_any test zs) (any_at test zs n x (omega (arith, within)) is h)
-
-any_weaker : {X : Type 0} (p q : X → Bool) → ((x : X) → p x ≡ true → q x ≡ true) → (xs : List X) → list_any p xs ≡ true → list_any q xs ≡ true
-any_weaker p q f [] h = h
-any_weaker p q f (x ∷ xs) h = elim (has_cases (p x) (list_any p xs) h) [
-  | inl e ↦ has_first (q x) (list_any q xs) (f x e)
-  | inr e ↦ has_later (q x) (list_any q xs) (any_weaker p q f xs e)
-]
+any_at test (z ∷ zs) zero x within is h = or_left (test z) (list_any test zs) (sym (ap test is) ∙ h)
+any_at test (z ∷ zs) (suc n) x within is h = or_right (test z) (list_any test zs) (any_at test zs n x (omega (arith, within)) is h)
 
 -- the two of a pair are paired
 either_way : (a b c d : Bool) → ((a && b) || (c && d)) ≡ true → ((a || c) ≡ true) × ((b || d) ≡ true)
@@ -80,7 +75,7 @@ same_here : (n : ℕ) → nat_eq n n ≡ true
 same_here n = grind (arith, nat_tests)
 
 pub is_forward : (q : Pair) → is_pair q.sequence q.first q.second q ≡ true
-is_forward q = true_both (nat_eq q.sequence.0 q.sequence.0) _ (same_here q.sequence.0) (has_first _ _ (true_both (same q.first q.first) (same q.second q.second) (same_here q.first.0) (same_here q.second.0)))
+is_forward q = true_both (nat_eq q.sequence.0 q.sequence.0) _ (same_here q.sequence.0) (or_left _ _ (true_both (same q.first q.first) (same q.second q.second) (same_here q.first.0) (same_here q.second.0)))
 
 pub is_turned : (q : Pair) → is_pair q.sequence q.second q.first q ≡ true
-is_turned q = true_both (nat_eq q.sequence.0 q.sequence.0) _ (same_here q.sequence.0) (has_later _ _ (true_both (same q.second q.second) (same q.first q.first) (same_here q.second.0) (same_here q.first.0)))
+is_turned q = true_both (nat_eq q.sequence.0 q.sequence.0) _ (same_here q.sequence.0) (or_right _ _ (true_both (same q.second q.second) (same q.first q.first) (same_here q.second.0) (same_here q.first.0)))

@@ -94,7 +94,8 @@ no_number : (z : ℤ) → IsNumber z → signed_decimal z ≡ codes "none" → �
 no_number (pos n) h e = no_digits n (omega (arith, number_mag (pos n) h)) e
 no_number (negsuc n) h e = minus_is_no_letter (decimal (suc n)) (codes "one") e
 
-second : (a b c d : Bytes) → a ∷ b ∷ [] ≡ c ∷ d ∷ [] → b ≡ d
+-- two words tell the second
+pub second : (a b c d : Bytes) → a ∷ b ∷ [] ≡ c ∷ d ∷ [] → b ≡ d
 second a b c d e = cc
 
 -- the first byte of the first word

@@ -129,8 +129,9 @@ word_2 a b c d e f x y h = cc
 word_3 : (a b c d e f : Bytes) (x y : List Bytes) → a ∷ b ∷ c ∷ x ≡ d ∷ e ∷ f ∷ y → c ≡ f
 word_3 a b c d e f x y h = cc
 
-others_are : (a b c d e f : Bytes) (x y : List Bytes) → a ∷ b ∷ c ∷ x ≡ d ∷ e ∷ f ∷ y → x ≡ y
-others_are a b c d e f x y h = cc
+-- what stands behind three words
+pub behind_three : (a b c d e f : Bytes) (x y : List Bytes) → a ∷ b ∷ c ∷ x ≡ d ∷ e ∷ f ∷ y → x ≡ y
+behind_three a b c d e f x y h = cc
 
 segments_told : (ss ts : List Segment) → list_all is_spelled_segment ss ≡ true → list_all is_spelled_segment ts ≡ true → flat_map segment_words ss ≡ flat_map segment_words ts → ss ≡ ts
 segments_told [] [] hs ht e = refl
@@ -144,9 +145,10 @@ segments_told (s ∷ ss) (t ∷ ts) hs ht e =
     let h1 = and_parts (is_small s.p) (is_small s.q) h2.0 in
     let k1 = and_parts (is_small t.p) (is_small t.q) k2.0 in
     same_lists s t ss ts (same_segment s t (small_told s.p t.p h1.0 k1.0 (word_1 _ _ _ _ _ _ _ _ e)) (small_told s.q t.q h1.1 k1.1 (word_2 _ _ _ _ _ _ _ _ e)) (small_told s.v t.v h2.1 k2.1 (word_3 _ _ _ _ _ _ _ _ e)))
-    (segments_told ss ts h.1 k.1 (others_are _ _ _ _ _ _ _ _ e))
+    (segments_told ss ts h.1 k.1 (behind_three _ _ _ _ _ _ _ _ e))
 
-segments_are_words : (ss : List Segment) → list_all is_spelled_segment ss ≡ true → are_words (flat_map segment_words ss) ≡ true
+-- whatever spells segments are words
+pub segments_are_words : (ss : List Segment) → list_all is_spelled_segment ss ≡ true → are_words (flat_map segment_words ss) ≡ true
 segments_are_words [] h = refl
 segments_are_words (s ∷ ss) h =
     let two = and_parts (is_spelled_segment s) (list_all is_spelled_segment ss) h in

@@ -26,7 +26,8 @@ plain_bytes : (cs : Bytes) → list_all is_name_byte cs ≡ true → is_word cs 
 plain_bytes [] h = refl
 plain_bytes (c ∷ cs) h = let two = and_parts (is_name_byte c) (list_all is_name_byte cs) h in and_from (is_plain c) (is_word cs) (plain_byte c two.0) (plain_bytes cs two.1)
 
-name_is_word : (n : Bytes) → is_name n ≡ true → is_word n ≡ true
+-- a name is a word
+pub name_is_word : (n : Bytes) → is_name n ≡ true → is_word n ≡ true
 name_is_word [] h = cc
 name_is_word (c ∷ cs) h =
     let two = and_parts (is_letter c && list_all is_name_byte cs) (nat_lt (length cs) 64) h in

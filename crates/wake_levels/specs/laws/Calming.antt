@@ -1,38 +1,28 @@
 -- What keeps those that aren't awake quiet.
-use Rattle.std.specs.Prelude.{◌≡◌, ℕ, ◌<◌, Bool, true, false, IsTrue, length, Some, None, nat_eq}
+use Rattle.std.specs.Prelude.{◌≡◌, ℕ, ◌<◌, true, false, IsTrue, length, Some, None}
 use Rattle.std.proofs.Common.{refl, sym, subst, ◌∙◌, arith}
-use Rattle.std.proofs.lemmas.Bool.Decides.{nat_tests}
 use Rattle.std.proofs.lemmas.Bool.{true≢false}
 use Rattle.wake_levels.specs.declared.levels.Turn.{Turn}
 use Rattle.wake_levels.specs.Waking.{Waking, is_awake, first_turn, without_first, woken_on}
 use Rattle.wake_levels.specs.Calm.{IsCalm}
 use Rattle.wake_levels.specs.laws.Turning.{kept_on, has_on, none_in, kept_without, count_without}
+use Rattle.base_laws.specs.laws.Truth.{fails_before}
+use Rattle.base_laws.specs.laws.Numbers.{same_or_not}
 
 -- what isn't awake now wasn't
-asleep_before : (p q : Bool) → (p ≡ true → q ≡ true) → q ≡ false → p ≡ false
-asleep_before true q f h = absurd (true≢false (sym (f refl) ∙ h))
-asleep_before false q f h = refl
-
-same_or_not : (k j : ℕ) {X : Type 0} → (k ≡ j → X) → ((k ≡ j → ⊥) → X) → X
-same_or_not k j {X = X} same other = by_case (nat_eq k j) refl
-  where
-    by_case : (b : Bool) → nat_eq k j ≡ b → X
-    by_case true is = same (grind (arith, nat_tests))
-    by_case false is = other (λ e. grind (arith, nat_tests))
-
 -- where whoever was awake is, but perhaps one that is quiet
 pub calm_but : (k n : ℕ) (quiet : ℕ → Type 0) (a b : Waking) → IsCalm n quiet a → b.below ≡ a.below → ((j : ℕ) → (j ≡ k → ⊥) → IsTrue (is_awake a j) → IsTrue (is_awake b j)) → (is_awake b k ≡ false → quiet k) → IsCalm n quiet b
 calm_but k n quiet a b calm below kept here = record {
   below = below ∙ calm.below;
   others = λ j within asleep. same_or_not j k
       (λ e. subst quiet (sym e) (here (subst (λ i. is_awake b i ≡ false) e asleep)))
-      (λ other. calm.others j within (asleep_before (is_awake a j) (is_awake b j) (kept j other) asleep));
+      (λ other. calm.others j within (fails_before (is_awake a j) (is_awake b j) (kept j other) asleep));
 }
 
 pub calm_more : (n : ℕ) (quiet : ℕ → Type 0) (a b : Waking) → IsCalm n quiet a → b.below ≡ a.below → ((j : ℕ) → IsTrue (is_awake a j) → IsTrue (is_awake b j)) → IsCalm n quiet b
 calm_more n quiet a b calm below kept = record {
   below = below ∙ calm.below;
-  others = λ j within asleep. calm.others j within (asleep_before (is_awake a j) (is_awake b j) (kept j) asleep);
+  others = λ j within asleep. calm.others j within (fails_before (is_awake a j) (is_awake b j) (kept j) asleep);
 }
 
 -- the turn of one that is quiet may be dropped

@@ -1,31 +1,17 @@
 -- What a wake, and what a turn that is dropped, do to the levels.
-use Rattle.std.specs.Prelude.{◌≡◌, ℕ, zero, suc, ◌+◌, ◌-◌, ◌*◌, ◌<◌, ◌≤◌, Bool, true, false, ◌||◌, List, [], ◌∷◌, ◌++◌, length, Option, Some, None, nat_eq, option_map}
+use Rattle.std.specs.Prelude.{◌≡◌, ℕ, zero, suc, ◌+◌, ◌-◌, ◌*◌, ◌<◌, ◌≤◌, Bool, true, false, ◌||◌, List, [], ◌∷◌, length, Option, Some, None, nat_eq, option_map}
 use Rattle.std.proofs.Common.{refl, sym, ap, ◌∙◌, arith}
 use Rattle.std.proofs.lemmas.Bool.Decides.{nat_tests}
 use Rattle.std.proofs.lemmas.List.{length_push}
+use Rattle.std.proofs.lemmas.Bool.{or_left, or_right}
 use Rattle.iqueue.specs.Queue.{is_in, woken}
+use Rattle.iqueue.specs.laws.Ends.{in_end, in_push}
 use Rattle.wake_levels.specs.declared.levels.Turn.{Turn}
 use Rattle.wake_levels.specs.Waking.{is_in_any, weight, next_level, first_turn, without_first, woken_on}
 
-or_first : (p q : Bool) → p ≡ true → (p || q) ≡ true
-or_first true q h = refl
-or_first false q h = cc
-
-or_second : (p q : Bool) → q ≡ true → (p || q) ≡ true
-or_second true q h = refl
-or_second false q h = h
-
 or_map : (p q s t : Bool) → (p ≡ true → s ≡ true) → (q ≡ true → t ≡ true) → (p || q) ≡ true → (s || t) ≡ true
-or_map true q s t f g h = or_first s t (f refl)
-or_map false q s t f g h = or_second s t (g h)
-
-in_push : (k j : ℕ) (ks : List ℕ) → is_in j ks ≡ true → is_in j (ks ++ k ∷ []) ≡ true
-in_push k j [] h = cc
-in_push k j (i ∷ ks) h = or_map (nat_eq j i) (is_in j ks) (nat_eq j i) (is_in j (ks ++ k ∷ [])) (λ e. e) (in_push k j ks) h
-
-last_in : (k : ℕ) (ks : List ℕ) → is_in k (ks ++ k ∷ []) ≡ true
-last_in k [] = or_first (nat_eq k k) false (grind (arith, nat_tests))
-last_in k (i ∷ ks) = or_second (nat_eq k i) (is_in k (ks ++ k ∷ [])) (last_in k ks)
+or_map true q s t f g h = or_left s t (f refl)
+or_map false q s t f g h = or_right s t (g h)
 
 -- a list after a wake
 record Grows (k : ℕ) (ks new : List ℕ) : Type 0 where
@@ -38,7 +24,7 @@ grows k ks = by_case (is_in k ks) refl
   where
     by_case : (b : Bool) → is_in k ks ≡ b → Grows k ks (woken k ks)
     by_case true is = rw is (record { kept = λ j h. h; has = is; few = omega arith })
-    by_case false is = rw is (record { kept = λ j h. in_push k j ks h; has = last_in k ks; few = omega (arith, length_push ks k) })
+    by_case false is = rw is (record { kept = λ j h. in_push k j ks h; has = in_end k ks; few = omega (arith, length_push ks k) })
 
 -- after a wake whatever was awake is
 pub kept_on : (k level j : ℕ) (kss : List (List ℕ)) → is_in_any j kss ≡ true → is_in_any j (woken_on k level kss) ≡ true
@@ -49,8 +35,8 @@ kept_on k (suc level) j (ks ∷ kss) h = or_map (is_in j ks) (is_in_any j kss) (
 -- and the number woken is, where there is such a level
 pub has_on : (k level : ℕ) (kss : List (List ℕ)) → level < length kss → is_in_any k (woken_on k level kss) ≡ true
 has_on k level [] within = absurd (omega (arith, within))
-has_on k zero (ks ∷ kss) within = or_first (is_in k (woken k ks)) (is_in_any k kss) (grows k ks).has
-has_on k (suc level) (ks ∷ kss) within = or_second (is_in k ks) (is_in_any k (woken_on k level kss)) (has_on k level kss (omega (arith, within)))
+has_on k zero (ks ∷ kss) within = or_left (is_in k (woken k ks)) (is_in_any k kss) (grows k ks).has
+has_on k (suc level) (ks ∷ kss) within = or_right (is_in k ks) (is_in_any k (woken_on k level kss)) (has_on k level kss (omega (arith, within)))
 
 pub count_on : (k level : ℕ) (kss : List (List ℕ)) → length (woken_on k level kss) ≡ length kss
 count_on k level [] = refl

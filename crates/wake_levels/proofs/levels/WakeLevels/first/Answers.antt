@@ -1,7 +1,8 @@
 use Rattle.std.proofs.Common.{◌≡◌, inl, inr, ℕ, ◌<◌, List, [], get_or, slice_get, length, subst, sym, ap, ◌∙◌, arith, rules}
 use Rattle.wake_levels.specs.Queues.{lists_of}
-use Rattle.wake_levels.proofs.Queueing.{turn_at, no_turn, list_at, below_at, lists_count, first_below, empty_list, below_or_last}
+use Rattle.wake_levels.proofs.Queueing.{turn_at, no_turn, list_at, below_at, lists_count, first_below, empty_list}
 use Rattle.wake_levels.proofs.levels.WakeLevels.first.Goals as goal
+use Rattle.base_laws.specs.laws.Numbers.{below_or_last}
 
 pub returns-in-Some-clause-turn : goal.returns-in-Some-clause-turn
 returns-in-Some-clause-turn c =
