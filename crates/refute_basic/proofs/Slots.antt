@@ -9,8 +9,7 @@ use Rattle.sched_model.specs.declared.types.Constraint.{Constraint}
 use Rattle.sched_model.specs.Data.{Data}
 use Rattle.sched_model.specs.Sentences.{holds}
 use Rattle.sched_model.specs.Valid.{IsValid}
-use Rattle.region.specs.Looks.{IsRegionOf, is_narrowed}
-use Rattle.region.specs.laws.Lists.{placewise-length}
+use Rattle.region.specs.Looks.{IsRegionOf}
 use Rattle.sched_base.specs.declared.ids.Itv.{Itv}
 use Rattle.sched_model.specs.declared.types.Slot.{Slot}
 use Rattle.sched_model.specs.declared.types.Slot.TheVariants as slot
@@ -19,6 +18,7 @@ use Rattle.sched_model.specs.Value.{slot_of}
 use Rattle.region.specs.declared.types.Bounds.{Bounds}
 use Rattle.region.specs.declared.types.Presence.TheVariants as presence
 use Rattle.region.specs.Cells.{Region, unknown, bounds_of, settled_slot}
+use Rattle.region.specs.laws.Narrowing.{as_many_bounds}
 use Rattle.refute_basic.specs.Leaf.{is_leaf_constraint, settled_alone, is_unsized_at, fails_at, keeps, has_size}
 use Rattle.refute_basic.specs.laws.Fits.{few_of}
 
@@ -49,11 +49,8 @@ as_many (b ∷ bs) = ap suc (as_many bs)
 pub absent_past : (r : Region) (x : Itv) → length r.bounds ≤ x.0 → slot.Absent ≡ slot_of (settled_alone r) x
 absent_past r x past = sym (get_or_past (map settled_slot r.bounds) x.0 slot.Absent (subst (λ n. n ≤ x.0) (sym (as_many r.bounds)) past))
 
-pub same_count : (m : Data) (r : Region) → IsRegionOf m r → length m.intervals ≡ length r.bounds
-same_count m r of = placewise-length is_narrowed m.intervals r.bounds of.bounds
-
 pub few_intervals : (m : Data) (r : Region) → IsValid m → IsRegionOf m r → length r.bounds < 2 ^ 32
-few_intervals m r valid of = omega (arith, (few_of m valid).0, same_count m r of)
+few_intervals m r valid of = omega (arith, (few_of m valid).0, as_many_bounds m r of)
 
 pub few_constraints : (m : Data) → IsValid m → length m.constraints < 2 ^ 32
 few_constraints m valid = omega (arith, (few_of m valid).1)

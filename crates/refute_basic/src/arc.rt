@@ -38,7 +38,7 @@ fn is_late_back(second: i64, z: i64, first: i64) -> bool
     i128::from(first) < i128::from(second) - i128::from(z)
 }
 
-#[tactic(auto, using(crate::specs::laws::There::there_within))]
+#[tactic(auto, using(region::specs::laws::Present::there_within))]
 fn is_too_late(look: &Look<'_>, d: u32, c: &Constraint) -> bool
     ensures { result ≡ is_too_late look.now.region d c.now }
 {
@@ -80,4 +80,40 @@ pub fn arc(model: &Model, look: &Look<'_>, c: u32, d: u32) -> bool
         None => false,
         Some(constraint) => is_too_late(look, d, constraint),
     }
+}
+
+/// By how much the first moment and the distance pass the second.
+fn missed(first: i64, z: i64, second: i64) -> Option<u64> {
+    u64::try_from(i128::from(first) + i128::from(z) - i128::from(second)).ok()
+}
+
+/// By how much a precedence is missed.
+fn lateness(look: &Look<'_>, d: u32, c: &Constraint) -> Option<u64> {
+    let Constraint::Temporal {
+        from,
+        to,
+        a,
+        b,
+        z,
+        ..
+    } = c
+    else {
+        return None;
+    };
+    if !is_there(look, *a) || !is_there(look, *b) {
+        return None;
+    }
+    if d == 0 {
+        return missed(earliest(look, *from, *a), *z, latest(look, *to, *b));
+    }
+    missed(
+        earliest(look, *to, *b),
+        z.checked_neg()?,
+        latest(look, *from, *a),
+    )
+}
+
+/// By how many moments ARC refutes the look.
+pub fn arc_excess(model: &Model, look: &Look<'_>, c: u32, d: u32) -> Option<u64> {
+    lateness(look, d, at(model.constraints(), c as usize)?)
 }

@@ -1,10 +1,10 @@
-use crate::arc::arc;
+use crate::arc::{arc, arc_excess};
 use crate::cycle::cycle;
 use crate::expr::expr;
 use crate::leaf::leaf;
 use crate::names::{are_few, are_names};
 use crate::obj::obj;
-use crate::size::size;
+use crate::size::{size, size_excess};
 use crate::witness::BasicWitness;
 use region::{Look, Refuter};
 use sched_model::Model;
@@ -33,6 +33,14 @@ impl Refuter for Basic {
             BasicWitness::Expr { c } => expr(model, look, *c),
             BasicWitness::Obj => obj(model, look),
             BasicWitness::Leaf { k, u } => leaf(model, look, *k, *u),
+        }
+    }
+
+    fn excess(model: &Model, look: &Look<'_>, w: &BasicWitness) -> Option<u64> {
+        match w {
+            BasicWitness::Size { x } => size_excess(look, *x),
+            BasicWitness::Arc { c, d } => arc_excess(model, look, *c, *d),
+            _ => None,
         }
     }
 

@@ -10,7 +10,7 @@ use sched_base::{Itv, at};
 use sched_model::{Constraint, End, Model};
 
 /// Whether the interval is present.
-#[tactic(auto, using(crate::specs::laws::There::none_there))]
+#[tactic(auto, using(region::specs::laws::Present::none_there))]
 pub fn is_there(look: &Look<'_>, x: Itv) -> bool
     ensures { result ≡ is_there look.now.region x }
 {

@@ -1,6 +1,7 @@
 ghost use Rattle.std.specs.Prelude.{◌≡◌, ℕ, ◌+◌, ◌*◌, ◌<◌, pos, [], ◌∷◌, List, Some, length, flat_map, slice_get, slice_index_or, IsTrue, IfOk, IfSome, IfNone};
 ghost use Rattle.std.specs.List.{list_all};
-ghost use Rattle.refute_basic.specs.Witness.{name_numbers, is_number, is_name};
+ghost use Rattle.sched_model.specs.Bounds.{is_number};
+ghost use Rattle.refute_basic.specs.Witness.{name_numbers, is_name};
 ghost use Rattle.refute_basic.specs.declared.arc_name.ArcName.{ArcName};
 
 use crate::arc_name::ArcName;

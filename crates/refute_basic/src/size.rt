@@ -62,3 +62,20 @@ pub fn size(look: &Look<'_>, x: u32) -> bool
     }
     has_no_size(look.bounds(Itv(x)))
 }
+
+/// By how much the bounds miss a size, where they do.
+fn missed(c: Bounds) -> i64 {
+    let starts = c.smin.saturating_sub(c.smax);
+    let ends = c.emin.saturating_sub(c.emax);
+    let short = c.pmin.saturating_sub(c.emax.saturating_sub(c.smin));
+    let long = c.emin.saturating_sub(c.smax).saturating_sub(c.pmax);
+    starts.max(ends).max(short).max(long)
+}
+
+/// By how many moments SIZE refutes the look.
+pub fn size_excess(look: &Look<'_>, x: u32) -> Option<u64> {
+    if x as usize >= look.len() {
+        return None;
+    }
+    u64::try_from(missed(look.bounds(Itv(x)))).ok()
+}

@@ -1,5 +1,6 @@
 ghost use Rattle.std.specs.Prelude.{◌≡◌, ℕ, pos, [], ◌∷◌, IsTrue, IfOk, IfSome, IfNone};
-ghost use Rattle.refute_basic.specs.Witness.{numbers_of, is_number, is_valid};
+ghost use Rattle.sched_model.specs.Bounds.{is_number};
+ghost use Rattle.refute_basic.specs.Witness.{numbers_of, is_valid};
 ghost use Rattle.refute_basic.specs.declared.witness.BasicWitness.{BasicWitness};
 
 use crate::names::{

@@ -7,12 +7,6 @@ use Rattle.std.proofs.Math.Seq.{drop-cons}
 pub first_fails : (p q r : Bool) → false ≡ p → false ≡ (p && q && r)
 first_fails p q r first = ap (λ b. b && q && r) first
 
-pub second_fails : (p q r : Bool) → true ≡ p → false ≡ q → false ≡ (p && q && r)
-second_fails p q r first second = ap (λ b. b && r) (second ∙ ap (λ b. b && q) first)
-
-pub third_decides : (p q r s : Bool) → true ≡ p → true ≡ q → s ≡ r → s ≡ (p && q && r)
-third_decides p q r s first second third = third ∙ ap (λ b. b && r) (second ∙ ap (λ b. b && q) first)
-
 pub all_fails : {X : Type 0} (t : X → Bool) (xs : List X) (i : ℕ) (d : X) → i < length xs → t (get_or xs i d) ≡ false → list_all t (drop i xs) ≡ list_all t xs → false ≡ list_all t xs
 all_fails t xs i d within fails so_far = sym (ap (λ b. b && list_all t (drop (suc i) xs)) fails) ∙ sym (ap (list_all t) (drop-cons xs i d within)) ∙ so_far
 

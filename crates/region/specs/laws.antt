@@ -9,3 +9,8 @@ pub mod Counts
 pub mod Settling
 pub mod Rooted
 pub mod Standing
+pub mod Present
+pub mod Pinned
+pub mod Found
+pub mod Spelled
+pub mod Rows

@@ -23,7 +23,7 @@ fn may_be_present(presence: Presence) -> bool
     presence != Presence::Absent
 }
 
-#[tactic(auto, using(crate::proofs::Truth::first_fails, crate::proofs::Truth::second_fails, crate::proofs::Truth::third_decides))]
+#[tactic(auto, using(crate::proofs::Truth::first_fails, base_laws::specs::laws::Truth::second_fails, base_laws::specs::laws::Truth::third_decides))]
 fn fits_moments(c: Bounds, s: i64, e: i64) -> bool
     ensures { result ≡ fits_bounds c (Present s e) }
 {

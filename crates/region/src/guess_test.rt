@@ -32,6 +32,12 @@ pub trait GuessTest {
         requires ready { is_ready self.now }
         requires admitted { IsTrue (passes_if_any (admits (region self.now)) guess) }
         ensures { result ≡ refuting self.now guess };
+
+    /// How far the guess can mostly be moved and stay refuted. Nothing rests on it: it only tells where
+    /// to look first.
+    fn reach(&self, guess: Guess) -> Option<u64>
+        requires ready { is_ready self.now }
+        requires admitted { IsTrue (admits (region self.now) guess) };
 }
 
 /// The test by the row of a witness.
@@ -52,5 +58,10 @@ impl<'a, X: Refuter> GuessTest for RowTest<'a, X> {
 
     fn refutes(&self, guess: Option<Guess>) -> bool {
         refutes::<X>(self.model, self.region, self.best, guess, self.witness)
+    }
+
+    fn reach(&self, guess: Guess) -> Option<u64> {
+        let look = self.region.look(Some(guess), self.best);
+        X::excess(self.model, &look, self.witness)?.checked_sub(1)
     }
 }

@@ -56,6 +56,13 @@ pub trait Refuter {
         requires { IsRegionOf model.now look.now.region }
         ensures { result ≡ refuting model.now look.now w.now };
 
+    /// By how many moments the look misses what the witness asks, where the row compares bounds: one
+    /// moment less is how far a guess on a bound can mostly be moved and stay refuted. Nothing rests on
+    /// it: it only tells where to look first.
+    fn excess(_: &Model, _: &Look<'_>, _: &Self::Witness) -> Option<u64> {
+        None
+    }
+
     /// What refutes is valid.
     ghost valid: { (m : Data) (l : Seen) (w : Self.Witness) → IsTrue (refuting m l w) → IsTrue (Self.Witness.is_valid w) };
 

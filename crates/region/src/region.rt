@@ -123,7 +123,7 @@ impl Region {
         (p.0 as usize) < look.sequences() && self.is_open_between(p, x, y)
     }
 
-    #[tactic(auto, using(crate::proofs::Truth::first_fails, crate::proofs::Truth::second_fails, crate::proofs::Truth::third_decides))]
+    #[tactic(auto, using(crate::proofs::Truth::first_fails, base_laws::specs::laws::Truth::second_fails, base_laws::specs::laws::Truth::third_decides))]
     fn admits_order(&self, p: Seq, x: Itv, y: Itv) -> bool
         ensures { result ≡ admits_topic self.now.region (Two p x y) }
     {

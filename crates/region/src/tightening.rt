@@ -1,5 +1,5 @@
 //! A refuted guess made as weak as its witness allows.
-ghost use Rattle.std.specs.Prelude.{◌≡◌, ◌≤◌, ◌<◌, ◌≤ℤ◌, ◌+ℤ◌, ◌-ℤ◌, pos, IsTrue, IfSome, Some};
+ghost use Rattle.std.specs.Prelude.{◌≡◌, ◌≤◌, ◌<◌, ◌+◌, ◌≤ℤ◌, ◌+ℤ◌, ◌-ℤ◌, pos, IsTrue, IfSome, Some};
 ghost use Rattle.sched_model.specs.Words.{passes_if_any};
 ghost use Rattle.region.specs.Guesses.{admits};
 ghost use Rattle.region.specs.Looks.{IsRegionOf, seen_at};
@@ -102,9 +102,22 @@ pub fn is_tight<X: Refuter>(
     }
 }
 
-/// A guess of the form of a refuted one that allows as much or more, is refuted too and is tight:
-/// by halving between a refuted moment and the end of the cell. A guess on a presence or an order
-/// is answered as it is.
+/// A number between the two: the wanted one where it is, else the middle.
+fn between(lo: u64, hi: u64, wanted: u64) -> u64
+    requires { lo + 1 < hi }
+    ensures above { lo < result }
+    ensures below { result < hi }
+{
+    if lo < wanted && wanted < hi {
+        return wanted;
+    }
+    lo + (hi - lo) / 2
+}
+
+/// A guess of the form of a refuted one that allows as much or more, is refuted too and is tight. The
+/// reach of the test is tried first, and then the moment behind it; where these don't decide, halving
+/// goes on between a refuted moment and the end of the cell. A guess on a presence or an order is
+/// answered as it is.
 pub fn tighten_by<T: GuessTest>(test: &T, region: &Region, g: Guess) -> Guess
     requires ready { T.is_ready test.now }
     requires of { T.region test.now ≡ region.now.region }
@@ -114,13 +127,16 @@ pub fn tighten_by<T: GuessTest>(test: &T, region: &Region, g: Guess) -> Guess
 {
     let mut lo = 0;
     let mut hi = steps(region, g);
+    let far = test.reach(g).unwrap_or(hi);
+    let mut wanted = far.max(1);
     while hi - lo > 1 {
-        let mid = lo + (hi - lo) / 2;
+        let mid = between(lo, hi, wanted);
         if test.refutes(Some(moved(region, g, mid))) {
             lo = mid;
         } else {
             hi = mid;
         }
+        wanted = if mid == far { far + 1 } else { lo };
     }
     moved(region, g, lo)
 }

@@ -2,15 +2,13 @@
 use Rattle.std.specs.Prelude.{◌≡◌, ℕ, zero, suc, ◌*◌, ℤ, pos, true, List, [], ◌∷◌, length, flat_map}
 use Rattle.std.specs.List.{list_all}
 use Rattle.std.proofs.Common.{refl, arith}
-use Rattle.std.proofs.lemmas.Int.{ints}
 use Rattle.sched_model.specs.Valid.{is_small}
 use Rattle.region.specs.Spelled.{AreSmall}
 use Rattle.region.specs.laws.Lists.{both_true}
 use Rattle.refute_basic.specs.declared.arc_name.ArcName.{ArcName}
-use Rattle.refute_basic.specs.Witness.{name_numbers, is_number, is_name}
-
-pub small_number : (n : ℕ) → is_number n ≡ true → is_small (pos n) ≡ true
-small_number n h = grind (arith, ints)
+use Rattle.refute_basic.specs.Witness.{name_numbers, is_name}
+use Rattle.sched_model.specs.laws.Small.{small_number}
+use Rattle.sched_model.specs.Bounds.{is_number}
 
 pub four_each : (is : List ArcName) → length (flat_map name_numbers is) ≡ 4 * length is
 four_each [] = refl

@@ -9,13 +9,10 @@ use Rattle.refute_basic.specs.declared.edge.Arc.{Arc as Edge}
 use Rattle.refute_basic.specs.declared.arc_name.ArcName.{ArcName}
 use Rattle.refute_basic.specs.Arc.{is_too_late, arc_row}
 use Rattle.refute_basic.specs.Cycle.{edge_of, goes_on, closes, cycle_row}
+use Rattle.base_laws.specs.laws.Truth.{never_both}
 
 pub arc_of_none : (m : Data) (l : Seen) (c d : ℕ) → slice_get m.constraints c ≡ None → arc_row m l c d ≡ false
 arc_of_none m l c d none = ap (passes (is_too_late l.region d)) none
-
-never_both : (p q : Bool) → q ≡ false → (p && q) ≡ false
-never_both true q h = h
-never_both false q h = refl
 
 -- an arc that isn't there stops the walk
 stops : (m : Data) (r : Region) (begin at : ℕ) (sum : ℤ) (is js : List ArcName) (i : ArcName) → edge_of m r i ≡ None → goes_on m r begin at sum (is ++ i ∷ js) ≡ false

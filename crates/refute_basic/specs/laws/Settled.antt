@@ -15,13 +15,14 @@ use Rattle.sched_model.specs.Value.{value_of}
 use Rattle.sched_model.specs.Domain.{fits_def}
 use Rattle.sched_model.specs.Sentences.{Holds, holds}
 use Rattle.sched_model.specs.Solution.{IsSolution, is_better, beats}
+use Rattle.sched_model.specs.laws.Domain.{slots_fit}
 use Rattle.region.specs.declared.types.Presence.{Presence}
 use Rattle.region.specs.declared.types.Presence.TheVariants as presence
 use Rattle.region.specs.declared.types.Bounds.{Bounds}
 use Rattle.region.specs.Cells.{Region, is_settled, settled_slot, settled_slots, Allows}
 use Rattle.region.specs.Looks.{Seen, IsRegionOf, is_narrowed, HasNone}
 use Rattle.region.specs.laws.Lists.{both_true, true_both}
-use Rattle.region.specs.laws.Settling.{slots_fit, settled_slots_are}
+use Rattle.region.specs.laws.Settling.{settled_slots_are}
 use Rattle.region.specs.laws.Standing.{least_is, greatest_is}
 use Rattle.refute_basic.specs.Leaf.{is_leaf_constraint, settled_alone, has_size, all_sized, fails_at, is_no_better, leaf_case, leaf_row}
 use Rattle.refute_basic.specs.laws.SameSlots.{value_same, holds_same}

@@ -12,13 +12,13 @@ use Rattle.sched_model.specs.declared.types.Slot.TheVariants as slot
 use Rattle.sched_model.specs.Data.{Data}
 use Rattle.sched_model.specs.Value.{slot_of}
 use Rattle.sched_model.specs.Domain.{fits_def}
+use Rattle.sched_model.specs.laws.Domain.{slots_fit}
 use Rattle.region.specs.declared.types.Presence.{Presence}
 use Rattle.region.specs.declared.types.Presence.TheVariants as presence
 use Rattle.region.specs.declared.types.Bounds.{Bounds}
 use Rattle.region.specs.Cells.{bounds_of, fits_bounds, says_present, unknown}
 use Rattle.region.specs.Looks.{Seen, IsRegionOf, is_narrowed, HasNone}
 use Rattle.region.specs.laws.Lists.{placewise-length, placewise-at}
-use Rattle.region.specs.laws.Settling.{slots_fit}
 use Rattle.look_hull.specs.laws.Cells.{here}
 use Rattle.refute_basic.specs.Size.{leaves_no_size, has_no_size, size_row}
 

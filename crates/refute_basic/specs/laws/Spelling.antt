@@ -10,9 +10,11 @@ use Rattle.region.specs.Spelled.{AreSmall}
 use Rattle.region.specs.laws.Lists.{both_true}
 use Rattle.refute_basic.specs.declared.witness.BasicWitness.{BasicWitness}
 use Rattle.refute_basic.specs.declared.witness.BasicWitness.TheVariants.{Size, Arc, Cycle, Expr, Obj, Leaf}
-use Rattle.refute_basic.specs.Witness.{name_numbers, numbers_of, is_number, is_name, is_valid}
+use Rattle.refute_basic.specs.Witness.{name_numbers, numbers_of, is_name, is_valid}
 use Rattle.refute_basic.specs.Basic.{refutes, row_of}
-use Rattle.refute_basic.specs.laws.Names.{small_number, four_each, next_small, names_small, names_told}
+use Rattle.refute_basic.specs.laws.Names.{four_each, next_small, names_small, names_told}
+use Rattle.sched_model.specs.laws.Small.{small_number}
+use Rattle.sched_model.specs.Bounds.{is_number}
 
 pub few_numbers : (w : BasicWitness) → IsTrue (is_valid w) → length (numbers_of w) < 2 ^ 32
 few_numbers (Size x) h = omega arith

@@ -1,10 +1,7 @@
--- An interval that isn't listed isn't there, and what is known of one that is there in a solution.
-use Rattle.std.specs.Prelude.{◌≡◌, ◌<◌, ◌≤◌, ℤ, pos, ◌+ℤ◌, ◌-ℤ◌, ◌≤ℤ◌, Bool, true, false, not, [], length, nat_lt}
-use Rattle.std.proofs.Common.{refl, sym, ap, subst, ◌∙◌, arith, get_or}
-use Rattle.std.proofs.lemmas.Bool.{true≢false}
-use Rattle.std.proofs.lemmas.Bool.Decides.{nat_tests}
+-- What is known of an interval that is there in a solution.
+use Rattle.std.specs.Prelude.{◌≡◌, ◌<◌, ℤ, pos, ◌+ℤ◌, ◌-ℤ◌, ◌≤ℤ◌, true, false, not, [], length}
+use Rattle.std.proofs.Common.{refl, sym, ap, subst, arith, get_or}
 use Rattle.std.proofs.lemmas.Int.{ints}
-use Rattle.std.proofs.lemmas.List.{get_or_past}
 use Rattle.sched_base.specs.declared.ids.Itv.{Itv}
 use Rattle.sched_model.specs.declared.types.End.TheVariants.{Start, Finish}
 use Rattle.sched_model.specs.declared.types.IntervalDef.{IntervalDef}
@@ -15,23 +12,14 @@ use Rattle.sched_model.specs.Data.{Data}
 use Rattle.sched_model.specs.Domain.{fits_def}
 use Rattle.sched_model.specs.Value.{slot_of, is_here, is_present, point_of, point_in}
 use Rattle.sched_model.specs.Solution.{IsSolution}
+use Rattle.sched_model.specs.laws.Domain.{slots_fit}
 use Rattle.region.specs.declared.types.Presence.{Presence}
 use Rattle.region.specs.declared.types.Presence.TheVariants as presence
 use Rattle.region.specs.Cells.{Region, bounds_of, fits_bounds, says_present, is_there, unknown, Allows}
 use Rattle.region.specs.Looks.{IsRegionOf, is_narrowed}
+use Rattle.region.specs.laws.Present.{there_within}
 use Rattle.region.specs.laws.Lists.{placewise-length, placewise-at}
-use Rattle.region.specs.laws.Settling.{slots_fit}
 use Rattle.look_hull.specs.laws.Cells.{Here, here}
-
-pub none_there : (r : Region) (x : Itv) → length r.bounds ≤ x.0 → false ≡ is_there r x
-none_there r x past = sym (ap (λ c. says_present c.presence) (get_or_past r.bounds x.0 unknown past))
-
-pub there_within : (r : Region) (x : Itv) → is_there r x ≡ true → x.0 < length r.bounds
-there_within r x h = by_case (nat_lt x.0 (length r.bounds)) refl
-  where
-    by_case : (b : Bool) → nat_lt x.0 (length r.bounds) ≡ b → x.0 < length r.bounds
-    by_case true is = grind (arith, nat_tests)
-    by_case false is = let past : length r.bounds ≤ x.0 = grind (arith, nat_tests) in absurd (true≢false (sym h ∙ sym (none_there r x past)))
 
 -- an interval that is present in a region of its model, in a solution that the region allows
 pub record IsThere (r : Region) (a : Assignment) (x : Itv) : Type 0 where

@@ -19,7 +19,7 @@ use Rattle.region.specs.laws.Standing.{least_is, greatest_is}
 use Rattle.refute_basic.specs.declared.edge.Arc.{Arc as Edge}
 use Rattle.refute_basic.specs.declared.arc_name.ArcName.{ArcName}
 use Rattle.refute_basic.specs.Cycle.{edge, itv, forth, back, longer, shorter, edge_of}
-use Rattle.refute_basic.specs.laws.There.{there_within}
+use Rattle.region.specs.laws.Present.{there_within}
 use Rattle.refute_basic.specs.laws.Cycle.{chosen, either, no_edge}
 
 -- the distance of a precedence is small, and so are sizes

@@ -4,14 +4,8 @@ use Rattle.std.specs.List.{list_all}
 use Rattle.std.proofs.Common.{refl, ap, arith, get_or}
 use Rattle.sched_model.specs.Words.{placewise}
 use Rattle.region.specs.Guesses.{changed_at}
-
-pub both_true : (p q : Bool) → (p && q) ≡ true → (p ≡ true) × (q ≡ true)
-both_true true q h = (refl, h)
-both_true false q h = cc
-
-pub true_both : (p q : Bool) → p ≡ true → q ≡ true → (p && q) ≡ true
-true_both true q h k = k
-true_both false q h k = cc
+-- the names by which the crates above cite two laws of std
+pub use Rattle.std.proofs.lemmas.Bool.{and_parts as both_true, and_from as true_both}
 
 pub length-changed_at : {X : Type 0} → (n : ℕ) (f : X → X) (xs : List X) → length (changed_at n f xs) ≡ length xs
 length-changed_at n f [] = refl
