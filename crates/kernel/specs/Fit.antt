@@ -11,8 +11,9 @@ use Rattle.region.specs.declared.types.Guess.{Guess}
 use Rattle.region.specs.declared.types.Guess.TheVariants.{Present, Absent, StartLe, StartGe, EndLe, EndGe, Before}
 use Rattle.refute_basic.specs.Witness.{is_valid}
 use Rattle.refute_hier.specs.Witness.{is_valid as is_valid_hier}
+use Rattle.refute_seq.specs.Witness.{is_valid as is_valid_seq}
 use Rattle.kernel.specs.declared.types.Witness.{Witness}
-use Rattle.kernel.specs.declared.types.Witness.TheVariants.{Basic, Hier, Extra}
+use Rattle.kernel.specs.declared.types.Witness.TheVariants.{Basic, Hier, Seq, Extra}
 use Rattle.kernel.specs.declared.types.Line.{Line}
 use Rattle.kernel.specs.declared.types.Line.TheVariants.{Derive, Fail, Split, Sol}
 
@@ -36,6 +37,7 @@ is_fit_guess (Before p x y) = is_count p.0 && is_id x && is_id y
 abbrev pub is_fit_witness : {W : Type 0} → (W → Bool) → Witness W → Bool
 is_fit_witness valid (Basic w) = is_valid w
 is_fit_witness valid (Hier w) = is_valid_hier w
+is_fit_witness valid (Seq w) = is_valid_seq w
 is_fit_witness valid (Extra w) = valid w
 
 abbrev pub is_fit_slot : Slot → Bool

@@ -2,3 +2,4 @@ pub mod NoExtra
 pub mod Pending
 pub mod Derives
 pub mod Fits
+pub mod Outcomes

@@ -8,6 +8,7 @@ ghost use Rattle.kernel.specs.Refuting.{refutes_with};
 use crate::types::Witness;
 use refute_basic::Basic;
 use refute_hier::Hier;
+use refute_seq::OnSequence;
 use region::{Guess, Refuter, Region};
 use sched_model::Model;
 
@@ -26,6 +27,7 @@ pub fn refutes<X: Refuter>(
     match w {
         Witness::Basic(w) => region::refutes::<Basic>(model, region, best, guess, w),
         Witness::Hier(w) => region::refutes::<Hier>(model, region, best, guess, w),
+        Witness::Seq(w) => region::refutes::<OnSequence>(model, region, best, guess, w),
         Witness::Extra(w) => region::refutes::<X>(model, region, best, guess, w),
     }
 }
@@ -45,6 +47,7 @@ pub fn is_tight<X: Refuter>(
     match w {
         Witness::Basic(w) => region::is_tight::<Basic>(model, region, best, g, w),
         Witness::Hier(w) => region::is_tight::<Hier>(model, region, best, g, w),
+        Witness::Seq(w) => region::is_tight::<OnSequence>(model, region, best, g, w),
         Witness::Extra(w) => region::is_tight::<X>(model, region, best, g, w),
     }
 }

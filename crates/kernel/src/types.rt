@@ -1,5 +1,6 @@
 use refute_basic::BasicWitness;
 use refute_hier::HierWitness;
+use refute_seq::SeqWitness;
 use region::Guess;
 use sched_model::Assignment;
 use thiserror::Error;
@@ -10,6 +11,7 @@ use thiserror::Error;
 pub enum Witness<W> {
     Basic(BasicWitness),
     Hier(HierWitness),
+    Seq(SeqWitness),
     Extra(W),
 }
 

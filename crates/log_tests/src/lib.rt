@@ -17,6 +17,8 @@ mod refuting_tests;
 #[cfg(test)]
 mod search_tests;
 #[cfg(test)]
+mod sequence_tests;
+#[cfg(test)]
 mod step_tests;
 #[cfg(test)]
 mod writer_tests;

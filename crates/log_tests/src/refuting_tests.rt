@@ -7,6 +7,7 @@ use cpo_elab::read_model;
 use kernel::{Line, NoExtra, NoWitness, Witness};
 use refute_basic::{Basic, BasicWitness, find_leaf, is_served, settled_slot};
 use refute_hier::Hier;
+use refute_seq::OnSequence;
 use region::{Guess, Look, Refuter, Region, is_tight, refutes, tighten};
 use sched_base::{Itv, NoMemory};
 use sched_model::{Model, Slot};
@@ -200,8 +201,16 @@ fn shown_by(
             w,
         )),
         Line::Derive(g, Witness::Hier(w)) => Some(shows::<Hier>(model, region, best, Some(*g), w)),
+        Line::Derive(g, Witness::Seq(w)) => Some(shows::<OnSequence>(
+            model,
+            region,
+            best,
+            Some(*g),
+            w,
+        )),
         Line::Fail(Witness::Basic(w)) => Some(shows::<Basic>(model, region, best, None, w)),
         Line::Fail(Witness::Hier(w)) => Some(shows::<Hier>(model, region, best, None, w)),
+        Line::Fail(Witness::Seq(w)) => Some(shows::<OnSequence>(model, region, best, None, w)),
         _ => None,
     }
 }

@@ -14,7 +14,8 @@ use Rattle.logtext.specs.declared.entry.EntryFault.TheVariants.{Bad, NoMemory}
 use Rattle.logtext.specs.Spelling.{slot_words, order_words, segments_words, assignment_words}
 use Rattle.logtext.specs.Reads.{ReadsRow, ReadsWhole, BeginsWith, BeginsSlot}
 use Rattle.logtext.specs.laws.Leads.{open_told}
-use Rattle.logtext.specs.laws.Told.{three_true, slot_told, slot_starts, behind_slots, order_told, order_starts, behind_orders, segments_told, function_starts, behind_functions}
+use Rattle.logtext.specs.laws.Told.{slot_told, slot_starts, behind_slots, order_told, order_starts, behind_orders, segments_told, function_starts, behind_functions}
+use Rattle.base_laws.specs.laws.Truth.{three_true}
 
 -- the parts of a fit assignment
 fit_parts : (a : Assignment) → is_fit_assignment a ≡ true → (list_all is_fit_slot a.slots ≡ true) × (list_all is_fit_order a.orders ≡ true) × (list_all are_fit_segments a.segs ≡ true)

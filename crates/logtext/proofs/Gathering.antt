@@ -1,31 +1,24 @@
 -- Gathering: one write, one text after another, and what is held.
-use Rattle.std.proofs.Common.{◌≡◌, ℕ, ◌+◌, ◌≤◌, [], ◌++◌, length, take, drop, refl, sym, ap, ◌∙◌, subst, arith, append-nil, append_assoc, length-append, length-drop}
-use Rattle.std.specs.Prelude.{Option, Some, None, Result, Ok, Err, OnOk, IsErr}
+use Rattle.std.proofs.Common.{◌≡◌, ℕ, ◌+◌, ◌≤◌, [], ◌++◌, length, take, drop, refl, sym, ap, ◌∙◌, subst, arith, append_assoc, length-append, length-drop}
+use Rattle.std.specs.Prelude.{Result, Ok, Err, OnOk, IsErr}
 use Rattle.std.proofs.lemmas.List.{take_all, drop_all, take-append-le, drop-append-le, drop-drop}
 use Rattle.std.proofs.Math.Seq.{take-add}
 use Rattle.sched_base.specs.declared.desk.Failed.{Failed}
 use Rattle.sched_base.specs.declared.desk.Port.TheVariants as port
 use Rattle.sched_base.specs.State.{State}
 use Rattle.sched_base.specs.Calls.{Counted, Writes, appended}
+use Rattle.sched_base.specs.laws.Appended.{appended_nothing, appended_twice}
 use Rattle.textline.specs.Lines.{Bytes}
 use Rattle.logtext.specs.Writing.{Gathers}
 
 abbrev pub Answer : Type 0
 Answer = Result (Unit {0}) Failed
 
-nothing_more : (held : Option Bytes) → held ≡ appended [] held
-nothing_more None = refl
-nothing_more (Some bs) = ap (λ (x : Bytes). Some x) (sym (append-nil bs))
-
-twice : (a b : Bytes) (held : Option Bytes) → appended b (appended a held) ≡ appended (a ++ b) held
-twice a b None = refl
-twice a b (Some bs) = ap (λ (x : Bytes). Some x) (append_assoc bs a b)
-
 -- the text stands behind what was held
 pub holds : {text held kept : Bytes} {s : State} → kept ≡ held ++ text → Gathers text (Ok tt) held kept s s
 holds {text} {held} {kept} {s} is = record {
   only = refl;
-  part = (0, omega arith, nothing_more s.logged, is);
+  part = (0, omega arith, appended_nothing s.logged, is);
   count = record { later = omega arith; ok = refl; failed = tt };
   calm = λ _. refl;
 }
@@ -81,7 +74,7 @@ goes_on {a} {b} {u} {r} {held} {mid} {kept} {s} {t} {v} first second =
         omega (arith, within, second.part.1, ap length first.part.3, length-drop n (held ++ a), length-append held a, length-append mid b, length-append held (a ++ b), length-append a b),
         second.part.2
             ∙ ap (appended (take m (mid ++ b))) first.part.2
-            ∙ twice (take n (held ++ a)) (take m (mid ++ b)) s.logged
+            ∙ appended_twice (take n (held ++ a)) (take m (mid ++ b)) s.logged
             ∙ ap (λ bs. appended (take n (held ++ a) ++ take m (bs ++ b)) s.logged) first.part.3
             ∙ ap (λ bs. appended bs s.logged) (both_parts n m held a b within),
         subst (λ bs. OnOk r (kept ≡ bs)) (ap (λ bs. drop m (bs ++ b)) first.part.3 ∙ rest_of_both n m held a b within) second.part.3,

@@ -1,5 +1,5 @@
 -- Words put one after another, each with a space before it.
-use Rattle.std.proofs.Common.{◌≡◌, ℕ, ◌+◌, ◌-◌, ◌<◌, ◌≤◌, List, [], ◌∷◌, ◌++◌, length, map, take, drop, get_or, slice_get, refl, sym, ap, ◌∙◌, subst, arith, append-nil, append_assoc, length-drop}
+use Rattle.std.proofs.Common.{◌≡◌, ℕ, ◌+◌, ◌-◌, ◌<◌, ◌≤◌, List, [], ◌∷◌, ◌++◌, length, map, take, drop, get_or, slice_get, refl, sym, ap, ◌∙◌, subst, arith, append-nil, length-drop}
 use Rattle.std.proofs.lemmas.Grind.{flat_map-append}
 use Rattle.std.proofs.lemmas.List.Concat.{flat_map_single}
 use Rattle.std.proofs.lemmas.List.{at_drop_more, flat_map_more, get_or-drop, take-append-drop, take_all, take_more}
@@ -8,19 +8,10 @@ use Rattle.std.specs.Prelude.{Some, Ok, Err, IsErr}
 use Rattle.std.specs.List.{flat_map}
 use Rattle.sched_base.specs.declared.desk.Failed.{Failed}
 use Rattle.sched_base.specs.State.{State}
-use Rattle.textline.specs.Lines.{Bytes, line}
-use Rattle.logtext.specs.Writing.{Gathers, spaced}
+use Rattle.textline.specs.Lines.{Bytes, line, spaced}
+use Rattle.textline.specs.laws.Spaced.{spaced_append, line_is}
+use Rattle.logtext.specs.Writing.{Gathers}
 use Rattle.logtext.proofs.Gathering.{Answer, goes_on, holds, stops}
-
-pub spaced_append : (vs ws : List Bytes) → spaced (vs ++ ws) ≡ spaced vs ++ spaced ws
-unfolding spaced
-spaced_append [] ws = refl
-spaced_append (v ∷ vs) ws = ap (λ bs. 32 ∷ (v ++ bs)) (spaced_append vs ws) ∙ ap (λ bs. 32 ∷ bs) (sym (append_assoc v (spaced vs) (spaced ws)))
-
-pub line_is : (c : Bytes) (ws : List Bytes) → line (c ∷ ws) ≡ c ++ (spaced ws ++ 10 ∷ [])
-unfolding spaced
-line_is c [] = refl
-line_is c (w ∷ ws) = ap (λ bs. c ++ 32 ∷ bs) (line_is w ws ∙ sym (append_assoc w (spaced ws) (10 ∷ [])))
 
 -- the only word
 pub last_word : {w : Bytes} {r : Answer} {held kept : Bytes} {s t : State} → Gathers (32 ∷ w) r held kept s t → Gathers (spaced (w ∷ [])) r held kept s t

@@ -1,11 +1,11 @@
 -- The text of a line.
-use Rattle.std.proofs.Common.{◌≡◌, ℕ, zero, suc, ◌+◌, ◌-◌, ◌<◌, ◌≤◌, ℤ, Bool, true, false, not, IsTrue, List, [], ◌∷◌, ◌++◌, ◌==◌, length, take, drop, get_or, sym, ◌∙◌, ap, subst, refl, arith, Option, Some, None, Err}
+use Rattle.std.proofs.Common.{◌≡◌, ℕ, zero, suc, ◌+◌, ◌-◌, ◌<◌, ◌≤◌, ℤ, Bool, true, false, IsTrue, List, [], ◌∷◌, ◌++◌, length, take, drop, get_or, sym, ◌∙◌, ap, subst, refl, arith, Option, Some, None, Err}
 use Rattle.std.specs.List.{list_all}
 use Rattle.std.proofs.lemmas.Bool.Decides.{nat_tests}
 use Rattle.memchr.specs.Find.{IsFirstByte, is_byte}
 use Rattle.textline.specs.Lines.{Bytes, line, words_of}
 use Rattle.textline.specs.Words.{are_words}
-use Rattle.textline.specs.laws.Lines.{both_true, true_both, first_of, line_of_words, words_are_words, line_has_feed, line_told}
+use Rattle.textline.specs.laws.Lines.{no_feed, none_before, both_true, true_both, first_of, line_of_words, words_are_words, line_has_feed, line_told}
 use Rattle.logtext.specs.declared.entry.Entry.{Entry}
 use Rattle.logtext.specs.declared.entry.EntryFault.{EntryFault}
 use Rattle.logtext.specs.declared.entry.EntryFault.TheVariants.{Bad, NoMemory}
@@ -14,31 +14,14 @@ use Rattle.logtext.specs.Reading.{HasNoWholeLine, BeginsWithNone, IsLineAt, Read
 use Rattle.logtext.specs.Reads.{ReadsWhole, FindsFeed}
 use Rattle.logtext.specs.laws.Entries.{AreTold, has_words, entry_plain}
 use Rattle.logtext.proofs.Lines.{NoneWhole}
-
-abbrev no_feed : ℕ → Bool
-no_feed b = not (b == 10)
-
-none_before : (xs : Bytes) (k : ℕ) → ((j : ℕ) → j < k → j < length xs → get_or xs j 0 ≡ 10 → ⊥) → list_all no_feed (take k xs) ≡ true
-none_before xs zero none = refl
-none_before [] (suc k) none = refl
-none_before (x ∷ xs) (suc k) none =
-    true_both (no_feed x) (list_all no_feed (take k xs)) (other x (none zero (omega arith) (omega arith))) (none_before xs k (λ j less within. none (suc j) (omega (arith, less)) (omega (arith, within))))
-  where
-    other : (x : ℕ) → (x ≡ 10 → ⊥) → no_feed x ≡ true
-    other x is_not = grind (arith, nat_tests)
-
-take_whole : {A : Type 0} (xs : List A) (n : ℕ) → length xs ≤ n → take n xs ≡ xs
-take_whole [] zero h = refl
-take_whole [] (suc n) h = refl
-take_whole (x ∷ xs) zero h = absurd (omega (arith, h))
-take_whole (x ∷ xs) (suc n) h = ap (λ ys. x ∷ ys) (take_whole xs n (omega (arith, h)))
+use Rattle.std.proofs.lemmas.List.{take_all}
 
 pub finds_feed : (bytes : Bytes) (r : Option ℕ) → IsFirstByte (is_byte 10) bytes r → FindsFeed bytes r
 finds_feed bytes (Some k) first =
     let is : get_or bytes k 0 ≡ 10 = grind (arith, nat_tests, first.1) in
     (first.0.high, is, none_before bytes k (λ j less within e. first.0.before j (omega arith) less (grind (arith, nat_tests))))
 finds_feed bytes None none =
-    ap (list_all no_feed) (sym (take_whole bytes (length bytes) (omega arith))) ∙ none_before bytes (length bytes) (λ j less within e. none j (omega arith) less (grind (arith, nat_tests)))
+    ap (list_all no_feed) (sym (take_all (length bytes) bytes (omega arith))) ∙ none_before bytes (length bytes) (λ j less within e. none j (omega arith) less (grind (arith, nat_tests)))
 
 -- a text without a line feed has none in its front
 front_none : (xs : Bytes) (n m : ℕ) → n ≤ m → list_all no_feed (take m xs) ≡ true → list_all no_feed (take n xs) ≡ true
@@ -68,7 +51,7 @@ text_has_feed : {W : Type 0} (numbers : W → List ℤ) (e : Entry W) → list_a
 text_has_feed numbers e = let words = has_words numbers e in ap (list_all no_feed) words.text ∙ line_has_feed (words.first ∷ words.rest)
 
 pub open_front : (rest : Bytes) → list_all no_feed (take line_limit rest) ≡ true → length rest < line_limit → HasNoWholeLine rest
-open_front rest none short = record { open_line = ap (list_all no_feed) (sym (take_whole rest line_limit (omega (arith, short)))) ∙ none; short = short }
+open_front rest none short = record { open_line = ap (list_all no_feed) (sym (take_all line_limit rest (omega (arith, short)))) ∙ none; short = short }
 
 pub long_front : {W : Type 0} (numbers : W → List ℤ) (valid : W → Bool) (rest : Bytes) → list_all no_feed (take line_limit rest) ≡ true → line_limit ≤ length rest → (HasNoWholeLine rest → ⊥) × BeginsWithNone numbers valid rest
 long_front numbers valid rest none long = (

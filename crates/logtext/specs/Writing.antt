@@ -1,5 +1,5 @@
 -- What writing to a log does, where some bytes are gathered before they are written.
-use Rattle.std.specs.Prelude.{◌≡◌, ℕ, ◌≤◌, true, List, [], ◌∷◌, ◌++◌, length, take, drop, Option, Result, OnOk, IsOk}
+use Rattle.std.specs.Prelude.{◌≡◌, ℕ, ◌≤◌, true, List, ◌++◌, length, take, drop, Option, Result, OnOk, IsOk}
 use Rattle.sched_base.specs.declared.desk.Failed.{Failed}
 use Rattle.sched_base.specs.State.{State}
 use Rattle.sched_base.specs.Calls.{Counted, appended}
@@ -16,8 +16,3 @@ pub record Gathers (text : Bytes) (result : Result (Unit {0}) Failed) (held kept
 -- so many of the bytes at the front were appended
 abbrev pub AppendedFrom : Bytes → Option Bytes → Option Bytes → Type 0
 AppendedFrom bytes before after = (n : ℕ) × (n ≤ length bytes) × (after ≡ appended (take n bytes) before)
-
--- the words with a space before each
-unfoldable pub spaced : List Bytes → Bytes
-spaced [] = []
-spaced (w ∷ ws) = 32 ∷ (w ++ spaced ws)

@@ -1,7 +1,7 @@
 ghost use Rattle.std.specs.Prelude.{◌≡◌, ◌<◌, [], get_or};
 ghost use Rattle.std.specs.List.{position};
 ghost use Rattle.std.specs.Str.{bytes_eq};
-ghost use Rattle.logtext.specs.Spelling.{basic_kinds, hier_kinds};
+ghost use Rattle.logtext.specs.Spelling.{basic_kinds, hier_kinds, seq_kinds};
 ghost use Rattle.logtext.specs.Reads.{FindsWord};
 
 /// The words of the kinds in `refute_basic`, by their places there.
@@ -9,6 +9,9 @@ const BASIC: [&[u8]; 6] = [b"SIZE", b"ARC", b"CYCLE", b"EXPR", b"OBJ", b"LEAF"];
 
 /// The words of the kinds in `refute_hier`, by their places there.
 const HIER: [&[u8]; 3] = [b"SPAN", b"ALT", b"SYNC"];
+
+/// The words of the kinds in `refute_seq`, by their places there.
+const SEQ: [&[u8]; 2] = [b"PAIR", b"TRIPLE"];
 
 /// The place of a word in a table.
 #[inline(always)]
@@ -46,4 +49,19 @@ pub fn hier_word(place: usize) -> &'static [u8]
     ensures { result.now ≡ get_or hier_kinds place [] }
 {
     HIER[place]
+}
+
+/// The place of the kind in `refute_seq` that has this word.
+pub fn seq_place(word: &[u8]) -> Option<usize>
+    ensures { FindsWord seq_kinds word.now result }
+{
+    place_of(word, &SEQ)
+}
+
+/// The word of the kind at a place in `refute_seq`.
+pub fn seq_word(place: usize) -> &'static [u8]
+    requires { place < 2 }
+    ensures { result.now ≡ get_or seq_kinds place [] }
+{
+    SEQ[place]
 }

@@ -4,15 +4,18 @@ ghost use Rattle.std.specs.Fmt.{decimal, signed_decimal};
 ghost use Rattle.region.specs.declared.types.Guess.TheVariants.{Before};
 ghost use Rattle.refute_basic.specs.Witness.{numbers_of};
 ghost use Rattle.refute_hier.specs.Witness.{numbers_of as hier_numbers};
+ghost use Rattle.refute_seq.specs.Witness.{numbers_of as seq_numbers};
 ghost use Rattle.kernel.specs.declared.types.Witness.TheVariants.{Extra};
-ghost use Rattle.logtext.specs.Spelling.{guess_words, basic_kinds, hier_kinds, kind_words, witness_words, slot_words, member_word, order_words, segment_words, segments_words, assignment_words};
-ghost use Rattle.logtext.specs.Writing.{Gathers, spaced};
+ghost use Rattle.logtext.specs.Spelling.{guess_words, basic_kinds, hier_kinds, seq_kinds, kind_words, witness_words, slot_words, member_word, order_words, segment_words, segments_words, assignment_words};
+ghost use Rattle.textline.specs.Lines.{spaced};
+ghost use Rattle.logtext.specs.Writing.{Gathers};
 
-use crate::kinds::{basic_word, hier_word};
+use crate::kinds::{basic_word, hier_word, seq_word};
 use crate::writer::LogWriter;
 use kernel::Witness;
 use refute_basic::BasicWitness;
 use refute_hier::HierWitness;
+use refute_seq::SeqWitness;
 use region::{Guess, Numbers};
 use sched_base::{Desk, Failed, Itv, List, Seq};
 use sched_model::{Assignment, Segment, Slot};
@@ -54,7 +57,7 @@ impl LogWriter {
         self.put_number(y.0, desk)
     }
 
-    #[tactic(auto, unfolding(crate::specs::Writing::spaced))]
+    #[tactic(auto, unfolding(textline::specs::Lines::spaced))]
     pub(crate) fn put_guess<D: Desk>(&mut self, g: Guess, desk: &mut D) -> Result<(), Failed>
         requires { (D.state desk.old).created ≡ true }
         ensures { Gathers (spaced (guess_words g)) result self.old self.new (D.state desk.old) (D.state desk.new) }
@@ -117,6 +120,14 @@ impl LogWriter {
         self.put_kind(hier_word(place as usize), w, desk)
     }
 
+    fn put_seq<D: Desk>(&mut self, w: &SeqWitness, desk: &mut D) -> Result<(), Failed>
+        requires { (D.state desk.old).created ≡ true }
+        ensures { Gathers (spaced (kind_words seq_kinds (seq_numbers w.now))) result self.old self.new (D.state desk.old) (D.state desk.new) }
+    {
+        let place = w.number(0);
+        self.put_kind(seq_word(place as usize), w, desk)
+    }
+
     fn put_extra<W: Numbers, D: Desk>(&mut self, w: &W, desk: &mut D) -> Result<(), Failed>
         requires { (D.state desk.old).created ≡ true }
         ensures { Gathers (spaced (witness_words W.numbers (Extra w.now))) result self.old self.new (D.state desk.old) (D.state desk.new) }
@@ -137,6 +148,7 @@ impl LogWriter {
         match w {
             Witness::Basic(basic) => self.put_basic(basic, desk),
             Witness::Hier(hier) => self.put_hier(hier, desk),
+            Witness::Seq(seq) => self.put_seq(seq, desk),
             Witness::Extra(extra) => self.put_extra(extra, desk),
         }
     }
@@ -150,7 +162,7 @@ impl LogWriter {
         self.put_number(e, desk)
     }
 
-    #[tactic(auto, unfolding(crate::specs::Writing::spaced))]
+    #[tactic(auto, unfolding(textline::specs::Lines::spaced))]
     fn put_slot<D: Desk>(&mut self, slot: Slot, desk: &mut D) -> Result<(), Failed>
         requires { (D.state desk.old).created ≡ true }
         ensures { Gathers (spaced (slot_words slot)) result self.old self.new (D.state desk.old) (D.state desk.new) }

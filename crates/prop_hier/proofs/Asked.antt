@@ -1,10 +1,8 @@
 -- From the rows of a constraint to its propagator.
-use Rattle.std.specs.Prelude.{◌≡◌, ℕ, ℤ, List, Option, Some, None, IfNone, slice_get}
-use Rattle.std.proofs.Common.{sym, ap, subst, ◌∙◌}
+use Rattle.std.specs.Prelude.{◌≡◌, ℕ, ℤ, List, Option, Some, None, IfNone}
+use Rattle.std.proofs.Common.{subst}
 use Rattle.sched_base.specs.declared.ids.Itv.{Itv}
-use Rattle.sched_model.specs.declared.types.Constraint.{Constraint}
 use Rattle.sched_model.specs.Data.{Data}
-use Rattle.sched_model.specs.Valid.{IsValid}
 use Rattle.region.specs.declared.types.Guess.{Guess}
 use Rattle.region.specs.Cells.{Region}
 use Rattle.region.specs.Looks.{Seen, seen_at}
@@ -12,15 +10,12 @@ use Rattle.findings.specs.Found.{IsFound, IsFinding}
 use Rattle.refute_hier.specs.declared.witness.HierWitness.{HierWitness}
 use Rattle.refute_hier.specs.Hier.{refutes}
 use Rattle.refute_hier.specs.declared.family.Kind.{Kind}
-use Rattle.refute_hier.specs.Rows.{as_constraint, IsWitness}
+use Rattle.refute_hier.specs.Rows.{IsWitness}
 use Rattle.prop_hier.specs.Rows.{refutes_under}
 use Rattle.prop_hier.specs.Ready.{AreParts}
 use Rattle.prop_hier.specs.Tasks.{quiet}
-use Rattle.refute_hier.specs.laws.Parts.{IsFamily, is_one}
+use Rattle.refute_hier.specs.laws.Parts.{IsFamily}
 use Rattle.prop_hier.specs.laws.Quiet.{Unrefuted, unrefuted_from, finding_from}
-
-pub listed : (m : Data) (cs : List Constraint) (c : ℕ) (d : Constraint) (kind : Kind) (a : Itv) (bs : List Itv) → IsValid m → cs ≡ m.constraints → Some d ≡ slice_get cs c → d ≡ as_constraint kind a bs → IsFamily m c kind a bs
-listed m cs c d kind a bs valid same at is = is_one m c kind a bs valid (ap (λ ds. slice_get ds c) (sym same) ∙ sym at ∙ ap Some is)
 
 pub parts_of : (m : Data) (c : ℕ) (kind : Kind) (a : Itv) (bs : List Itv) → IsFamily m c kind a bs → AreParts bs
 parts_of m c kind a bs of = record { distinct = of.distinct; few = of.few.parts }

@@ -22,7 +22,7 @@ use Rattle.region.specs.laws.OneSequence.{same_is, same_turned, has_cases}
 use Rattle.refute_hier.specs.declared.parts.Role.{Role}
 use Rattle.refute_hier.specs.declared.parts.Role.TheVariants.{IsThere, StartsBefore, EndsAfter, Clashes, MayStart, MayEnd, MayMatch}
 use Rattle.refute_hier.specs.Parts.{plays, plays_in}
-use Rattle.refute_hier.specs.laws.Filtered.{never}
+use Rattle.region.specs.laws.Found.{never}
 use Rattle.refute_hier.specs.declared.family.Kind.{Kind}
 use Rattle.refute_hier.specs.declared.family.Kind.TheVariants.{Span, Alternative, Synchronize}
 use Rattle.prop_hier.specs.declared.counts.Counts.{Counts}

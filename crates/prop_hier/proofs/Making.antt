@@ -1,7 +1,6 @@
 -- The lists of a table, one after the other.
-use Rattle.std.specs.Prelude.{◌≡◌, ℕ, zero, suc, ◌+◌, ◌<◌, false, List, [], ◌∷◌, ◌++◌, length, Some, slice_get}
+use Rattle.std.specs.Prelude.{◌≡◌, ℕ, ◌+◌, ◌<◌, false, List, [], ◌∷◌, ◌++◌, length, Some, slice_get}
 use Rattle.std.proofs.Common.{◌≢◌, refl, sym, ap, subst, ◌∙◌, arith, get_or, inl, inr}
-use Rattle.std.proofs.Math.Seq.{get_or-append_seam}
 use Rattle.std.proofs.lemmas.Bool.{cases_eq}
 use Rattle.std.proofs.lemmas.List.{get_or_append_left, length_push}
 use Rattle.sched_base.specs.declared.ids.Itv.{Itv}
@@ -12,9 +11,7 @@ use Rattle.refute_hier.specs.declared.family.Kind.{Kind}
 use Rattle.refute_hier.specs.declared.family.Kind.TheVariants.{Span, Alternative, Synchronize}
 use Rattle.refute_hier.specs.Rows.{as_constraint, is_family}
 use Rattle.prop_hier.specs.Tables.{Table, ListEach}
-
-newest : {X : Type 0} (n : ℕ) (xs : List X) (x d : X) → n ≡ length xs → get_or (xs ++ x ∷ []) n d ≡ x
-newest n xs x d is = ap (λ k. get_or (xs ++ x ∷ []) k d) is ∙ get_or-append_seam xs x [] d
+use Rattle.base_laws.specs.laws.Places.{newest, there}
 
 -- the lists of the first constraints
 pub record ListBelow (n : ℕ) (cs : List Constraint) (t : Table) : Type 0 where
@@ -24,16 +21,11 @@ pub record ListBelow (n : ℕ) (cs : List Constraint) (t : Table) : Type 0 where
 pub list_none : (cs : List Constraint) → ListBelow 0 cs []
 list_none cs = record { size = refl; each = λ c below. absurd (omega (arith, below)) }
 
-there : (cs : List Constraint) (n : ℕ) (c : Constraint) → n < length cs → c ≡ get_or cs n c → slice_get cs n ≡ Some c
-there [] n c h at = absurd (omega (arith, h))
-there (d ∷ ds) zero c h at = ap Some (sym at)
-there (d ∷ ds) (suc n) c h at = there ds n c (omega (arith, h)) at
-
 pub list_more : (n : ℕ) (cs : List Constraint) (t : Table) (c : Constraint) (v : List Itv) → ListBelow n cs t → n < length cs → c ≡ get_or cs n c → v ≡ family_of (Some c) → ListBelow (n + 1) cs (t ++ v ∷ [])
 list_more n cs t c v so_far within at is = record {
   size = length_push t v ∙ ap (λ k. k + 1) so_far.size;
   each = λ i below. elim (cases_eq i n) [
-    | inl last ↦ subst (λ k. get_or (t ++ v ∷ []) k [] ≡ family_of (slice_get cs k)) (sym last) (newest n t v [] (sym so_far.size) ∙ is ∙ sym (ap family_of (there cs n c within at)))
+    | inl last ↦ subst (λ k. get_or (t ++ v ∷ []) k [] ≡ family_of (slice_get cs k)) (sym last) (newest n t v [] (sym so_far.size) ∙ is ∙ sym (ap family_of (there cs n c c within at)))
     | inr other ↦ (let apart : i ≢ n = other in let less : i < n = omega (arith, below, apart) in let size = so_far.size in get_or_append_left t (v ∷ []) [] i (omega (arith, less, size)) ∙ so_far.each i less)
   ];
 }

@@ -1,7 +1,8 @@
 -- A walk through the intervals of a constraint.
-use Rattle.std.specs.Prelude.{◌≡◌, ◌⊎◌, ℕ, zero, suc, ◌+◌, ◌<◌, ◌≤◌, Bool, true, false, ◌||◌, List, [], ◌∷◌, length, Option, Some, None, take}
+use Rattle.std.specs.Prelude.{◌≡◌, ◌⊎◌, ℕ, zero, suc, ◌+◌, ◌<◌, ◌≤◌, Bool, true, false, List, [], ◌∷◌, length, Option, Some, None, take}
 use Rattle.std.proofs.Common.{inl, inr, refl, sym, ap, subst, ◌∙◌, arith, get_or}
 use Rattle.std.proofs.lemmas.List.{take_all}
+use Rattle.std.proofs.lemmas.Bool.{or_left, or_right}
 use Rattle.sched_base.specs.declared.ids.Itv.{Itv}
 use Rattle.sched_model.specs.Data.{same, has}
 use Rattle.region.specs.declared.types.Topic.{Topic}
@@ -10,7 +11,7 @@ use Rattle.region.specs.declared.types.Guess.{Guess}
 use Rattle.region.specs.Cells.{Region}
 use Rattle.region.specs.Guesses.{topic}
 use Rattle.region.specs.laws.Lists.{both_true, true_both}
-use Rattle.region.specs.laws.OneSequence.{same_is, same_self, has_first, has_later, has_cases}
+use Rattle.region.specs.laws.OneSequence.{same_is, same_self, has_cases}
 use Rattle.findings.specs.Ends.{is_open_end}
 use Rattle.findings.specs.Reads.{AreUnrefuted, is_among}
 use Rattle.region.specs.Looks.{Seen}
@@ -18,6 +19,7 @@ use Rattle.refute_hier.specs.declared.family.Kind.{Kind}
 use Rattle.prop_hier.specs.declared.counts.Counts.{Counts}
 use Rattle.prop_hier.specs.Counts.{counts_of}
 use Rattle.prop_hier.specs.Ready.{AreParts, IsReady}
+use Rattle.base_laws.specs.laws.Truth.{alone}
 
 -- nothing refutes the region as it stands, once one was asked, nor under a guess on one of the first
 pub record AskedFirst (test : Option Guess → Bool) (r : Region) (xs : List Itv) (n : ℕ) : Type 0 where
@@ -36,9 +38,9 @@ has_more : (xs : List Itv) (n : ℕ) (x d z : Itv) → n < length xs → x ≡ g
 has_more [] n x d z within is h = absurd (omega (arith, within))
 has_more (y ∷ ys) zero x d z within is h = inr (subst (λ w. has (w ∷ []) z ≡ true) (sym is) h)
 has_more (y ∷ ys) (suc n) x d z within is h = elim (has_cases (same z y) (has (take (suc n) ys) z) h) [
-  | inl here ↦ inl (has_first (same z y) (has (take n ys) z) here)
+  | inl here ↦ inl (or_left (same z y) (has (take n ys) z) here)
   | inr later ↦ elim (has_more ys n x d z (omega (arith, within)) is later) [
-    | inl before ↦ inl (has_later (same z y) (has (take n ys) z) before)
+    | inl before ↦ inl (or_right (same z y) (has (take n ys) z) before)
     | inr last ↦ inr last
   ]
 ]
@@ -69,15 +71,11 @@ all_asked test r xs bs a n same all none (Some g) asked =
 -- one of the list is listed
 pub has_at : (xs : List Itv) (n : ℕ) (x d : Itv) → n < length xs → x ≡ get_or xs n d → has xs x ≡ true
 has_at [] n x d within is = absurd (omega (arith, within))
-has_at (y ∷ ys) zero x d within is = has_first (same x y) (has ys x) (subst (λ w. same x w ≡ true) is (same_self x))
-has_at (y ∷ ys) (suc n) x d within is = has_later (same x y) (has ys x) (has_at ys n x d (omega (arith, within)) is)
+has_at (y ∷ ys) zero x d within is = or_left (same x y) (has ys x) (subst (λ w. same x w ≡ true) is (same_self x))
+has_at (y ∷ ys) (suc n) x d within is = or_right (same x y) (has ys x) (has_at ys n x d (omega (arith, within)) is)
 
 pub ready_at : (kind : Kind) (r : Region) (a : Itv) (bs xs : List Itv) (c : Counts) (n : ℕ) (x d : Itv) (l : Seen) → AreParts bs → l.region ≡ r → c ≡ counts_of kind l.region a bs → xs ≡ a ∷ bs → n < length xs → x ≡ get_or xs n d → IsReady kind r a bs c x
 ready_at kind r a bs xs c n x d l parts shown counts same within is = record { parts = parts; counts = counts ∙ ap (λ k. counts_of kind k a bs) shown; member = subst (λ zs. has zs x ≡ true) same (has_at xs n x d within is) }
-
-alone : (b : Bool) → (b || false) ≡ true → b ≡ true
-alone true h = refl
-alone false h = h
 
 one_among : (xs : List Itv) (x : Itv) (t : Topic) → has xs x ≡ true → is_among (x ∷ []) [] t ≡ true → is_among xs [] t ≡ true
 one_among xs x (One z c) there h = subst (λ w. has xs w ≡ true) (sym (same_is z x (alone (same z x) h))) there

@@ -89,4 +89,8 @@ impl<'a> GuessTest for MemberTest<'a> {
         }
         some_refutes(&self.region.look(guess, None), self.family)
     }
+
+    fn reach(&self, _: Guess) -> Option<u64> {
+        None
+    }
 }

@@ -1,17 +1,14 @@
 -- The numbers of a witness: the place of its kind among the kinds of this crate, then those of its row.
-use Rattle.std.specs.Prelude.{ℕ, ◌^◌, ℤ, pos, Bool, ◌&&◌, List, [], ◌∷◌, nat_lt}
+use Rattle.std.specs.Prelude.{ℕ, ℤ, pos, Bool, ◌&&◌, List, [], ◌∷◌}
 use Rattle.refute_hier.specs.declared.witness.HierWitness.{HierWitness}
 use Rattle.refute_hier.specs.declared.witness.HierWitness.TheVariants.{Span, Alt, Sync}
+use Rattle.sched_model.specs.Bounds.{is_number}
 
 -- the kinds are SPAN, ALT, SYNC and SEQREL, counted from 0
 abbrev pub numbers_of : HierWitness → List ℤ
 numbers_of (Span c r i) = pos 0 ∷ pos c ∷ pos r ∷ pos i ∷ []
 numbers_of (Alt c r i j) = pos 1 ∷ pos c ∷ pos r ∷ pos i ∷ pos j ∷ []
 numbers_of (Sync c i) = pos 2 ∷ pos c ∷ pos i ∷ []
-
--- a single number that isn't a moment is below 2^32
-abbrev pub is_number : ℕ → Bool
-is_number n = nat_lt n (2 ^ 32)
 
 abbrev pub is_valid : HierWitness → Bool
 is_valid (Span c r i) = is_number c && is_number r && is_number i

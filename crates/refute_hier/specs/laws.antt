@@ -2,7 +2,6 @@ pub mod Spelling
 pub mod Filtered
 pub mod Alike
 pub mod Past
-pub mod Present
 pub mod Span
 pub mod Alt
 pub mod Sync
@@ -10,5 +9,4 @@ pub mod Sound
 pub mod Rows
 pub mod Families
 pub mod Parts
-pub mod Pinned
 pub mod Settled

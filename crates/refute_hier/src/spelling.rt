@@ -1,5 +1,6 @@
 ghost use Rattle.std.specs.Prelude.{◌≡◌, ℕ, pos, [], ◌∷◌, IsTrue, IfSome, IfNone};
-ghost use Rattle.refute_hier.specs.Witness.{numbers_of, is_number, is_valid};
+ghost use Rattle.sched_model.specs.Bounds.{is_number};
+ghost use Rattle.refute_hier.specs.Witness.{numbers_of, is_valid};
 ghost use Rattle.refute_hier.specs.declared.witness.HierWitness.{HierWitness};
 
 use crate::witness::HierWitness;

@@ -26,7 +26,9 @@ use Rattle.region.specs.laws.Narrowing.{as_many}
 use Rattle.refute_basic.specs.laws.Fits.{few_of}
 use Rattle.refute_basic.specs.laws.Spelling.{refuting_valid}
 use Rattle.refute_hier.specs.laws.Spelling.{refuting_valid as hier_valid}
+use Rattle.refute_seq.specs.laws.Spelling.{refuting_valid as seq_valid}
 use Rattle.kernel.specs.declared.types.Witness.{Witness}
+use Rattle.kernel.specs.declared.types.Witness.TheVariants as witness
 use Rattle.kernel.specs.declared.types.Witness.TheVariants.{Basic, Hier, Extra}
 use Rattle.kernel.specs.declared.types.Line.TheVariants.{Derive}
 use Rattle.kernel.specs.Refuting.{refutes_with}
@@ -144,6 +146,7 @@ pub fit_refuting : {W : Type 0} (extra : Refuting W) (valid : W → Bool) → ((
     → (m : Data) (l : Seen) (w : Witness W) → refutes_with extra m l w ≡ true → is_fit_witness valid w ≡ true
 fit_refuting extra valid each m l (Basic w) h = refuting_valid m l w h
 fit_refuting extra valid each m l (Hier w) h = hier_valid m l w h
+fit_refuting extra valid each m l (witness.Seq w) h = seq_valid m l w h
 fit_refuting extra valid each m l (Extra w) h = each m l w h
 
 -- so a line that derives is fit

@@ -8,25 +8,27 @@ use Rattle.std.specs.Fmt.{decimal, signed_decimal}
 use Rattle.sched_model.specs.Valid.{is_small}
 use Rattle.region.specs.Spelled.{AreSmall}
 use Rattle.kernel.specs.declared.types.Witness.{Witness}
-use Rattle.kernel.specs.declared.types.Witness.TheVariants.{Basic, Hier, Extra}
+use Rattle.kernel.specs.declared.types.Witness.TheVariants.{Basic, Hier, Seq, Extra}
 use Rattle.kernel.specs.declared.types.Line.{Line}
 use Rattle.kernel.specs.declared.types.Line.TheVariants.{Derive, Fail, Split, Sol}
 use Rattle.refute_basic.specs.Witness.{numbers_of, is_valid}
 use Rattle.refute_basic.specs.laws.Spelling.{few_numbers, small_numbers, told_apart}
 use Rattle.refute_hier.specs.Witness.{numbers_of as hier_numbers, is_valid as is_valid_hier}
 use Rattle.refute_hier.specs.laws.Spelling.{few_numbers as few_hier, small_numbers as small_hier, told_apart as hier_apart}
+use Rattle.refute_seq.specs.Witness.{numbers_of as seq_numbers, is_valid as is_valid_seq}
+use Rattle.refute_seq.specs.laws.Spelling.{few_numbers as few_seq, small_numbers as small_seq, told_apart as seq_apart}
 use Rattle.kernel.specs.Fit.{is_count, is_fit, is_fit_guess, is_fit_witness}
 use Rattle.textline.specs.Lines.{Bytes, line}
 use Rattle.textline.specs.Words.{are_words}
-use Rattle.textline.specs.laws.Lines.{both_true, true_both, line_told}
+use Rattle.textline.specs.laws.Lines.{both_true, true_both, line_told, one_word}
 use Rattle.logtext.specs.declared.entry.Entry.{Entry}
 use Rattle.logtext.specs.declared.entry.Entry.TheVariants.{Head, Step, Finish}
-use Rattle.logtext.specs.Spelling.{guess_words, basic_kinds, hier_kinds, kind_words, witness_words, assignment_words, line_words}
+use Rattle.logtext.specs.Spelling.{guess_words, basic_kinds, hier_kinds, seq_kinds, kind_words, witness_words, assignment_words, line_words}
 use Rattle.logtext.specs.Entries.{entry_text, entry_words, is_fit_entry}
 use Rattle.logtext.specs.laws.Leads.{tag, behind}
 use Rattle.logtext.specs.laws.Told.{moments_told, guess_told, assignment_told}
-use Rattle.logtext.specs.laws.Kinds.{are_different, is_placed, basic_differ, basic_plain, basic_placed, hier_differ, hier_plain, hier_placed, word_at, kind_told, begins, one_crate}
-use Rattle.logtext.specs.laws.Plain.{count_word, moment_word, first_and, front_and, each_plain, guess_plain, assignment_plain}
+use Rattle.logtext.specs.laws.Kinds.{are_different, is_placed, basic_differ, basic_plain, basic_placed, hier_differ, hier_plain, hier_placed, seq_differ, seq_plain, seq_placed, word_at, kind_told, begins, one_crate}
+use Rattle.logtext.specs.laws.Plain.{count_word, moment_word, front_and, each_plain, guess_plain, assignment_plain}
 
 -- valid witnesses have few and small numbers, which tell them apart
 pub record AreTold {W : Type 0} (numbers : W → List ℤ) (valid : W → Bool) : Type 0 where
@@ -53,10 +55,14 @@ basic_laws = record { few = few_numbers; small = small_numbers; apart = told_apa
 pub hier_laws : AreTold hier_numbers is_valid_hier
 hier_laws = record { few = few_hier; small = small_hier; apart = hier_apart }
 
+pub seq_laws : AreTold seq_numbers is_valid_seq
+seq_laws = record { few = few_seq; small = small_seq; apart = seq_apart }
+
 -- a witness is the last thing of its line
 pub witness_told : {W : Type 0} → (numbers : W → List ℤ) (valid : W → Bool) → AreTold numbers valid → (a b : Witness W) → is_fit_witness valid a ≡ true → is_fit_witness valid b ≡ true → witness_words numbers a ≡ witness_words numbers b → a ≡ b
 witness_told numbers valid laws (Basic a) (Basic b) ha hb e = ap Basic (kind_witness_told basic_kinds numbers_of is_valid basic_differ basic_placed basic_laws a b ha hb e)
 witness_told numbers valid laws (Hier a) (Hier b) ha hb e = ap Hier (kind_witness_told hier_kinds hier_numbers is_valid_hier hier_differ hier_placed hier_laws a b ha hb e)
+witness_told numbers valid laws (Seq a) (Seq b) ha hb e = ap Seq (kind_witness_told seq_kinds seq_numbers is_valid_seq seq_differ seq_placed seq_laws a b ha hb e)
 witness_told numbers valid laws (Extra a) (Extra b) ha hb e =
     let same = moments_told (numbers a) (numbers b) (all_small (numbers a) (laws.small a ha)) (all_small (numbers b) (laws.small b hb)) (behind _ _ _ _ (behind _ _ _ _ e)) in ap Extra (laws.apart a b ha hb same)
 witness_told numbers valid laws v w ha hb e = let one = one_crate numbers v w e in let few = (begins numbers v).within in let also = (begins numbers w).within in absurd (omega (arith, one, few, also))
@@ -97,13 +103,14 @@ numbers_plain zs h = each_plain signed_decimal is_small moment_word zs h
 kind_plain : (kinds : List Bytes) (zs : List ℤ) → are_words kinds ≡ true → list_all is_small zs ≡ true → are_words (kind_words kinds zs) ≡ true
 kind_plain kinds [] plain h = refl
 kind_plain kinds (negsuc k ∷ zs) plain h = refl
-kind_plain kinds (pos k ∷ zs) plain h = first_and (get_or kinds k []) (map signed_decimal zs) (word_at kinds k plain) (numbers_plain zs (both_true (is_small (pos k)) (list_all is_small zs) h).1)
+kind_plain kinds (pos k ∷ zs) plain h = one_word (get_or kinds k []) (map signed_decimal zs) (word_at kinds k plain) (numbers_plain zs (both_true (is_small (pos k)) (list_all is_small zs) h).1)
 
 pub witness_plain : {W : Type 0} → (numbers : W → List ℤ) (valid : W → Bool) → AreTold numbers valid → (w : Witness W) → is_fit_witness valid w ≡ true → are_words (witness_words numbers w) ≡ true
 witness_plain numbers valid laws (Basic w) h = kind_plain basic_kinds (numbers_of w) basic_plain (all_small (numbers_of w) (small_numbers w h))
 witness_plain numbers valid laws (Hier w) h = kind_plain hier_kinds (hier_numbers w) hier_plain (all_small (hier_numbers w) (small_hier w h))
+witness_plain numbers valid laws (Seq w) h = kind_plain seq_kinds (seq_numbers w) seq_plain (all_small (seq_numbers w) (small_seq w h))
 witness_plain numbers valid laws (Extra w) h =
-    first_and (decimal (length (numbers w))) (map signed_decimal (numbers w)) (count_word (length (numbers w)) (few_is_count (length (numbers w)) (laws.few w h))) (numbers_plain (numbers w) (all_small (numbers w) (laws.small w h)))
+    one_word (decimal (length (numbers w))) (map signed_decimal (numbers w)) (count_word (length (numbers w)) (few_is_count (length (numbers w)) (laws.few w h))) (numbers_plain (numbers w) (all_small (numbers w) (laws.small w h)))
 
 line_plain : {W : Type 0} → (numbers : W → List ℤ) (valid : W → Bool) → AreTold numbers valid → (l : Line W) → is_fit valid l ≡ true → are_words (line_words numbers l) ≡ true
 line_plain numbers valid laws (Derive g w) h =

@@ -15,12 +15,15 @@ use Rattle.refute_basic.specs.Witness.{numbers_of}
 use Rattle.refute_hier.specs.declared.witness.HierWitness.{HierWitness}
 use Rattle.refute_hier.specs.declared.witness.HierWitness.TheVariants.{Span, Alt, Sync}
 use Rattle.refute_hier.specs.Witness.{numbers_of as hier_numbers}
+use Rattle.refute_seq.specs.declared.witness.SeqWitness.{SeqWitness}
+use Rattle.refute_seq.specs.declared.witness.SeqWitness.TheVariants.{Pair, Triple}
+use Rattle.refute_seq.specs.Witness.{numbers_of as seq_numbers}
 use Rattle.kernel.specs.declared.types.Witness.{Witness}
-use Rattle.kernel.specs.declared.types.Witness.TheVariants.{Basic, Hier, Extra}
+use Rattle.kernel.specs.declared.types.Witness.TheVariants.{Basic, Hier, Seq, Extra}
 use Rattle.textline.specs.Lines.{Bytes}
 use Rattle.textline.specs.Words.{is_word, are_words}
 use Rattle.textline.specs.laws.Lines.{both_true}
-use Rattle.logtext.specs.Spelling.{basic_kinds, hier_kinds, kind_words, witness_words}
+use Rattle.logtext.specs.Spelling.{basic_kinds, hier_kinds, seq_kinds, kind_words, witness_words}
 use Rattle.logtext.specs.laws.Leads.{behind, head_is}
 use Rattle.logtext.specs.laws.Told.{moments_told}
 
@@ -31,7 +34,7 @@ are_different (w ∷ ws) = list_all (λ v. not (bytes_eq w v)) ws && are_differe
 
 -- EXTRA, and the words of all kinds
 abbrev pub first_words : List Bytes
-first_words = codes "EXTRA" ∷ (basic_kinds ++ hier_kinds)
+first_words = codes "EXTRA" ∷ (basic_kinds ++ (hier_kinds ++ seq_kinds))
 
 pub first_words_differ : are_different first_words ≡ true
 first_words_differ = refl
@@ -48,6 +51,12 @@ hier_differ = refl
 
 pub hier_plain : are_words hier_kinds ≡ true
 hier_plain = refl
+
+pub seq_differ : are_different seq_kinds ≡ true
+seq_differ = refl
+
+pub seq_plain : are_words seq_kinds ≡ true
+seq_plain = refl
 
 -- the first number is the place of a word
 abbrev pub is_placed : List Bytes → List ℤ → Bool
@@ -66,6 +75,10 @@ pub hier_placed : (w : HierWitness) → is_placed hier_kinds (hier_numbers w) �
 hier_placed (Span c r i) = refl
 hier_placed (Alt c r i j) = refl
 hier_placed (Sync c i) = refl
+
+pub seq_placed : (w : SeqWitness) → is_placed seq_kinds (seq_numbers w) ≡ true
+seq_placed (Pair c a b k) = refl
+seq_placed (Triple p x y z) = refl
 
 -- a word that is none of these stands at none of their places
 elsewhere : (w : Bytes) (ws : List Bytes) (k : ℕ) → list_all (λ v. not (bytes_eq w v)) ws ≡ true → k < length ws → w ≡ get_or ws k [] → ⊥
@@ -104,11 +117,13 @@ abbrev pub low_of : {W : Type 0} → Witness W → ℕ
 low_of (Extra w) = 0
 low_of (Basic w) = 1
 low_of (Hier w) = 7
+low_of (Seq w) = 10
 
 abbrev pub many_of : {W : Type 0} → Witness W → ℕ
 many_of (Extra w) = 1
 many_of (Basic w) = 6
 many_of (Hier w) = 3
+many_of (Seq w) = 2
 
 -- so a witness begins with one of them
 pub record Begins {W : Type 0} (numbers : W → List ℤ) (w : Witness W) : Type 0 where
@@ -118,10 +133,13 @@ pub record Begins {W : Type 0} (numbers : W → List ℤ) (w : Witness W) : Type
   pub first : witness_words numbers w ≡ get_or first_words (low_of w + place) [] ∷ others
 
 basic_word : (k : ℕ) → k < length basic_kinds → get_or first_words (1 + k) [] ≡ get_or basic_kinds k []
-basic_word k within = get_or-append-add (codes "EXTRA" ∷ []) (basic_kinds ++ hier_kinds) k [] ∙ get_or-append basic_kinds hier_kinds [] k within
+basic_word k within = get_or-append-add (codes "EXTRA" ∷ []) (basic_kinds ++ (hier_kinds ++ seq_kinds)) k [] ∙ get_or-append basic_kinds (hier_kinds ++ seq_kinds) [] k within
 
-hier_word : (k : ℕ) → get_or first_words (7 + k) [] ≡ get_or hier_kinds k []
-hier_word k = get_or-append-add (codes "EXTRA" ∷ basic_kinds) hier_kinds k []
+hier_word : (k : ℕ) → k < length hier_kinds → get_or first_words (7 + k) [] ≡ get_or hier_kinds k []
+hier_word k within = get_or-append-add (codes "EXTRA" ∷ basic_kinds) (hier_kinds ++ seq_kinds) k [] ∙ get_or-append hier_kinds seq_kinds [] k within
+
+seq_word : (k : ℕ) → get_or first_words (10 + k) [] ≡ get_or seq_kinds k []
+seq_word k = get_or-append-add (codes "EXTRA" ∷ (basic_kinds ++ hier_kinds)) seq_kinds k []
 
 basic_begins : {W : Type 0} (numbers : W → List ℤ) (w : BasicWitness) (zs : List ℤ) → numbers_of w ≡ zs → is_placed basic_kinds zs ≡ true → Begins numbers (Basic w)
 basic_begins numbers w [] is placed = cc
@@ -133,17 +151,26 @@ basic_begins numbers w (pos k ∷ zs) is placed =
 hier_begins : {W : Type 0} (numbers : W → List ℤ) (w : HierWitness) (zs : List ℤ) → hier_numbers w ≡ zs → is_placed hier_kinds zs ≡ true → Begins numbers (Hier w)
 hier_begins numbers w [] is placed = cc
 hier_begins numbers w (negsuc k ∷ zs) is placed = cc
-hier_begins numbers w (pos k ∷ zs) is placed = record { place = k; others = map signed_decimal zs; within = grind (arith, nat_tests); first = ap (kind_words hier_kinds) is ∙ ap (λ v. v ∷ map signed_decimal zs) (sym (hier_word k)) }
+hier_begins numbers w (pos k ∷ zs) is placed =
+    let within : k < 3 = grind (arith, nat_tests) in
+    record { place = k; others = map signed_decimal zs; within = within; first = ap (kind_words hier_kinds) is ∙ ap (λ v. v ∷ map signed_decimal zs) (sym (hier_word k within)) }
+
+seq_begins : {W : Type 0} (numbers : W → List ℤ) (w : SeqWitness) (zs : List ℤ) → seq_numbers w ≡ zs → is_placed seq_kinds zs ≡ true → Begins numbers (Seq w)
+seq_begins numbers w [] is placed = cc
+seq_begins numbers w (negsuc k ∷ zs) is placed = cc
+seq_begins numbers w (pos k ∷ zs) is placed = record { place = k; others = map signed_decimal zs; within = grind (arith, nat_tests); first = ap (kind_words seq_kinds) is ∙ ap (λ v. v ∷ map signed_decimal zs) (sym (seq_word k)) }
 
 pub begins : {W : Type 0} (numbers : W → List ℤ) (w : Witness W) → Begins numbers w
 begins numbers (Basic w) = basic_begins numbers w (numbers_of w) refl (basic_placed w)
 begins numbers (Hier w) = hier_begins numbers w (hier_numbers w) refl (hier_placed w)
+begins numbers (Seq w) = seq_begins numbers w (seq_numbers w) refl (seq_placed w)
 begins numbers (Extra w) = record { place = 0; others = decimal (length (numbers w)) ∷ map signed_decimal (numbers w); within = omega arith; first = refl }
 
 all_within : {W : Type 0} (w : Witness W) → low_of w + many_of w ≤ length first_words
 all_within (Extra w) = omega arith
 all_within (Basic w) = omega arith
 all_within (Hier w) = omega arith
+all_within (Seq w) = omega arith
 
 -- what begins alike is of one crate
 pub same_place_from : {W : Type 0} (numbers : W → List ℤ) (w : Witness W) (k : ℕ) (us : List Bytes) → k < length first_words → get_or first_words k [] ∷ us ≡ witness_words numbers w → k ≡ low_of w + (begins numbers w).place
@@ -156,6 +183,8 @@ pub no_basic : {W : Type 0} (numbers : W → List ℤ) (w : Witness W) (k : ℕ)
 no_basic numbers (Basic w) k us other within e = other refl
 no_basic numbers (Hier w) k us other within e =
     let same = same_place_from numbers (Hier w) (1 + k) us (omega (arith, within)) (ap (λ v. v ∷ us) (basic_word k within) ∙ e) in absurd (omega (arith, same, within))
+no_basic numbers (Seq w) k us other within e =
+    let same = same_place_from numbers (Seq w) (1 + k) us (omega (arith, within)) (ap (λ v. v ∷ us) (basic_word k within) ∙ e) in absurd (omega (arith, same, within))
 no_basic numbers (Extra w) k us other within e =
     let same = same_place_from numbers (Extra w) (1 + k) us (omega (arith, within)) (ap (λ v. v ∷ us) (basic_word k within) ∙ e) in
     let least = (begins numbers (Extra w)).within in absurd (omega (arith, same, least))
@@ -163,16 +192,31 @@ no_basic numbers (Extra w) k us other within e =
 pub no_hier : {W : Type 0} (numbers : W → List ℤ) (w : Witness W) (k : ℕ) (us : List Bytes) → (low_of w ≡ 7 → ⊥) → k < length hier_kinds → get_or hier_kinds k [] ∷ us ≡ witness_words numbers w → ⊥
 no_hier numbers (Hier w) k us other within e = other refl
 no_hier numbers (Basic w) k us other within e =
-    let same = same_place_from numbers (Basic w) (7 + k) us (omega (arith, within)) (ap (λ v. v ∷ us) (hier_word k) ∙ e) in
+    let same = same_place_from numbers (Basic w) (7 + k) us (omega (arith, within)) (ap (λ v. v ∷ us) (hier_word k within) ∙ e) in
     let few = (begins numbers (Basic w)).within in absurd (omega (arith, same, few))
+no_hier numbers (Seq w) k us other within e =
+    let same = same_place_from numbers (Seq w) (7 + k) us (omega (arith, within)) (ap (λ v. v ∷ us) (hier_word k within) ∙ e) in absurd (omega (arith, same, within))
 no_hier numbers (Extra w) k us other within e =
-    let same = same_place_from numbers (Extra w) (7 + k) us (omega (arith, within)) (ap (λ v. v ∷ us) (hier_word k) ∙ e) in
+    let same = same_place_from numbers (Extra w) (7 + k) us (omega (arith, within)) (ap (λ v. v ∷ us) (hier_word k within) ∙ e) in
+    let few = (begins numbers (Extra w)).within in absurd (omega (arith, same, few))
+
+pub no_seq : {W : Type 0} (numbers : W → List ℤ) (w : Witness W) (k : ℕ) (us : List Bytes) → (low_of w ≡ 10 → ⊥) → k < length seq_kinds → get_or seq_kinds k [] ∷ us ≡ witness_words numbers w → ⊥
+no_seq numbers (Seq w) k us other within e = other refl
+no_seq numbers (Basic w) k us other within e =
+    let same = same_place_from numbers (Basic w) (10 + k) us (omega (arith, within)) (ap (λ v. v ∷ us) (seq_word k) ∙ e) in
+    let few = (begins numbers (Basic w)).within in absurd (omega (arith, same, few))
+no_seq numbers (Hier w) k us other within e =
+    let same = same_place_from numbers (Hier w) (10 + k) us (omega (arith, within)) (ap (λ v. v ∷ us) (seq_word k) ∙ e) in
+    let few = (begins numbers (Hier w)).within in absurd (omega (arith, same, few))
+no_seq numbers (Extra w) k us other within e =
+    let same = same_place_from numbers (Extra w) (10 + k) us (omega (arith, within)) (ap (λ v. v ∷ us) (seq_word k) ∙ e) in
     let few = (begins numbers (Extra w)).within in absurd (omega (arith, same, few))
 
 pub no_extra : {W : Type 0} (numbers : W → List ℤ) (w : Witness W) (us : List Bytes) → (low_of w ≡ 0 → ⊥) → codes "EXTRA" ∷ us ≡ witness_words numbers w → ⊥
 no_extra numbers (Extra w) us other e = other refl
 no_extra numbers (Basic w) us other e = let same = same_place_from numbers (Basic w) 0 us (omega arith) e in absurd (omega (arith, same))
 no_extra numbers (Hier w) us other e = let same = same_place_from numbers (Hier w) 0 us (omega arith) e in absurd (omega (arith, same))
+no_extra numbers (Seq w) us other e = let same = same_place_from numbers (Seq w) 0 us (omega arith) e in absurd (omega (arith, same))
 
 -- and so of two that are spelled alike
 pub one_crate : {W : Type 0} (numbers : W → List ℤ) (v w : Witness W) → witness_words numbers v ≡ witness_words numbers w → low_of v + (begins numbers v).place ≡ low_of w + (begins numbers w).place

@@ -5,6 +5,7 @@ use Rattle.std.specs.List.{list_all, flat_map}
 use Rattle.textline.specs.Lines.{Bytes}
 use Rattle.logtext.specs.Reads.{NoneStands}
 use Rattle.textline.specs.laws.Lines.{both_true}
+use Rattle.base_laws.specs.laws.Lists.{same_lists}
 
 -- a reading that tells values in front of words from each other
 abbrev pub Tells : {A : Type 0} → (A → List Bytes) → (A → Bool) → Type 0
@@ -23,9 +24,6 @@ behind v w x y e = cc
 pub head_is : (v w : Bytes) (x y : List Bytes) → v ∷ x ≡ w ∷ y → v ≡ w
 head_is v w x y e = cc
 
-both : {A : Type 0} → (a b : A) (us vs : List A) → a ≡ b → us ≡ vs → a ∷ us ≡ b ∷ vs
-both a b us vs e f = cc
-
 -- as many values
 pub counted_told : {A : Type 0} → (f : A → List Bytes) (fit : A → Bool) → Tells f fit → (us vs : List A) (x y : List Bytes) → list_all fit us ≡ true → list_all fit vs ≡ true → length us ≡ length vs → flat_map f us ++ x ≡ flat_map f vs ++ y → (us ≡ vs) × (x ≡ y)
 counted_told f fit tells [] [] x y ha hb same e = (refl, e)
@@ -35,7 +33,7 @@ counted_told f fit tells (a ∷ us) (b ∷ vs) x y ha hb same e =
     let ha' = both_true (fit a) (list_all fit us) ha in
     let hb' = both_true (fit b) (list_all fit vs) hb in
     let first = tells a b (flat_map f us ++ x) (flat_map f vs ++ y) ha'.0 hb'.0 (sym (append_assoc (f a) (flat_map f us) x) ∙ e ∙ append_assoc (f b) (flat_map f vs) y) in
-    let rest = counted_told f fit tells us vs x y ha'.1 hb'.1 (omega (arith, same)) first.1 in (both a b us vs first.0 rest.0, rest.1)
+    let rest = counted_told f fit tells us vs x y ha'.1 hb'.1 (omega (arith, same)) first.1 in (same_lists a b us vs first.0 rest.0, rest.1)
 
 -- no value stands behind fewer than there are
 pub counted_more : {A : Type 0} → (f : A → List Bytes) (fit : A → Bool) → Tells f fit → (us vs : List A) (words x : List Bytes) → list_all fit us ≡ true → list_all fit vs ≡ true → length us < length vs → NoneStands f fit words → flat_map f us ++ words ≡ flat_map f vs ++ x → ⊥
@@ -57,7 +55,7 @@ open_told f fit GoesOn tells starts (a ∷ us) (b ∷ vs) x y ha hb hx hy e =
     let ha' = both_true (fit a) (list_all fit us) ha in
     let hb' = both_true (fit b) (list_all fit vs) hb in
     let first = tells a b (flat_map f us ++ x) (flat_map f vs ++ y) ha'.0 hb'.0 (sym (append_assoc (f a) (flat_map f us) x) ∙ e ∙ append_assoc (f b) (flat_map f vs) y) in
-    let rest = open_told f fit GoesOn tells starts us vs x y ha'.1 hb'.1 hx hy first.1 in (both a b us vs first.0 rest.0, rest.1)
+    let rest = open_told f fit GoesOn tells starts us vs x y ha'.1 hb'.1 hx hy first.1 in (same_lists a b us vs first.0 rest.0, rest.1)
 
 -- no values end where one begins and none stands
 pub open_stuck : {A : Type 0} → (f : A → List Bytes) (fit : A → Bool) (GoesOn : List Bytes → Type 0) → Tells f fit → ((a : A) (x : List Bytes) → GoesOn (f a ++ x)) → (us vs : List A) (words rest : List Bytes) → list_all fit us ≡ true → list_all fit vs ≡ true → GoesOn words → NoneStands f fit words → (GoesOn rest → ⊥) → flat_map f us ++ words ≡ flat_map f vs ++ rest → ⊥

@@ -1,14 +1,12 @@
 -- Words tell the value that they spell.
-use Rattle.std.specs.Prelude.{◌≡◌, ℕ, ◌&&◌, ◌^◌, ◌<◌, ℤ, Bool, true, false, List, [], ◌∷◌, ◌++◌, length, map, codes}
+use Rattle.std.specs.Prelude.{◌≡◌, ℕ, ◌&&◌, ℤ, true, List, [], ◌∷◌, ◌++◌, length, map, codes}
 use Rattle.std.proofs.Common.{inl, inr, refl, ap, sym, ◌∙◌, arith}
-use Rattle.std.proofs.lemmas.Int.{ints}
 use Rattle.std.proofs.lemmas.List.{append-nil}
 use Rattle.std.proofs.lemmas.Bool.Decides.{nat_tests}
-use Rattle.std.proofs.lemmas.Fmt.{decimal_injective, signed_decimal_injective}
+use Rattle.std.proofs.lemmas.Fmt.{decimal_injective}
 use Rattle.std.proofs.lemmas.List.Concat.{flat_map_single}
 use Rattle.std.specs.List.{list_all, flat_map}
 use Rattle.std.specs.Fmt.{decimal, signed_decimal}
-use lib.Signed.{mag}
 use Rattle.sched_base.specs.declared.ids.Itv.{Itv}
 use Rattle.sched_base.specs.declared.ids.Seq.{Seq}
 use Rattle.sched_model.specs.Valid.{is_small}
@@ -16,6 +14,8 @@ use Rattle.sched_model.specs.declared.types.Assignment.{Assignment}
 use Rattle.sched_model.specs.declared.types.Segment.{Segment}
 use Rattle.sched_model.specs.declared.types.Slot.{Slot}
 use Rattle.sched_model.specs.declared.types.Slot.TheVariants as slot
+use Rattle.sched_model.specs.laws.Small.{small_told}
+use Rattle.sched_model.specs.laws.Same.{same_segment, same_assignment}
 use Rattle.region.specs.declared.types.Guess.TheVariants.{Present, Absent, StartLe, StartGe, EndLe, EndGe, Before}
 use Rattle.kernel.specs.Fit.{is_count, is_id, is_fit_guess, is_fit_slot, is_fit_order, is_fit_segment, are_fit_segments, is_fit_assignment}
 use Rattle.textline.specs.Lines.{Bytes}
@@ -23,20 +23,10 @@ use Rattle.textline.specs.laws.Lines.{both_true}
 use Rattle.logtext.specs.Spelling.{guess_words, slot_words, member_word, order_words, segment_words, segments_words, assignment_words}
 use Rattle.logtext.specs.Reads.{BeginsWith, BeginsSlot, counted_ids, counted_segments}
 use Rattle.logtext.specs.laws.Leads.{Tells, tag, behind, head_is, counted_told, open_told}
-
-pub three_true : (p q r : Bool) → (p && q && r) ≡ true → (p ≡ true) × (q ≡ true) × (r ≡ true)
-three_true true true r h = (refl, refl, h)
-three_true true false r h = cc
-three_true false q r h = cc
+use Rattle.base_laws.specs.laws.Truth.{three_true}
 
 pub count_told : (m n : ℕ) → is_count m ≡ true → is_count n ≡ true → decimal m ≡ decimal n → m ≡ n
 count_told m n hm hn e = decimal_injective m n (grind (arith, nat_tests)) (grind (arith, nat_tests)) e
-
-pub small_mag : (z : ℤ) → is_small z ≡ true → mag z < 2 ^ 63
-small_mag z h = grind (arith, ints)
-
-pub moment_told : (s t : ℤ) → is_small s ≡ true → is_small t ≡ true → signed_decimal s ≡ signed_decimal t → s ≡ t
-moment_told s t hs ht e = signed_decimal_injective s t (small_mag s hs) (small_mag t ht) e
 
 pub id_told : (x y : Itv) → is_id x ≡ true → is_id y ≡ true → decimal x.0 ≡ decimal y.0 → x ≡ y
 id_told x y hx hy e = ap (λ n. let it : Itv = record { 0 = n } in it) (count_told x.0 y.0 hx hy e)
@@ -46,7 +36,7 @@ bound_told : (v : Bytes) (x y : Itv) (s t : ℤ) (ws vs : List Bytes) → (is_id
 bound_told v x y s t ws vs hx hy e =
     let h = both_true (is_id x) (is_small s) hx in
     let k = both_true (is_id y) (is_small t) hy in
-    (id_told x y h.0 k.0 (cc), moment_told s t h.1 k.1 (cc), cc)
+    (id_told x y h.0 k.0 (cc), small_told s t h.1 k.1 (cc), cc)
 
 sequence_told : (p q : Seq) → is_count p.0 ≡ true → is_count q.0 ≡ true → decimal p.0 ≡ decimal q.0 → p ≡ q
 sequence_told p q hp hq e = ap (λ n. let it : Seq = record { 0 = n } in it) (count_told p.0 q.0 hp hq e)
@@ -73,8 +63,8 @@ slot_told slot.Absent slot.Absent ws vs hx hy e = (refl, cc)
 slot_told (slot.Present s f) (slot.Present t g) ws vs hx hy e =
     let h = both_true (is_small s) (is_small f) hx in
     let k = both_true (is_small t) (is_small g) hy in
-    let begin = moment_told s t h.0 k.0 (cc) in
-    let finish = moment_told f g h.1 k.1 (cc) in (cc, cc)
+    let begin = small_told s t h.0 k.0 (cc) in
+    let finish = small_told f g h.1 k.1 (cc) in (cc, cc)
 slot_told _ _ ws vs hx hy e = absurd (omega (arith, ap tag e))
 
 pub member_told : Tells (λ x. member_word x ∷ []) is_id
@@ -88,23 +78,20 @@ moments_told (x ∷ xs) [] hx hy e = cc
 moments_told (x ∷ xs) (y ∷ ys) hx hy e =
     let h = both_true (is_small x) (list_all is_small xs) hx in
     let k = both_true (is_small y) (list_all is_small ys) hy in
-    let first = moment_told x y h.0 k.0 (head_is _ _ _ _ e) in
+    let first = small_told x y h.0 k.0 (head_is _ _ _ _ e) in
     let rest = moments_told xs ys h.1 k.1 (behind _ _ _ _ e) in cc
 
 abbrev made_segment : ℤ → ℤ → ℤ → Segment
 made_segment p q v = record { p = p; q = q; v = v }
 
-segment_of : (a b : Segment) → a.p ≡ b.p → a.q ≡ b.q → a.v ≡ b.v → a ≡ b
-segment_of a b p q v = ap (λ x. made_segment x a.q a.v) p ∙ ap (λ x. made_segment b.p x a.v) q ∙ ap (λ x. made_segment b.p b.q x) v
-
 pub segment_told : Tells segment_words is_fit_segment
 segment_told a b ws vs hx hy e =
     let h = three_true (is_small a.p) (is_small a.q) (is_small a.v) hx in
     let k = three_true (is_small b.p) (is_small b.q) (is_small b.v) hy in
-    let p = moment_told a.p b.p h.0 k.0 (cc) in
-    let q = moment_told a.q b.q h.1 k.1 (cc) in
-    let v = moment_told a.v b.v h.2 k.2 (cc) in
-    (segment_of a b p q v, cc)
+    let p = small_told a.p b.p h.0 k.0 (cc) in
+    let q = small_told a.q b.q h.1 k.1 (cc) in
+    let v = small_told a.v b.v h.2 k.2 (cc) in
+    (same_segment a b p q v, cc)
 
 pub ids_told : (xs ys : List Itv) (x y : List Bytes) → list_all is_id xs ≡ true → list_all is_id ys ≡ true → length xs ≡ length ys → map member_word xs ++ x ≡ map member_word ys ++ y → (xs ≡ ys) × (x ≡ y)
 ids_told xs ys x y hx hy same e =
@@ -160,9 +147,6 @@ behind_functions on = absurd (omega (arith, begins _ _ on))
 abbrev made_assignment : List Slot → List (List Itv) → List (List Segment) → Assignment
 made_assignment s o g = record { slots = s; orders = o; segs = g }
 
-assignment_of : (a b : Assignment) → a.slots ≡ b.slots → a.orders ≡ b.orders → a.segs ≡ b.segs → a ≡ b
-assignment_of a b s o g = ap (λ x. made_assignment x a.orders a.segs) s ∙ ap (λ x. made_assignment b.slots x a.segs) o ∙ ap (λ x. made_assignment b.slots b.orders x) g
-
 -- an assignment's words have no end of their own
 pub assignment_told : (a b : Assignment) → is_fit_assignment a ≡ true → is_fit_assignment b ≡ true → assignment_words a ≡ assignment_words b → a ≡ b
 assignment_told a b ha hb e =
@@ -171,4 +155,4 @@ assignment_told a b ha hb e =
     let s = open_told slot_words is_fit_slot BeginsSlot slot_told slot_starts a.slots b.slots _ _ fa.0 fb.0 (behind_slots a.orders a.segs) (behind_slots b.orders b.segs) e in
     let o = open_told order_words is_fit_order (BeginsWith (codes "o")) order_told order_starts a.orders b.orders _ _ fa.1 fb.1 (behind_orders a.segs) (behind_orders b.segs) s.1 in
     let g = open_told segments_words are_fit_segments (BeginsWith (codes "g")) segments_told function_starts a.segs b.segs [] [] fa.2 fb.2 behind_functions behind_functions (append-nil (flat_map segments_words a.segs) ∙ o.1 ∙ sym (append-nil (flat_map segments_words b.segs))) in
-    assignment_of a b s.0 o.0 g.0
+    same_assignment a b s.0 o.0 g.0

@@ -1,6 +1,5 @@
 -- A propagator is quiet exactly where no row of its constraint refutes, as the region stands or under an open end guess.
 use Rattle.std.specs.Prelude.{◌≡◌, ◌⊎◌, ℕ, ◌<◌, ◌≤◌, ℤ, Bool, true, false, not, List, [], ◌∷◌, length, Option, Some, None, slice_get, nat_lt}
-use Rattle.std.specs.List.{list_any}
 use Rattle.std.proofs.Common.{inl, inr, refl, sym, ap, subst, ◌∙◌, arith}
 use Rattle.std.proofs.lemmas.Bool.{true≢false, cases_eq}
 use Rattle.std.proofs.lemmas.Bool.Decides.{nat_tests}
@@ -22,7 +21,6 @@ use Rattle.region.specs.Looks.{seen_at}
 use Rattle.region.specs.Tight.{is_tight, weaker}
 use Rattle.region.specs.laws.Intervals.{bounds_there, bounds_elsewhere}
 use Rattle.region.specs.laws.Lists.{both_true, true_both, length-changed_at}
-use Rattle.region.specs.laws.OneSequence.{has_first, has_later, has_cases}
 use Rattle.findings.specs.Ends.{is_open_end, is_asked}
 use Rattle.findings.specs.Found.{IsFound, IsFinding}
 use Rattle.findings.specs.Reads.{AreUnrefuted, is_among}
@@ -33,7 +31,7 @@ use Rattle.refute_hier.specs.Witness.{constraint_of}
 use Rattle.refute_hier.specs.Parts.{clash, plays, plays_in, some_part}
 use Rattle.refute_hier.specs.Hier.{refutes}
 use Rattle.refute_hier.specs.Listed.{family_of, asks_each, asks_present, lists}
-use Rattle.refute_hier.specs.laws.Filtered.{never}
+use Rattle.region.specs.laws.Found.{never}
 use Rattle.refute_hier.specs.declared.family.Kind.{Kind}
 use Rattle.refute_hier.specs.declared.family.Kind.TheVariants.{Span, Alternative, Synchronize}
 use Rattle.refute_hier.specs.Rows.{as_constraint, is_family, some_case, some_refutes, IsWitness}
@@ -44,6 +42,9 @@ use Rattle.prop_hier.specs.laws.Owners.{owned, owner}
 use Rattle.refute_hier.specs.laws.Rows.{witness_from}
 use Rattle.refute_hier.specs.laws.Parts.{IsFamily}
 use Rattle.prop_hier.specs.laws.Unwatched.{lists_among}
+use Rattle.base_laws.specs.laws.Items.{any_weaker}
+use Rattle.base_laws.specs.laws.Truth.{fails_before}
+use Rattle.findings.specs.laws.Kept.{asked_more}
 
 abbrev pub Unrefuted : Kind → Region → Itv → List Itv → Type 0
 Unrefuted kind r a bs = AreUnrefuted (refutes_under kind r a bs) r (a ∷ bs) []
@@ -55,10 +56,6 @@ family_is Synchronize a bs = refl
 
 members_of : (m : Data) (c : ℕ) (kind : Kind) (a : Itv) (bs : List Itv) → slice_get m.constraints c ≡ Some (as_constraint kind a bs) → family_of (slice_get m.constraints c) ≡ a ∷ bs
 members_of m c kind a bs is = ap family_of is ∙ family_is kind a bs
-
-asked_more : (p q : Guess → Bool) (r : Region) (guess : Option Guess) → ((g : Guess) → p g ≡ true → q g ≡ true) → is_asked p r guess ≡ true → is_asked q r guess ≡ true
-asked_more p q r None more asked = refl
-asked_more p q r (Some g) more asked = let two = both_true (p g) (is_open_end r g) asked in true_both (q g) (is_open_end r g) (more g two.0) two.1
 
 -- the propagator is quiet where no row refutes
 pub quiet_from : (m : Data) (c : ℕ) (r : Region) (best : Option ℤ) (kind : Kind) (a : Itv) (bs : List Itv) → slice_get m.constraints c ≡ Some (as_constraint kind a bs) → Unrefuted kind r a bs → quiet m c r best
@@ -136,13 +133,6 @@ same_or_away r x y = decided (cases_eq y.0 x.0)
     decided (inl e) = one y (ap itv e) (nat_lt x.0 (length r.bounds)) refl
     decided (inr other) = inl (bounds_elsewhere x y as_absent r other)
 
-any_weaker : {X : Type 0} (p q : X → Bool) → ((x : X) → p x ≡ true → q x ≡ true) → (xs : List X) → list_any p xs ≡ true → list_any q xs ≡ true
-any_weaker p q f [] h = h
-any_weaker p q f (x ∷ xs) h = elim (has_cases (p x) (list_any p xs) h) [
-  | inl e ↦ has_first (q x) (list_any q xs) (f x e)
-  | inr e ↦ has_later (q x) (list_any q xs) (any_weaker p q f xs e)
-]
-
 sync_present : (q : Region) (a : Itv) (bs : List Itv) (p : Presence) → some_case Synchronize p q a bs ≡ true → (says_present p ≡ true) × (some_part q Clashes a bs ≡ true)
 sync_present q a bs presence.Absent h = never h
 sync_present q a bs presence.Maybe h = never h
@@ -169,14 +159,10 @@ absent_sync r x a bs h =
     subst (λ c. plays Clashes (bounds_of r a) c ≡ true) part (subst (λ c. plays Clashes c (bounds_of q b) ≡ true) whole plays_there))
     bs two.1)
 
-false_from : (p q : Bool) → (p ≡ true → q ≡ true) → q ≡ false → p ≡ false
-false_from true q f none = absurd (true≢false (sym (f refl) ∙ none))
-false_from false q f none = refl
-
 sync_at : (m : Data) (c : ℕ) (r : Region) (best : Option ℤ) (a : Itv) (bs : List Itv) (g : Guess) (t : Topic) → topic g ≡ t → IsFamily m c Synchronize a bs → quiet m c r best → is_among (a ∷ bs) [] t ≡ true → is_open_end r g ≡ true
     → refutes_under Synchronize r a bs (Some g) ≡ false
 sync_at m c r best a bs g (One x claim.Absent) is of still among open_end =
-    false_from (refutes_under Synchronize r a bs (Some g)) (some_refutes Synchronize r a bs)
+    fails_before (refutes_under Synchronize r a bs (Some g)) (some_refutes Synchronize r a bs)
     (λ h. absent_sync r x a bs (sym (ap (λ t. some_refutes Synchronize (assumed t r) a bs) is) ∙ h)) (unrefuted_at m c r best Synchronize a bs None of still refl)
 sync_at m c r best a bs g (One x claim.Present) is of still among open_end = unrefuted_at m c r best Synchronize a bs (Some g) of still (true_both (asks_present (a ∷ bs) (topic g)) (is_open_end r g) (ap (asks_present (a ∷ bs)) is ∙ among) open_end)
 sync_at m c r best a bs g (One x (claim.StartLe t)) is of still among open_end = unrefuted_at m c r best Synchronize a bs (Some g) of still (true_both (asks_present (a ∷ bs) (topic g)) (is_open_end r g) (ap (asks_present (a ∷ bs)) is ∙ among) open_end)

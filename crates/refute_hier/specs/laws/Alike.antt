@@ -1,6 +1,7 @@
 -- The rows look at no more than the bounds of the interval of a constraint and of its parts.
 use Rattle.std.specs.Prelude.{◌≡◌, ℕ, zero, suc, true, ◌||◌, List, [], ◌∷◌, Option, Some, None, slice_get}
 use Rattle.std.proofs.Common.{refl, ap, ◌∙◌}
+use Rattle.std.proofs.lemmas.Bool.{or_left, or_right}
 use Rattle.sched_base.specs.declared.ids.Itv.{Itv}
 use Rattle.sched_model.specs.declared.types.Constraint.{Constraint}
 use Rattle.sched_model.specs.declared.types.Constraint.TheVariants as constraint
@@ -8,7 +9,7 @@ use Rattle.sched_model.specs.Words.{passes}
 use Rattle.sched_model.specs.Data.{Data, same, has}
 use Rattle.region.specs.Cells.{Region, bounds_of, says_present, says_absent}
 use Rattle.region.specs.Looks.{Seen}
-use Rattle.region.specs.laws.OneSequence.{same_self, has_first, has_later}
+use Rattle.region.specs.laws.OneSequence.{same_self}
 use Rattle.refute_hier.specs.declared.parts.Role.{Role}
 use Rattle.refute_hier.specs.declared.parts.Role.TheVariants.{IsThere, StartsBefore, EndsAfter, Clashes, MayStart, MayEnd, MayMatch}
 use Rattle.refute_hier.specs.Parts.{plays, plays_in, is_there, is_away, at_part, some_part}
@@ -22,10 +23,10 @@ abbrev pub SameEach : Region → Region → List Itv → Type 0
 SameEach r q xs = (x : Itv) → has xs x ≡ true → bounds_of r x ≡ bounds_of q x
 
 first_same : (r q : Region) (x : Itv) (xs : List Itv) → SameEach r q (x ∷ xs) → bounds_of r x ≡ bounds_of q x
-first_same r q x xs each = each x (has_first (same x x) (has xs x) (same_self x))
+first_same r q x xs each = each x (or_left (same x x) (has xs x) (same_self x))
 
 rest_same : (r q : Region) (x : Itv) (xs : List Itv) → SameEach r q (x ∷ xs) → SameEach r q xs
-rest_same r q x xs each y here = each y (has_later (same y x) (has xs y) here)
+rest_same r q x xs each y here = each y (or_right (same y x) (has xs y) here)
 
 role_same : (r q : Region) (role : Role) (a b : Itv) → bounds_of r a ≡ bounds_of q a → bounds_of r b ≡ bounds_of q b → plays_in r role a b ≡ plays_in q role a b
 role_same r q role a b whole part = ap (λ c. plays role c (bounds_of r b)) whole ∙ ap (plays role (bounds_of q a)) part

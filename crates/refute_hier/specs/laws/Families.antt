@@ -1,5 +1,5 @@
 -- The witnesses of one constraint refute a look exactly where one of its rows does, and a constraint of another kind has none.
-use Rattle.std.specs.Prelude.{◌≡◌, ℕ, Bool, true, false, ◌&&◌, List, Some, slice_get}
+use Rattle.std.specs.Prelude.{◌≡◌, ℕ, Bool, true, false, List, Some, slice_get}
 use Rattle.std.proofs.Common.{refl, sym, ap, ◌∙◌}
 use Rattle.std.proofs.lemmas.Bool.{true≢false}
 use Rattle.sched_base.specs.declared.ids.Itv.{Itv}
@@ -20,6 +20,7 @@ use Rattle.refute_hier.specs.Sync.{sync_of}
 use Rattle.refute_hier.specs.Hier.{refutes, row_of}
 use Rattle.refute_hier.specs.Rows.{as_constraint, is_family, some_refutes, IsWitness}
 use Rattle.refute_hier.specs.laws.Rows.{row_is, some_if_row}
+use Rattle.base_laws.specs.laws.Truth.{never_both}
 
 -- where no row refutes, no witness does
 pub none_refutes : (m : Data) (l : Seen) (kind : Kind) (a : Itv) (bs : List Itv) (c : ℕ) (w : HierWitness) → slice_get m.constraints c ≡ Some (as_constraint kind a bs) → constraint_of w ≡ c
@@ -86,9 +87,5 @@ no_row m l d (witness.Span n k i) is none = ap (passes (span_of l.region k i)) i
 no_row m l d (witness.Alt n k i j) is none = ap (passes (alt_of l.region k i j)) is ∙ no_alt l.region k i j d none
 no_row m l d (witness.Sync n i) is none = ap (passes (sync_of l.region i)) is ∙ no_sync l.region i d none
 
-nothing_more : (b c : Bool) → c ≡ false → (b && c) ≡ false
-nothing_more true c h = h
-nothing_more false c h = refl
-
 pub other_refutes : (m : Data) (l : Seen) (d : Constraint) (w : HierWitness) → slice_get m.constraints (constraint_of w) ≡ Some d → is_family d ≡ false → refutes m l w ≡ false
-other_refutes m l d w is none = nothing_more (is_valid w) (row_of m l w) (no_row m l d w is none)
+other_refutes m l d w is none = never_both (is_valid w) (row_of m l w) (no_row m l d w is none)

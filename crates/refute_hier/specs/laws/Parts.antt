@@ -1,20 +1,21 @@
 -- A constraint of a valid model has few parts, and none of them twice.
 use Rattle.std.specs.Prelude.{◌≡◌, ℕ, ◌<◌, ◌^◌, true, false, not, List, [], ◌∷◌, map, length, Some, slice_get, nat_eq, nat_lt}
 use Rattle.std.specs.List.{list_any, list_all, IsDistinct, AllByRecursion}
-use Rattle.std.proofs.Common.{inl, inr, refl, arith}
+use Rattle.std.proofs.Common.{inl, inr, refl, sym, ap, ◌∙◌, arith}
 use Rattle.std.proofs.lemmas.Bool.{not-true}
 use Rattle.std.proofs.lemmas.Bool.Decides.{nat_tests}
 use Rattle.std.proofs.lemmas.List.{length-map}
 use Rattle.std.proofs.lemmas.Map.Steps.{length-le_from_distinct_below}
 use Rattle.std.proofs.lemmas.Option.{slice_get_within}
 use Rattle.sched_base.specs.declared.ids.Itv.{Itv}
+use Rattle.sched_model.specs.declared.types.Constraint.{Constraint}
 use Rattle.sched_model.specs.Data.{Data, same}
 use Rattle.sched_model.specs.Valid.{IsValid, is_itv, is_constraint, are_parts, are_distinct}
 use Rattle.sched_model.specs.laws.Limits.{limits_of}
 use Rattle.sched_model.specs.laws.Listed.{valid_at}
 use Rattle.region.specs.laws.Lists.{both_true}
 use Rattle.region.specs.laws.OneSequence.{has_cases}
-use Rattle.refute_hier.specs.laws.Filtered.{never}
+use Rattle.region.specs.laws.Found.{never}
 use Rattle.refute_hier.specs.declared.family.Kind.{Kind}
 use Rattle.refute_hier.specs.declared.family.Kind.TheVariants.{Span, Alternative, Synchronize}
 use Rattle.refute_hier.specs.Rows.{as_constraint}
@@ -68,3 +69,7 @@ is_one m c kind a bs valid is =
     let within = slice_get_within m.constraints c (as_constraint kind a bs) is in
     let few = (limits_of m valid.limits).constraints in
     record { is = is; few = record { constraint = omega (arith, within, few); parts = few_parts m bs valid parts }; distinct = (both_true _ (are_distinct bs) parts).1 }
+
+-- so it is where it is read from the list
+pub listed : (m : Data) (cs : List Constraint) (c : ℕ) (d : Constraint) (kind : Kind) (a : Itv) (bs : List Itv) → IsValid m → cs ≡ m.constraints → Some d ≡ slice_get cs c → d ≡ as_constraint kind a bs → IsFamily m c kind a bs
+listed m cs c d kind a bs valid same at is = is_one m c kind a bs valid (ap (λ ds. slice_get ds c) (sym same) ∙ sym at ∙ ap Some is)

@@ -2,7 +2,7 @@
 use Rattle.std.specs.Prelude.{◌≡◌, ℕ, zero, suc, ◌+◌, ◌<◌, ◌^◌, Bool, true, false, not, ◌&&◌, ◌||◌, List, [], ◌∷◌, length, Some, slice_get, nat_eq, nat_lt}
 use Rattle.std.specs.List.{list_any, count_by}
 use Rattle.std.proofs.Common.{refl, sym, ap, ◌∙◌, arith, inl, inr}
-use Rattle.std.proofs.lemmas.Bool.{true≢false}
+use Rattle.std.proofs.lemmas.Bool.{true≢false, or_left, or_right}
 use Rattle.std.proofs.lemmas.Bool.Decides.{nat_tests}
 use Rattle.base_laws.specs.laws.Kept.{count_yes, count_no}
 use Rattle.sched_base.specs.declared.ids.Itv.{Itv}
@@ -13,20 +13,23 @@ use Rattle.region.specs.declared.types.Presence.TheVariants.{Absent, Present, Ma
 use Rattle.region.specs.Cells.{Region, bounds_of, says_present, says_absent}
 use Rattle.region.specs.Looks.{Seen}
 use Rattle.region.specs.laws.Lists.{both_true, true_both}
-use Rattle.region.specs.laws.OneSequence.{has_first, has_later, has_cases}
+use Rattle.region.specs.laws.OneSequence.{has_cases}
 use Rattle.refute_hier.specs.declared.parts.Role.TheVariants.{IsThere, StartsBefore, EndsAfter, Clashes, MayStart, MayEnd, MayMatch}
 use Rattle.refute_hier.specs.declared.witness.HierWitness.{HierWitness}
 use Rattle.refute_hier.specs.declared.witness.HierWitness.TheVariants as witness
-use Rattle.refute_hier.specs.Witness.{is_number, is_valid, constraint_of}
+use Rattle.refute_hier.specs.Witness.{is_valid, constraint_of}
 use Rattle.refute_hier.specs.Parts.{plays_in, is_there, is_away, at_part, some_part}
 use Rattle.refute_hier.specs.Span.{span_case, span_of}
 use Rattle.refute_hier.specs.Alt.{are_two, alt_case, alt_of}
 use Rattle.refute_hier.specs.Sync.{sync_case, sync_of}
 use Rattle.refute_hier.specs.Hier.{row_of}
-use Rattle.refute_hier.specs.laws.Filtered.{chosen, never}
+use Rattle.region.specs.laws.Found.{never}
+use Rattle.refute_hier.specs.laws.Filtered.{chosen}
 use Rattle.refute_hier.specs.declared.family.Kind.{Kind}
 use Rattle.refute_hier.specs.declared.family.Kind.TheVariants.{Span, Alternative, Synchronize}
 use Rattle.refute_hier.specs.Rows.{as_constraint, family_row, two_parts, some_case, some_refutes, IsWitness}
+use Rattle.sched_model.specs.laws.Small.{number_fits}
+use Rattle.sched_model.specs.Bounds.{is_number}
 
 -- the row of a witness of the constraint
 span_shape : (r : Region) (k i : ℕ) (kind : Kind) (a : Itv) (bs : List Itv) (c : ℕ) → span_of r k i (as_constraint kind a bs) ≡ family_row kind r a bs (witness.Span c k i)
@@ -55,8 +58,8 @@ row_is m l kind a bs c (witness.Sync n i) is names =
 -- what passes at a place makes some pass, and two places that pass are two
 some_at : {X : Type 0} (test : X → Bool) (xs : List X) (i : ℕ) → passes test (slice_get xs i) ≡ true → list_any test xs ≡ true
 some_at test [] i h = never h
-some_at test (x ∷ xs) zero h = has_first (test x) (list_any test xs) h
-some_at test (x ∷ xs) (suc i) h = has_later (test x) (list_any test xs) (some_at test xs i h)
+some_at test (x ∷ xs) zero h = or_left (test x) (list_any test xs) h
+some_at test (x ∷ xs) (suc i) h = or_right (test x) (list_any test xs) (some_at test xs i h)
 
 counted_more : {X : Type 0} (test : X → Bool) (x : X) (xs : List X) (b : Bool) → test x ≡ b → count_by test xs < count_by test (x ∷ xs) + 1
 counted_more test x xs true e = let n = count_yes test x xs e in omega (arith, n)
@@ -96,7 +99,7 @@ span_first r a bs Maybe e away h = absurd (not_away r a Maybe e refl away)
 
 span_second : (r : Region) (a : Itv) (bs : List Itv) (p : Presence) → (bounds_of r a).presence ≡ p → is_there r a ≡ true → (not (some_part r MayStart a bs) || not (some_part r MayEnd a bs)) ≡ true → some_case Span p r a bs ≡ true
 span_second r a bs Absent e there h = absurd (not_there r a Absent e refl there)
-span_second r a bs Present e there h = has_first (not (some_part r MayStart a bs) || not (some_part r MayEnd a bs) || some_part r StartsBefore a bs) (some_part r EndsAfter a bs) (has_first (not (some_part r MayStart a bs) || not (some_part r MayEnd a bs)) (some_part r StartsBefore a bs) h)
+span_second r a bs Present e there h = or_left (not (some_part r MayStart a bs) || not (some_part r MayEnd a bs) || some_part r StartsBefore a bs) (some_part r EndsAfter a bs) (or_left (not (some_part r MayStart a bs) || not (some_part r MayEnd a bs)) (some_part r StartsBefore a bs) h)
 span_second r a bs Maybe e there h = absurd (not_there r a Maybe e refl there)
 
 swapped : (b c d e : Bool) → (d || e) ≡ true → (b || c || d || e) ≡ true
@@ -123,22 +126,22 @@ span_some r k i a bs =
     second : (nat_eq i 0 && is_there r a && not (some_part r MayStart a bs)) ≡ true → some_refutes Span r a bs ≡ true
     second h =
         let two = both_true (nat_eq i 0 && is_there r a) (not (some_part r MayStart a bs)) h in
-        span_second r a bs (bounds_of r a).presence refl (both_true (nat_eq i 0) (is_there r a) two.0).1 (has_first (not (some_part r MayStart a bs)) (not (some_part r MayEnd a bs)) two.1)
+        span_second r a bs (bounds_of r a).presence refl (both_true (nat_eq i 0) (is_there r a) two.0).1 (or_left (not (some_part r MayStart a bs)) (not (some_part r MayEnd a bs)) two.1)
 
     third : (nat_eq i 0 && is_there r a && not (some_part r MayEnd a bs)) ≡ true → some_refutes Span r a bs ≡ true
     third h =
         let two = both_true (nat_eq i 0 && is_there r a) (not (some_part r MayEnd a bs)) h in
-        span_second r a bs (bounds_of r a).presence refl (both_true (nat_eq i 0) (is_there r a) two.0).1 (has_later (not (some_part r MayStart a bs)) (not (some_part r MayEnd a bs)) two.1)
+        span_second r a bs (bounds_of r a).presence refl (both_true (nat_eq i 0) (is_there r a) two.0).1 (or_right (not (some_part r MayStart a bs)) (not (some_part r MayEnd a bs)) two.1)
 
     fourth : (not (is_away r a) && at_part r StartsBefore a bs i) ≡ true → some_refutes Span r a bs ≡ true
     fourth h =
         let two = both_true (not (is_away r a)) (at_part r StartsBefore a bs i) h in
-        span_third r a bs (bounds_of r a).presence refl two.0 (has_first (some_part r StartsBefore a bs) (some_part r EndsAfter a bs) (some_at (plays_in r StartsBefore a) bs i two.1))
+        span_third r a bs (bounds_of r a).presence refl two.0 (or_left (some_part r StartsBefore a bs) (some_part r EndsAfter a bs) (some_at (plays_in r StartsBefore a) bs i two.1))
 
     fifth : (not (is_away r a) && at_part r EndsAfter a bs i) ≡ true → some_refutes Span r a bs ≡ true
     fifth h =
         let two = both_true (not (is_away r a)) (at_part r EndsAfter a bs i) h in
-        span_third r a bs (bounds_of r a).presence refl two.0 (has_later (some_part r StartsBefore a bs) (some_part r EndsAfter a bs) (some_at (plays_in r EndsAfter a) bs i two.1))
+        span_third r a bs (bounds_of r a).presence refl two.0 (or_right (some_part r StartsBefore a bs) (some_part r EndsAfter a bs) (some_at (plays_in r EndsAfter a) bs i two.1))
 
 -- the rows of an alternative
 two_are_some : (r : Region) (a : Itv) (bs : List Itv) (i j : ℕ) → are_two r i j a bs ≡ true → (two_parts r a bs ≡ true) × (some_part r IsThere a bs ≡ true)
@@ -154,18 +157,18 @@ alt_first r a bs Maybe e away h = absurd (not_away r a Maybe e refl away)
 
 alt_second : (r : Region) (a : Itv) (bs : List Itv) (p : Presence) → two_parts r a bs ≡ true → some_part r IsThere a bs ≡ true → some_case Alternative p r a bs ≡ true
 alt_second r a bs Absent two one = one
-alt_second r a bs Present two one = has_first (two_parts r a bs || not (some_part r MayMatch a bs)) (some_part r Clashes a bs) (has_first (two_parts r a bs) (not (some_part r MayMatch a bs)) two)
-alt_second r a bs Maybe two one = has_first (two_parts r a bs) (some_part r Clashes a bs) two
+alt_second r a bs Present two one = or_left (two_parts r a bs || not (some_part r MayMatch a bs)) (some_part r Clashes a bs) (or_left (two_parts r a bs) (not (some_part r MayMatch a bs)) two)
+alt_second r a bs Maybe two one = or_left (two_parts r a bs) (some_part r Clashes a bs) two
 
 alt_third : (r : Region) (a : Itv) (bs : List Itv) (p : Presence) → (bounds_of r a).presence ≡ p → is_there r a ≡ true → not (some_part r MayMatch a bs) ≡ true → some_case Alternative p r a bs ≡ true
 alt_third r a bs Absent e there h = absurd (not_there r a Absent e refl there)
-alt_third r a bs Present e there h = has_first (two_parts r a bs || not (some_part r MayMatch a bs)) (some_part r Clashes a bs) (has_later (two_parts r a bs) (not (some_part r MayMatch a bs)) h)
+alt_third r a bs Present e there h = or_left (two_parts r a bs || not (some_part r MayMatch a bs)) (some_part r Clashes a bs) (or_right (two_parts r a bs) (not (some_part r MayMatch a bs)) h)
 alt_third r a bs Maybe e there h = absurd (not_there r a Maybe e refl there)
 
 alt_fourth : (r : Region) (a : Itv) (bs : List Itv) (p : Presence) → (bounds_of r a).presence ≡ p → not (is_away r a) ≡ true → some_part r Clashes a bs ≡ true → some_case Alternative p r a bs ≡ true
 alt_fourth r a bs Absent e here h = absurd (but_away r a Absent e refl here)
-alt_fourth r a bs Present e here h = has_later (two_parts r a bs || not (some_part r MayMatch a bs)) (some_part r Clashes a bs) h
-alt_fourth r a bs Maybe e here h = has_later (two_parts r a bs) (some_part r Clashes a bs) h
+alt_fourth r a bs Present e here h = or_right (two_parts r a bs || not (some_part r MayMatch a bs)) (some_part r Clashes a bs) h
+alt_fourth r a bs Maybe e here h = or_right (two_parts r a bs) (some_part r Clashes a bs) h
 
 alt_some : (r : Region) (k i j : ℕ) (a : Itv) (bs : List Itv) → alt_case r k i j a bs ≡ true → some_refutes Alternative r a bs ≡ true
 alt_some r k i j a bs = chosen (nat_eq k 1) _ _ first (chosen (nat_eq k 2) _ _ second (chosen (nat_eq k 3) _ _ third (chosen (nat_eq k 4) _ _ fourth never)))
@@ -251,9 +254,6 @@ two_places test (x ∷ xs) h = counted_here test x xs h (test x) refl (two_place
     counted_here test x xs h false e rest =
         let p = rest (let n = count_no test x xs e in omega (arith, n, h)) in
         record { at = suc p.at; second = suc p.second; less = (let less = p.less in omega (arith, less)); within = (let within = p.within in omega (arith, within)); is = p.is; also = p.also }
-
-number_fits : (n : ℕ) → n < 2 ^ 32 → is_number n ≡ true
-number_fits n h = grind (arith, nat_tests)
 
 place_fits : (n k : ℕ) → n < k → k < 2 ^ 32 → is_number n ≡ true
 place_fits n k h few = grind (arith, nat_tests)

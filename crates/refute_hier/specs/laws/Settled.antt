@@ -5,7 +5,7 @@ use Rattle.std.specs.Ordering.{int_eq}
 use Rattle.std.specs.List.{list_any, list_all, count_by}
 use Rattle.std.proofs.Common.{inl, inr, refl, sym, ap, ◌∙◌, arith}
 use Rattle.std.proofs.lemmas.Int.{ints}
-use Rattle.std.proofs.lemmas.Bool.{true≢false}
+use Rattle.std.proofs.lemmas.Bool.{true≢false, or_parts}
 use Rattle.std.proofs.lemmas.Bool.Decides.{nat_tests}
 use Rattle.sched_base.specs.declared.ids.Itv.{Itv}
 use Rattle.sched_model.specs.declared.types.Assignment.{Assignment}
@@ -30,11 +30,14 @@ use Rattle.refute_hier.specs.declared.family.Kind.TheVariants.{Span, Alternative
 use Rattle.refute_hier.specs.Parts.{clash, plays_in, is_there, is_away, some_part}
 use Rattle.refute_hier.specs.Hier.{refutes}
 use Rattle.refute_hier.specs.Rows.{as_constraint, is_family, two_parts, some_case, some_refutes}
-use Rattle.refute_hier.specs.laws.Filtered.{never, any_made, all_made, all_but, kept_pass, kept_some, none_left, kept_count}
+use Rattle.region.specs.laws.Found.{never}
+use Rattle.refute_hier.specs.laws.Filtered.{any_made, all_made, all_but, kept_pass, kept_some, none_left, kept_count}
 use Rattle.refute_hier.specs.laws.Rows.{witness_from}
 use Rattle.refute_hier.specs.laws.Families.{witness_refutes}
 use Rattle.refute_hier.specs.laws.Parts.{is_one}
-use Rattle.refute_hier.specs.laws.Pinned.{IsSettledTo, Pinned, pinned}
+use Rattle.region.specs.laws.Pinned.{IsSettledTo, Pinned, pinned}
+use Rattle.sched_model.specs.laws.Words.{if_implied}
+use Rattle.base_laws.specs.laws.Truth.{other_fails, not_away}
 
 -- an interval of the model and its parts, in an assignment that a settled region leaves
 record AreSettled (m : Data) (r : Region) (a : Assignment) (x : Itv) (bs : List Itv) : Type 0 where
@@ -53,18 +56,6 @@ false_of false h = refl
 true_of : (b : Bool) → not b ≡ false → b ≡ true
 true_of true h = refl
 true_of false h = absurd (true≢false h)
-
-only_if : (p q : Bool) → (p && q) ≡ false → p ≡ true → q ≡ false
-only_if true q h k = h
-only_if false q h k = never k
-
-neither : (b c : Bool) → (b || c) ≡ false → (b ≡ false) × (c ≡ false)
-neither true c h = absurd (true≢false h)
-neither false c h = (refl, h)
-
-not_away : (away there : Bool) → away ≡ not there → not away ≡ true → there ≡ true
-not_away away true h k = refl
-not_away away false h k = sym (ap not h) ∙ k
 
 -- what may be present is
 is_here : (r : Region) (a : Assignment) (b : Itv) → Pinned r a b → not (is_away r b) ≡ true → is_present a b ≡ true
@@ -113,12 +104,12 @@ unclashing r a x b p q there here none =
 no_early : (m : Data) (r : Region) (a : Assignment) (x : Itv) (bs : List Itv) (b : Itv) → AreSettled m r a x bs → (is_itv m b && not (plays_in r StartsBefore x b)) ≡ true → is_present a b ≡ true → int_lt (lst_of r b) (est_of r x) ≡ false
 no_early m r a x bs b ok is here =
     let two = both_true (is_itv m b) (not (plays_in r StartsBefore x b)) is in
-    only_if (is_there r b) (int_lt (lst_of r b) (est_of r x)) (false_of _ two.1) (sym (at m r a x bs b ok two.0).there ∙ here)
+    other_fails (is_there r b) (int_lt (lst_of r b) (est_of r x)) (false_of _ two.1) (sym (at m r a x bs b ok two.0).there ∙ here)
 
 no_late : (m : Data) (r : Region) (a : Assignment) (x : Itv) (bs : List Itv) (b : Itv) → AreSettled m r a x bs → (is_itv m b && not (plays_in r EndsAfter x b)) ≡ true → is_present a b ≡ true → int_lt (lct_of r x) (ect_of r b) ≡ false
 no_late m r a x bs b ok is here =
     let two = both_true (is_itv m b) (not (plays_in r EndsAfter x b)) is in
-    only_if (is_there r b) (int_lt (lct_of r x) (ect_of r b)) (false_of _ two.1) (sym (at m r a x bs b ok two.0).there ∙ here)
+    other_fails (is_there r b) (int_lt (lct_of r x) (ect_of r b)) (false_of _ two.1) (sym (at m r a x bs b ok two.0).there ∙ here)
 
 starts_first : (m : Data) (r : Region) (a : Assignment) (x : Itv) (bs : List Itv) → AreSettled m r a x bs → is_present a x ≡ true → some_part r MayStart x bs ≡ true → some_part r StartsBefore x bs ≡ false → is_least (start_of a x) (map (start_of a) (present_of a bs)) ≡ true
 starts_first m r a x bs ok on some none =
@@ -175,9 +166,9 @@ span_holds m r a x bs Absent ok e none =
 span_holds m r a x bs Maybe ok e none = never_maybe r a x (at m r a x bs x ok ok.whole) e
 span_holds m r a x bs Present ok e none =
     let on = there r a x (at m r a x bs x ok ok.whole) e in
-    let three = neither (not (some_part r MayStart x bs) || not (some_part r MayEnd x bs) || some_part r StartsBefore x bs) (some_part r EndsAfter x bs) none in
-    let two = neither (not (some_part r MayStart x bs) || not (some_part r MayEnd x bs)) (some_part r StartsBefore x bs) three.0 in
-    let one = neither (not (some_part r MayStart x bs)) (not (some_part r MayEnd x bs)) two.0 in
+    let three = or_parts (not (some_part r MayStart x bs) || not (some_part r MayEnd x bs) || some_part r StartsBefore x bs) (some_part r EndsAfter x bs) none in
+    let two = or_parts (not (some_part r MayStart x bs) || not (some_part r MayEnd x bs)) (some_part r StartsBefore x bs) three.0 in
+    let one = or_parts (not (some_part r MayStart x bs)) (not (some_part r MayEnd x bs)) two.0 in
     ap (λ b. if b then is_least (start_of a x) (map (start_of a) (present_of a bs)) && is_greatest (end_of a x) (map (end_of a) (present_of a bs)) else is_empty (present_of a bs)) on
     ∙ true_both (is_least (start_of a x) (map (start_of a) (present_of a bs))) (is_greatest (end_of a x) (map (end_of a) (present_of a bs)))
     (starts_first m r a x bs ok on (true_of (some_part r MayStart x bs) one.0) two.1)
@@ -189,7 +180,7 @@ all_alike m r a x bs ok on none = kept_pass (λ b. is_itv m b && not (plays_in r
     (λ b is here.
     let two = both_true (is_itv m b) (not (plays_in r Clashes x b)) is in
     let q = at m r a x bs b ok two.0 in
-    unclashing r a x b (at m r a x bs x ok ok.whole) q on here (only_if (is_there r b) (clash (bounds_of r x) (bounds_of r b)) (false_of _ two.1) (sym q.there ∙ here)))
+    unclashing r a x b (at m r a x bs x ok ok.whole) q on here (other_fails (is_there r b) (clash (bounds_of r x) (bounds_of r b)) (false_of _ two.1) (sym q.there ∙ here)))
     bs (all_but (is_itv m) (plays_in r Clashes x) bs ok.parts none)
 
 some_present : (m : Data) (r : Region) (a : Assignment) (x : Itv) (bs : List Itv) → AreSettled m r a x bs → some_part r MayMatch x bs ≡ true → list_any (λ b. true) (present_of a bs) ≡ true
@@ -216,8 +207,8 @@ alternative_holds m r a x bs Absent ok e none =
 alternative_holds m r a x bs Maybe ok e none = never_maybe r a x (at m r a x bs x ok ok.whole) e
 alternative_holds m r a x bs Present ok e none =
     let on = there r a x (at m r a x bs x ok ok.whole) e in
-    let two = neither (two_parts r x bs || not (some_part r MayMatch x bs)) (some_part r Clashes x bs) none in
-    let one = neither (two_parts r x bs) (not (some_part r MayMatch x bs)) two.0 in
+    let two = or_parts (two_parts r x bs || not (some_part r MayMatch x bs)) (some_part r Clashes x bs) none in
+    let one = or_parts (two_parts r x bs) (not (some_part r MayMatch x bs)) two.0 in
     ap (λ b. if b then is_only a x (present_of a bs) else is_empty (present_of a bs)) on
     ∙ the_only a x (present_of a bs) (some_present m r a x bs ok (true_of (some_part r MayMatch x bs) one.1)) (at_most_one m r a x bs ok one.0) (all_alike m r a x bs ok on two.1)
 
@@ -295,9 +286,5 @@ all_listed : {X : Type 0} (test : X → Bool) (xs : List X) → ((n : ℕ) (x : 
 all_listed test [] each = refl
 all_listed test (x ∷ xs) each = true_both (test x) (list_all test xs) (each 0 x refl) (all_listed test xs (λ n y is. each (suc n) y is))
 
-implied : (p q : Bool) → (p ≡ true → q ≡ true) → (p implies q) ≡ true
-implied true q f = f refl
-implied false q f = refl
-
 pub all_unrefuted_hold : (m : Data) (l : Seen) (a : Assignment) → IsValid m → IsSettledTo m l.region a → ((w : HierWitness) → refutes m l w ≡ false) → list_all (keeps_family m a) m.constraints ≡ true
-all_unrefuted_hold m l a valid to none = all_listed (keeps_family m a) m.constraints (λ c d is. implied (is_family d) (holds m a d) (λ of. unrefuted_holds m l a c d valid to none is of))
+all_unrefuted_hold m l a valid to none = all_listed (keeps_family m a) m.constraints (λ c d is. if_implied (is_family d) (holds m a d) (λ of. unrefuted_holds m l a c d valid to none is of))

@@ -1,15 +1,10 @@
 -- Where a witness of this crate refutes, no better solution is allowed.
-use Rattle.std.specs.Prelude.{◌≡◌, ℕ, Bool, true, IsTrue, slice_get}
-use Rattle.std.proofs.Common.{subst}
+use Rattle.std.specs.Prelude.{◌≡◌, ℕ, true, IsTrue}
 use Rattle.std.proofs.lemmas.Bool.{and_parts}
-use Rattle.std.proofs.lemmas.Option.{slice_get_within, get_or_from_slice_get}
-use Rattle.sched_model.specs.declared.types.Assignment.{Assignment}
 use Rattle.sched_model.specs.declared.types.Constraint.{Constraint}
 use Rattle.sched_model.specs.declared.types.Constraint.TheVariants as constraint
-use Rattle.sched_model.specs.Words.{passes}
 use Rattle.sched_model.specs.Data.{Data}
 use Rattle.sched_model.specs.Valid.{IsValid}
-use Rattle.sched_model.specs.Sentences.{Holds}
 use Rattle.region.specs.Cells.{Region}
 use Rattle.region.specs.Looks.{Seen, IsRegionOf, HasNone}
 use Rattle.refute_hier.specs.declared.witness.HierWitness.{HierWitness}
@@ -19,22 +14,10 @@ use Rattle.refute_hier.specs.Span.{span_of}
 use Rattle.refute_hier.specs.Alt.{alt_of}
 use Rattle.refute_hier.specs.Sync.{sync_of}
 use Rattle.refute_hier.specs.Hier.{refutes, row_of}
-use Rattle.refute_hier.specs.laws.Filtered.{never, found_at}
-use Rattle.refute_hier.specs.laws.Present.{IsAllowed}
+use Rattle.region.specs.laws.Found.{Never, never, by_constraint}
 use Rattle.refute_hier.specs.laws.Span.{span_never}
 use Rattle.refute_hier.specs.laws.Alt.{alt_never}
 use Rattle.refute_hier.specs.laws.Sync.{sync_never}
-
--- no allowed assignment keeps the constraint
-abbrev Never : Data → Region → Constraint → Type 0
-Never m r c = (a : Assignment) → IsAllowed m r a → Holds m a c → ⊥
-
--- the law of a row of one constraint, from that of the constraint itself
-by_constraint : (m : Data) (l : Seen) (c : ℕ) (row : Constraint → Bool) → IsRegionOf m l.region → ((d : Constraint) → row d ≡ true → Never m l.region d) → passes row (slice_get m.constraints c) ≡ true → HasNone m l
-by_constraint m l c row of one h a solution better allows =
-    let f = found_at row m.constraints c h in
-    one f.item f.passes a (record { of = of; domain = solution.domain; allows = allows })
-    (subst (Holds m a) (get_or_from_slice_get m.constraints c f.item f.item f.is) (solution.holds c f.item (slice_get_within m.constraints c f.item f.is)))
 
 span_one : (m : Data) (r : Region) (k i : ℕ) (d : Constraint) → span_of r k i d ≡ true → Never m r d
 span_one m r k i (constraint.Span x parts) h a ok holds = span_never m r a k i x parts ok holds h

@@ -1,32 +1,22 @@
 -- The numbers of valid witnesses are few and small, and tell them apart.
-use Rattle.std.specs.Prelude.{◌≡◌, ℕ, zero, suc, ◌^◌, ◌<◌, ℤ, pos, true, IsTrue, List, [], ◌∷◌, length}
+use Rattle.std.specs.Prelude.{◌≡◌, ◌^◌, ◌<◌, pos, IsTrue, [], ◌∷◌, length}
 use Rattle.std.proofs.Common.{refl, arith}
-use Rattle.std.proofs.lemmas.Int.{ints}
 use Rattle.base_laws.specs.laws.Truth.{three_true, four_true}
-use Rattle.sched_model.specs.Valid.{is_small}
 use Rattle.sched_model.specs.Data.{Data}
 use Rattle.region.specs.Looks.{Seen}
 use Rattle.region.specs.Spelled.{AreSmall}
 use Rattle.region.specs.laws.Lists.{both_true}
+use Rattle.region.specs.laws.Spelled.{no_more, one_more}
 use Rattle.refute_hier.specs.declared.witness.HierWitness.{HierWitness}
 use Rattle.refute_hier.specs.declared.witness.HierWitness.TheVariants.{Span, Alt, Sync}
-use Rattle.refute_hier.specs.Witness.{numbers_of, is_number, is_valid}
+use Rattle.refute_hier.specs.Witness.{numbers_of, is_valid}
 use Rattle.refute_hier.specs.Hier.{refutes, row_of}
+use Rattle.sched_model.specs.Bounds.{is_number}
 
 pub few_numbers : (w : HierWitness) → IsTrue (is_valid w) → length (numbers_of w) < 2 ^ 32
 few_numbers (Span c r i) h = omega arith
 few_numbers (Alt c r i j) h = omega arith
 few_numbers (Sync c i) h = omega arith
-
-small_number : (n : ℕ) → is_number n ≡ true → is_small (pos n) ≡ true
-small_number n h = grind (arith, ints)
-
-no_more : AreSmall []
-no_more i d within = absurd (omega (arith, within))
-
-one_more : (n : ℕ) (zs : List ℤ) → is_number n ≡ true → AreSmall zs → AreSmall (pos n ∷ zs)
-one_more n zs first rest zero d within = small_number n first
-one_more n zs first rest (suc i) d within = rest i d (omega (arith, within))
 
 pub small_numbers : (w : HierWitness) → IsTrue (is_valid w) → AreSmall (numbers_of w)
 small_numbers (Span c r i) h =

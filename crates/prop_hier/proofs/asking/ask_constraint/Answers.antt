@@ -1,6 +1,7 @@
 use Rattle.prop_hier.specs.laws.Quiet.{quiet_from}
-use Rattle.prop_hier.proofs.Asked.{listed, parts_of, none_is, busy_from, found_from}
+use Rattle.prop_hier.proofs.Asked.{parts_of, none_is, busy_from, found_from}
 use Rattle.prop_hier.proofs.asking.ask_constraint.Goals as goal
+use Rattle.refute_hier.specs.laws.Parts.{listed}
 
 pub returns-in_err-guess-clause-none : goal.returns-in_err-guess-clause-none
 returns-in_err-guess-clause-none c =

@@ -1,6 +1,7 @@
 use Rattle.refute_hier.specs.laws.Families.{none_refutes}
-use Rattle.refute_hier.proofs.Finding.{if_none, listed}
+use Rattle.refute_hier.proofs.Finding.{if_none}
 use Rattle.refute_hier.proofs.find.find_at.Goals as goal
+use Rattle.refute_hier.specs.laws.Parts.{listed}
 
 pub find_witness-requires : goal.find_witness-requires
 find_witness-requires c =

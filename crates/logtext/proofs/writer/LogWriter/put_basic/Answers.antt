@@ -4,10 +4,11 @@ use Rattle.std.specs.Fmt.{signed_decimal}
 use Rattle.std.proofs.lemmas.Int.{to_z-of_z}
 use Rattle.refute_basic.specs.Witness.{numbers_of}
 use Rattle.logtext.specs.Spelling.{basic_kinds}
-use Rattle.logtext.specs.Writing.{Gathers, spaced}
+use Rattle.logtext.specs.Writing.{Gathers}
 use Rattle.logtext.specs.laws.Kinds.{basic_placed}
 use Rattle.logtext.proofs.Witnesses.{kind_place, some_number}
 use Rattle.logtext.proofs.writer.LogWriter.put_basic.Goals as goal
+use Rattle.textline.specs.Lines.{spaced}
 
 pub number-place-requires : goal.number-place-requires
 number-place-requires g c = some_number basic_kinds (numbers_of c.args.w.now) (basic_placed c.args.w.now)

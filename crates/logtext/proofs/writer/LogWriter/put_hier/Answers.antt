@@ -4,10 +4,11 @@ use Rattle.std.specs.Fmt.{signed_decimal}
 use Rattle.std.proofs.lemmas.Int.{to_z-of_z}
 use Rattle.refute_hier.specs.Witness.{numbers_of as hier_numbers}
 use Rattle.logtext.specs.Spelling.{hier_kinds}
-use Rattle.logtext.specs.Writing.{Gathers, spaced}
+use Rattle.logtext.specs.Writing.{Gathers}
 use Rattle.logtext.specs.laws.Kinds.{hier_placed}
 use Rattle.logtext.proofs.Witnesses.{kind_place, some_number}
 use Rattle.logtext.proofs.writer.LogWriter.put_hier.Goals as goal
+use Rattle.textline.specs.Lines.{spaced}
 
 pub number-place-requires : goal.number-place-requires
 number-place-requires g c = some_number hier_kinds (hier_numbers c.args.w.now) (hier_placed c.args.w.now)

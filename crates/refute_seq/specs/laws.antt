@@ -1,0 +1,11 @@
+pub mod Spelling
+pub mod Told
+pub mod Gaps
+pub mod Triple
+pub mod Pair
+pub mod Sound
+pub mod Alike
+pub mod Known
+pub mod Settled
+pub mod Placed
+pub mod Ordered
