@@ -10,9 +10,9 @@ use Rattle.std.proofs.lemmas.List.Sorted.{Contains-permutation, length_permutati
 use Rattle.std.proofs.Math.Seq.{take-append_seam}
 use Rattle.sched_base.specs.declared.ids.Itv.{Itv}
 use Rattle.sched_model.specs.Data.{has, same}
-use Rattle.region.specs.laws.OneSequence.{same_self}
 use Rattle.hull_tree.specs.declared.atoms.Atom.{Atom}
 use Rattle.hull_tree.specs.declared.nodes.Node.{Node}
+use Rattle.hull_tree.specs.declared.nodes.Span.{Span}
 use Rattle.hull_tree.specs.Nodes.{node_at, named}
 use Rattle.hull_tree.specs.Atoms.{atom_at, key_at, key_of, HasAtomsBelow, AreAtoms, HasIntervals, IsClear}
 
@@ -47,14 +47,6 @@ sorted_taken ns ats bs rest n size all moved rising =
     subst (AreAtoms ns) (sym (ap (λ k. take k (bs ++ rest)) same ∙ take-append_seam bs rest)) (sorted_atoms ns ats bs all moved rising)
 
 -- a list of intervals
-pub has_put : (xs : List Itv) (x : Itv) → has (xs ++ x ∷ []) x ≡ true
-has_put [] x = ap (λ b. b || false) (same_self x)
-has_put (z ∷ zs) x = later (same x z) (has_put zs x)
-  where
-    later : (b : Bool) → has (zs ++ x ∷ []) x ≡ true → (b || has (zs ++ x ∷ []) x) ≡ true
-    later true h = refl
-    later false h = h
-
 pub has_still : (xs : List Itv) (x z : Itv) → has xs z ≡ true → has (xs ++ x ∷ []) z ≡ true
 has_still [] x z h = absurd (true≢false (sym h))
 has_still (w ∷ ws) x z h = by_case (same z w) (has_still ws x z) h
@@ -96,13 +88,13 @@ not_before ats x first f k i j f_is point from is = decided (nat_lt j k) refl
         let less : key_at x i < f = below (key_at x i) f (subst (λ a. nat_lt (key_of a) f ≡ true) is (point.0 j (atom_at x i) (omega arith) (below j k h))) in
         absurd (omega (arith, less, from, f_is))
 
-pub clear_end : (ats : List Atom) (x : Itv) (first last f k : ℕ) → f ≡ key_at x first → IsPoint ats f k → length ats ≤ k → IsClear ats x first last
-clear_end ats x first last f k f_is point end i from to there = let late = not_before ats x first f k i there.0 f_is point from there.2 in let within = there.1 in absurd (omega (arith, late, within, end))
+pub clear_end : (ats : List Atom) (x : Itv) (s : Span) (f k : ℕ) → f ≡ key_at x s.first → IsPoint ats f k → length ats ≤ k → IsClear ats x s
+clear_end ats x s f k f_is point end i from to there = let late = not_before ats x s.first f k i there.0 f_is point from there.2 in let within = there.1 in absurd (omega (arith, late, within, end))
 
-pub clear_past : (ats : List Atom) (x : Itv) (first last f k p q : ℕ) (d : Atom) → IsNonDecreasingBy key_of ats → f ≡ key_at x first → IsPoint ats f k
-    → p ≡ key_of (get_or ats k d) → q ≡ key_at x last → nat_le p q ≡ false → IsClear ats x first last
-clear_past ats x first last f k p q d rising f_is point p_is q_is past i from to there =
-    let late = not_before ats x first f k i there.0 f_is point from there.2 in
+pub clear_past : (ats : List Atom) (x : Itv) (s : Span) (f k p q : ℕ) (d : Atom) → IsNonDecreasingBy key_of ats → f ≡ key_at x s.first → IsPoint ats f k
+    → p ≡ key_of (get_or ats k d) → q ≡ key_at x s.last → nat_le p q ≡ false → IsClear ats x s
+clear_past ats x s f k p q d rising f_is point p_is q_is past i from to there =
+    let late = not_before ats x s.first f k i there.0 f_is point from there.2 in
     let rises : key_of (get_or ats k d) ≤ key_of (get_or ats there.0 d) = rising k there.0 d late there.1 in
     let same : get_or ats there.0 d ≡ atom_at x i = default ats there.0 d (atom_at x i) there.1 ∙ there.2 in
     let between : key_of (get_or ats k d) ≤ key_at x i = subst (λ b. key_of (get_or ats k d) ≤ key_of b) same rises in
@@ -115,3 +107,6 @@ clear_past ats x first last f k p q d rising f_is point p_is q_is past i from to
 pub denied : (b : Bool) → not b ≡ true → b ≡ false
 denied true h = absurd (true≢false (sym h))
 denied false h = refl
+
+pub clear_of_same : (ats : List Atom) (x y : Itv) (s : Span) → x.0 ≡ y.0 → IsClear ats x s → IsClear ats x s × IsClear ats y s
+clear_of_same ats x y s same clear = (clear, subst (λ n. IsClear ats (record { 0 = n }) s) same clear)

@@ -5,6 +5,7 @@ use Rattle.sched_model.specs.Data.{Data}
 use Rattle.sched_model.specs.Ranges.{Ends}
 use Rattle.region.specs.Cells.{Region}
 use Rattle.hull_tree.specs.declared.nodes.Node.{Node}
+use Rattle.hull_tree.specs.declared.nodes.Span.{Span}
 use Rattle.hull_tree.specs.declared.nodes.Node.TheVariants as node
 use Rattle.hull_tree.specs.Nodes.{combined, ends_at, node_at, node_ends, AreEnds, IsPlaced, AreNodes, IsThere}
 
@@ -35,7 +36,7 @@ set_elsewhere (y ∷ ys) (suc n) zero x d h = refl
 set_elsewhere (y ∷ ys) (suc n) (suc i) x d h = set_elsewhere ys n i x d (omega (arith, h))
 
 -- nodes that name only ranges before a place don't notice what is written there
-set_same : (m : Data) (r : Region) (hs : List Ends) (e : Ends) (fs : List ℕ) (i n : ℕ) (x : Node) → i ≤ n → IsPlaced fs i x → node_ends m r (set hs n e) x ≡ node_ends m r hs x
+set_same : (m : Data) (r : Region) (hs : List Ends) (e : Ends) (fs : List Span) (i n : ℕ) (x : Node) → i ≤ n → IsPlaced fs i x → node_ends m r (set hs n e) x ≡ node_ends m r hs x
 set_same m r hs e fs i n (node.Leaf l) within placed = refl
 set_same m r hs e fs i n (node.Pair op a b) within placed =
     ap (λ z. combined op z (ends_at (set hs n e) b)) (set_elsewhere hs n a e _ (omega (arith, placed.0, within)))
@@ -44,7 +45,7 @@ set_same m r hs e fs i n (node.Pair op a b) within placed =
 pub ends_none : (m : Data) (ns : List Node) (r : Region) (hs : List Ends) → AreEnds m ns r 0 hs
 ends_none m ns r hs = record { size = omega arith; each = λ i below. absurd (omega (arith, below)) }
 
-pub ends_set : (m : Data) (ns : List Node) (fs : List ℕ) (r : Region) (n : ℕ) (hs : List Ends) (e : Ends) → AreNodes ns fs → AreEnds m ns r n hs → length hs ≡ length ns → n < length ns
+pub ends_set : (m : Data) (ns : List Node) (fs : List Span) (r : Region) (n : ℕ) (hs : List Ends) (e : Ends) → AreNodes ns fs → AreEnds m ns r n hs → length hs ≡ length ns → n < length ns
     → e ≡ node_ends m r hs (node_at ns n) → AreEnds m ns r (n + 1) (set hs n e)
 ends_set m ns fs r n hs e nodes before size within is = record { size = let same = set_size hs n e (length ns) size in omega (arith, same, within); each = each }
   where
@@ -58,7 +59,7 @@ ends_set m ns fs r n hs e nodes before size within is = record { size = let same
           set_elsewhere hs n i e _ less ∙ before.each i less ∙ sym (set_same m r hs e fs i n (node_at ns i) (omega (arith, less)) (nodes.each i (omega (arith, less, within)))))
     ]
 
-pub placed_there : (fs : List ℕ) (i n : ℕ) (x : Node) → i ≡ n → IsPlaced fs i x → IsThere n x
+pub placed_there : (fs : List Span) (i n : ℕ) (x : Node) → i ≡ n → IsPlaced fs i x → IsThere n x
 placed_there fs i n (node.Leaf l) is placed = tt
 placed_there fs i n (node.Pair op a b) is placed = (omega (arith, is, placed.0), omega (arith, is, placed.1))
 

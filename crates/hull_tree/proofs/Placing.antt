@@ -12,28 +12,32 @@ use Rattle.hull_tree.specs.declared.nodes.Leaf.TheVariants.{Lit}
 use Rattle.hull_tree.specs.declared.nodes.Op.{Op}
 use Rattle.hull_tree.specs.declared.nodes.Op.TheVariants.{Neg, Add, Times, Greater, Lesser, Compare, Not, Both, Either, Implies}
 use Rattle.hull_tree.specs.declared.nodes.Node.{Node}
+use Rattle.hull_tree.specs.declared.nodes.Span.{Span}
 use Rattle.hull_tree.specs.declared.nodes.Node.TheVariants as node
-use Rattle.hull_tree.specs.Nodes.{combined, whole, is_joining, is_limited, ends_at, node_at, first_at, node_ends, nothing, AreEnds, IsPlaced, IsPlacedBy, AreNodes, Grown, IsAt, IsJoined}
+use Rattle.hull_tree.specs.Nodes.{combined, whole, is_joining, is_limited, ends_at, node_at, span_at, IsWithin, node_ends, nothing, AreEnds, IsPlaced, IsPlacedBy, AreNodes, Grown, IsAt, IsJoined}
 use Rattle.hull_tree.specs.laws.Halves.{halves, one_added, one_and, one_or}
 use Rattle.hull_tree.proofs.Growing.{get_last, longer_by}
 
-placed_still : (fs : List ℕ) (f i : ℕ) (n : Node) → i < length fs → IsPlaced fs i n → IsPlaced (fs ++ f ∷ []) i n
-placed_still fs f i (node.Leaf l) within placed = let e = get_or_append_left fs (f ∷ []) 0 i within in omega (arith, e, placed)
-placed_still fs f i (node.Pair op a b) within placed =
-    let e = get_or_append_left fs (f ∷ []) 0 i within in
-    let first = get_or_append_left fs (f ∷ []) 0 a (omega (arith, placed.0, within)) in
-    let second = get_or_append_left fs (f ∷ []) 0 b (omega (arith, placed.1, within)) in
-    (placed.0, placed.1, omega (arith, e, first, placed.2), omega (arith, e, second, placed.3))
+abbrev nowhere : Span
+nowhere = record { first = 0; last = 0 }
 
-placed_now : (fs : List ℕ) (f i : ℕ) (n : Node) → length fs ≡ i → IsPlacedBy fs i f n → IsPlaced (fs ++ f ∷ []) i n
-placed_now fs f i (node.Leaf l) size placed = let e = get_last fs f 0 i size in omega (arith, e, placed)
-placed_now fs f i (node.Pair op a b) size placed =
-    let e = get_last fs f 0 i size in
-    let first = get_or_append_left fs (f ∷ []) 0 a (omega (arith, placed.0, size)) in
-    let second = get_or_append_left fs (f ∷ []) 0 b (omega (arith, placed.1, size)) in
-    (placed.0, placed.1, omega (arith, e, first, placed.2), omega (arith, e, second, placed.3))
+-- a node's place looks at the spans of those before it alone
+placed_more : (fs : List Span) (f s : Span) (i : ℕ) (n : Node) → i ≤ length fs → IsPlacedBy fs i s n → IsPlacedBy (fs ++ f ∷ []) i s n
+placed_more fs f s i (node.Leaf l) within placed = placed
+placed_more fs f s i (node.Pair op a b) within placed =
+    let first = get_or_append_left fs (f ∷ []) nowhere a (omega (arith, placed.0, within)) in
+    let second = get_or_append_left fs (f ∷ []) nowhere b (omega (arith, placed.1, within)) in
+    (placed.0, placed.1, subst (λ t. IsWithin t s) (sym first) placed.2, subst (λ t. IsWithin t s) (sym second) placed.3)
 
-pub put_nodes : (ns : List Node) (fs : List ℕ) (n : Node) (f : ℕ) → AreNodes ns fs → IsPlacedBy fs (length ns) f n → AreNodes (ns ++ n ∷ []) (fs ++ f ∷ [])
+placed_still : (fs : List Span) (f : Span) (i : ℕ) (n : Node) → i < length fs → IsPlaced fs i n → IsPlaced (fs ++ f ∷ []) i n
+placed_still fs f i n within placed =
+    placed_more fs f (span_at (fs ++ f ∷ []) i) i n (omega (arith, within)) (subst (λ s. IsPlacedBy fs i s n) (sym (get_or_append_left fs (f ∷ []) nowhere i within)) placed)
+
+placed_now : (fs : List Span) (f : Span) (i : ℕ) (n : Node) → length fs ≡ i → IsPlacedBy fs i f n → IsPlaced (fs ++ f ∷ []) i n
+placed_now fs f i n size placed =
+    placed_more fs f (span_at (fs ++ f ∷ []) i) i n (omega (arith, size)) (subst (λ s. IsPlacedBy fs i s n) (sym (get_last fs f nowhere i size)) placed)
+
+pub put_nodes : (ns : List Node) (fs : List Span) (n : Node) (f : Span) → AreNodes ns fs → IsPlacedBy fs (length ns) f n → AreNodes (ns ++ n ∷ []) (fs ++ f ∷ [])
 put_nodes ns fs n f nodes placed = record {
   size = longer_by fs f (length ns) nodes.size ∙ sym (longer_by ns n (length ns) refl);
   each = λ i below. at i (subst (λ k. i < k) (longer_by ns n (length ns) refl) below);
@@ -55,7 +59,7 @@ put_grown ns n = record { size = let e = longer_by ns n (length ns) refl in omeg
 pub put_at : (ns : List Node) (n : Node) (i : ℕ) → i ≡ length ns → IsAt (ns ++ n ∷ []) n i
 put_at ns n i is = record { within = let e = longer_by ns n (length ns) refl in omega (arith, e, is); is = get_last ns n nothing i (sym is) }
 
-pub pair_placed : (ns : List Node) (fs : List ℕ) (op : Op) (a b f : ℕ) → a < length ns → b < length ns → f ≤ first_at fs a → f ≤ first_at fs b → IsPlacedBy fs (length ns) f (node.Pair op a b)
+pub pair_placed : (ns : List Node) (fs : List Span) (op : Op) (a b : ℕ) (f : Span) → a < length ns → b < length ns → IsWithin (span_at fs a) f → IsWithin (span_at fs b) f → IsPlacedBy fs (length ns) f (node.Pair op a b)
 pair_placed ns fs op a b f first second h i = (first, second, h, i)
 
 pub grown_none : (ns : List Node) → Grown ns ns

@@ -23,6 +23,7 @@ use Rattle.look_hull.specs.laws.Hulls.{look_kept}
 use Rattle.look_hull.specs.laws.Saturation.{pair_kept}
 use Rattle.hull_tree.specs.declared.atoms.Atom.{Atom}
 use Rattle.hull_tree.specs.declared.nodes.Node.{Node}
+use Rattle.hull_tree.specs.declared.nodes.Span.{Span}
 use Rattle.hull_tree.specs.Nodes.{ends_at, node_at, node_ends, AreEnds, AreNodes, AreSameBut, DifferAt, IsEndsOf}
 use Rattle.hull_tree.specs.Meaning.{IsNamed, Means}
 use Rattle.hull_tree.specs.Atoms.{atom_at, AreAtoms, HasIntervals}
@@ -35,7 +36,7 @@ record Ranged (m : Data) (ns : List Node) (r : Region) (n : ℕ) : Type 0 where
   size : length hs ≡ length ns
   are : AreEnds m ns r n hs
 
-ranged : (m : Data) (ns : List Node) (fs : List ℕ) (r : Region) (gs : List Ends) → AreNodes ns fs → length gs ≡ length ns → (n : ℕ) → n ≤ length ns → Ranged m ns r n
+ranged : (m : Data) (ns : List Node) (fs : List Span) (r : Region) (gs : List Ends) → AreNodes ns fs → length gs ≡ length ns → (n : ℕ) → n ≤ length ns → Ranged m ns r n
 ranged m ns fs r gs nodes size zero within = record { hs = gs; size = size; are = ends_none m ns r gs }
 ranged m ns fs r gs nodes size (suc n) within =
     let before = ranged m ns fs r gs nodes size n (omega (arith, within)) in
@@ -52,7 +53,7 @@ some_hull None is = absurd (true≢false (sym is))
 some_hull (Some h) is = (h, refl)
 
 -- what a walk finds is the range of the root
-pub root_range : (m : Data) (s t : Tree) (fs : List ℕ) (q : Region) (e : Ends) (ns : List Node) → s ≡ t → ns ≡ s.nodes → AreNodes s.nodes fs → length s.ends ≡ length s.nodes → IsEndsOf m ns q s.root e → IsRootRange m t q e
+pub root_range : (m : Data) (s t : Tree) (fs : List Span) (q : Region) (e : Ends) (ns : List Node) → s ≡ t → ns ≡ s.nodes → AreNodes s.nodes fs → length s.ends ≡ length s.nodes → IsEndsOf m ns q s.root e → IsRootRange m t q e
 root_range m s t fs q e ns same is nodes size found =
     let ends = subst (λ ks. IsEndsOf m ks q s.root e) is found in
     let all = ranged m s.nodes fs q s.ends nodes size (length s.nodes) (omega arith) in

@@ -6,6 +6,7 @@ use Rattle.sched_base.specs.declared.ids.Itv.{Itv}
 use Rattle.sched_model.specs.Data.{has}
 use Rattle.hull_tree.specs.declared.atoms.Atom.{Atom}
 use Rattle.hull_tree.specs.declared.nodes.Node.{Node}
+use Rattle.hull_tree.specs.declared.nodes.Span.{Span}
 use Rattle.hull_tree.specs.Nodes.{node_at, named}
 
 abbrev pub atom_at : Itv → ℕ → Atom
@@ -30,6 +31,6 @@ pub record AreAtoms (ns : List Node) (ats : List Atom) : Type 0 where
 abbrev pub HasIntervals : ℕ → List Atom → List Itv → Type 0
 HasIntervals n ats xs = (i : ℕ) (a : Atom) → i < n → slice_index_or ats i a ≡ a → IsTrue (has xs a.interval)
 
--- the interval has no atom from the first place to the last
-abbrev pub IsClear : List Atom → Itv → ℕ → ℕ → Type 0
-IsClear ats x first last = (i : ℕ) → first ≤ i → i ≤ last → Contains ats (atom_at x i) → ⊥
+-- the interval has no atom in the span
+abbrev pub IsClear : List Atom → Itv → Span → Type 0
+IsClear ats x s = (i : ℕ) → s.first ≤ i → i ≤ s.last → Contains ats (atom_at x i) → ⊥

@@ -15,6 +15,7 @@ use Rattle.hull_tree.specs.declared.nodes.Leaf.TheVariants.{Lit, Start, End, Siz
 use Rattle.hull_tree.specs.declared.nodes.Op.{Op}
 use Rattle.hull_tree.specs.declared.nodes.Op.TheVariants.{Neg, Add, Times, Greater, Lesser, Compare, Not, Both, Either, Implies}
 use Rattle.hull_tree.specs.declared.nodes.Node.{Node}
+use Rattle.hull_tree.specs.declared.nodes.Span.{Span}
 use Rattle.hull_tree.specs.declared.nodes.Node.TheVariants as node
 
 -- the interval that a leaf tells of, and a node itself
@@ -69,8 +70,8 @@ nothing = node.Leaf (Lit (pos 0))
 abbrev pub node_at : List Node → ℕ → Node
 node_at ns i = slice_index_or ns i nothing
 
-abbrev pub first_at : List ℕ → ℕ → ℕ
-first_at fs i = slice_index_or fs i 0
+abbrev pub span_at : List Span → ℕ → Span
+span_at ss i = slice_index_or ss i (record { first = 0; last = 0 })
 
 abbrev pub node_ends : Data → Region → List Ends → Node → Ends
 node_ends m r hs (node.Leaf l) = leaf_ends m r l
@@ -81,15 +82,23 @@ pub record AreEnds (m : Data) (ns : List Node) (r : Region) (n : ℕ) (hs : List
   pub size : n ≤ length hs
   pub each : (i : ℕ) → i < n → ends_at hs i ≡ node_ends m r hs (node_at ns i)
 
--- a node stands after those that it names, and its first place is no later than theirs: so all that is under a node stands
--- from its first place to its own
-abbrev pub IsPlaced : List ℕ → ℕ → Node → Type 0
-IsPlaced fs i (node.Leaf l) = first_at fs i ≤ i
-IsPlaced fs i (node.Pair op a b) = (a < i) × (b < i) × (first_at fs i ≤ first_at fs a) × (first_at fs i ≤ first_at fs b)
+-- a span lies in another
+pub record IsWithin (s t : Span) : Type 0 where
+  pub first : t.first ≤ s.first
+  pub last : s.last ≤ t.last
 
-pub record AreNodes (ns : List Node) (fs : List ℕ) : Type 0 where
-  pub size : length fs ≡ length ns
-  pub each : (i : ℕ) → i < length ns → IsPlaced fs i (node_at ns i)
+-- a node at a place stands after those that it names, and its span has theirs, and that of a leaf its place: so all leaves
+-- under a node stand in its span
+abbrev pub IsPlacedBy : List Span → ℕ → Span → Node → Type 0
+IsPlacedBy ss i s (node.Leaf l) = (s.first ≤ i) × (i ≤ s.last)
+IsPlacedBy ss i s (node.Pair op a b) = (a < i) × (b < i) × IsWithin (span_at ss a) s × IsWithin (span_at ss b) s
+
+abbrev pub IsPlaced : List Span → ℕ → Node → Type 0
+IsPlaced ss i n = IsPlacedBy ss i (span_at ss i) n
+
+pub record AreNodes (ns : List Node) (ss : List Span) : Type 0 where
+  pub size : length ss ≡ length ns
+  pub each : (i : ℕ) → i < length ns → IsPlaced ss i (node_at ns i)
 
 -- nothing but these two intervals is different in both regions
 abbrev pub AreSameBut : Itv → Itv → Region → Region → Type 0
@@ -135,10 +144,6 @@ is_limited r = is_small r.0 && is_small r.1
 pub record Grown (ns ks : List Node) : Type 0 where
   pub size : length ns ≤ length ks
   pub same : (i : ℕ) → i < length ns → node_at ks i ≡ node_at ns i
-
-abbrev pub IsPlacedBy : List ℕ → ℕ → ℕ → Node → Type 0
-IsPlacedBy fs n first (node.Leaf l) = first ≤ n
-IsPlacedBy fs n first (node.Pair op a b) = (a < n) × (b < n) × (first ≤ first_at fs a) × (first ≤ first_at fs b)
 
 pub record IsAt (ns : List Node) (n : Node) (i : ℕ) : Type 0 where
   pub within : i < length ns

@@ -10,6 +10,7 @@ use Rattle.region.specs.declared.types.Topic.TheVariants.{One, Two}
 use Rattle.region.specs.Cells.{Region}
 use Rattle.hull_tree.specs.declared.atoms.Atom.{Atom}
 use Rattle.hull_tree.specs.declared.nodes.Node.{Node}
+use Rattle.hull_tree.specs.declared.nodes.Span.{Span}
 use Rattle.hull_tree.specs.Nodes.{AreNodes, AreEnds, ends_at}
 use Rattle.hull_tree.specs.Meaning.{Means}
 use Rattle.hull_tree.specs.Atoms.{AreAtoms}
@@ -41,8 +42,8 @@ pub record IsRootRange (m : Data) (t : Tree) (r : Region) (e : Ends) : Type 0 wh
   pub are : AreEnds m t.nodes r (length t.nodes) ranges
   pub is : e ≡ ends_at ranges t.root
 
-pub record IsTree (ns : List Node) (fs : List ℕ) (root : ℕ) (ats : List Atom) (hs : List Ends) : Type 0 where
-  pub nodes : AreNodes ns fs
+pub record IsTree (ns : List Node) (ss : List Span) (root : ℕ) (ats : List Atom) (hs : List Ends) : Type 0 where
+  pub nodes : AreNodes ns ss
   pub within : root < length ns
   pub atoms : AreAtoms ns ats
   pub size : length hs ≡ length ns

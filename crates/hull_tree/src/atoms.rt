@@ -4,7 +4,7 @@ ghost use Rattle.std.specs.List.Sorted.{IsNonDecreasingBy, IsPartitionPoint, IsP
 ghost use Rattle.sched_model.specs.Data.{has};
 ghost use Rattle.hull_tree.specs.Atoms.{AreAtoms, HasAtomsBelow, HasIntervals, IsClear, key_at, key_of};
 
-use crate::nodes::{Node, named};
+use crate::nodes::{Node, Span, named};
 use crate::put::next_place;
 use sched_base::{Itv, NoMemory};
 use std::alloc::Global;
@@ -61,7 +61,7 @@ pub fn atoms_of(alloc: Global, nodes: &[Node]) -> Result<Vec<Atom>, NoMemory>
 }
 
 /// Puts an interval on a list, unless it is the last one there.
-#[tactic(auto, using(crate::proofs::Found::has_put, crate::proofs::Found::has_still))]
+#[tactic(auto, using(sched_model::specs::laws::Members::has_last, crate::proofs::Found::has_still))]
 fn note(list: &mut Vec<Itv>, x: Itv) -> Result<(), NoMemory>
     ensures kept { OnOk result ((z : Itv) → IsTrue (has list.old.items z) → IsTrue (has list.new.items z)) }
     ensures noted { OnOk result (IsTrue (has list.new.items x)) }
@@ -95,15 +95,15 @@ fn count_below(atoms: &[Atom], key: u64) -> usize
     atoms.partition_point(|a| key_of(*a) < key)
 }
 
-/// Whether an interval has an atom from `first` to `last`.
+/// Whether an interval has an atom in a span.
 #[tactic(auto, using(crate::proofs::Found::clear_end))]
-pub fn reaches(atoms: &[Atom], x: Itv, first: u32, last: u32) -> bool
+pub fn reaches(atoms: &[Atom], x: Itv, span: Span) -> bool
     requires { IsNonDecreasingBy key_of atoms.now }
-    ensures { result ≡ false → IsClear atoms.now x first last }
+    ensures { result ≡ false → IsClear atoms.now x span }
 {
-    let i = count_below(atoms, key_at(x, first));
+    let i = count_below(atoms, key_at(x, span.first));
     if i >= atoms.len() {
         return false;
     }
-    key_of(atoms[i]) <= key_at(x, last)
+    key_of(atoms[i]) <= key_at(x, span.last)
 }

@@ -3,7 +3,7 @@ ghost use Rattle.sched_model.specs.Data.{Data};
 ghost use Rattle.hull_tree.specs.Nodes.{AreNodes, Grown, IsJoined, is_joining};
 ghost use Rattle.hull_tree.specs.Meaning.{Means, MeanEach, IsProductFrom};
 
-use crate::nodes::{Leaf, Node, Op};
+use crate::nodes::{Leaf, Node, Op, Span};
 use crate::put::{join, put_leaf, put_pair};
 use sched_base::NoMemory;
 use sched_model::Expr;
@@ -11,16 +11,16 @@ use std::alloc::Global;
 
 /// One node for the product of some nodes, one after the other.
 #[tactic(auto, using(crate::proofs::Meant::product_begun, crate::proofs::Meant::product_more, crate::proofs::Placing::grown_on))]
-fn chain(nodes: &mut Vec<Node>, firsts: &mut Vec<u32>, list: &[u32]) -> Result<u32, NoMemory>
-    requires nodes { AreNodes nodes.old.items firsts.old.items }
+fn chain(nodes: &mut Vec<Node>, spans: &mut Vec<Span>, list: &[u32]) -> Result<u32, NoMemory>
+    requires nodes { AreNodes nodes.old.items spans.old.items }
     requires within { All (λ i. i < length nodes.old.items) list.now }
-    ensures nodes { OnOk result (AreNodes nodes.new.items firsts.new.items) }
+    ensures nodes { OnOk result (AreNodes nodes.new.items spans.new.items) }
     ensures grown { OnOk result (Grown nodes.old.items nodes.new.items) }
     ensures product { IfOk result (λ i. IsProductFrom nodes.new.items list.now (length list.now) i) }
 {
-    let mut so_far = put_leaf(nodes, firsts, Leaf::Lit(1))?;
+    let mut so_far = put_leaf(nodes, spans, Leaf::Lit(1))?;
     for x in list {
-        so_far = put_pair(nodes, firsts, Op::Times, so_far, *x)?;
+        so_far = put_pair(nodes, spans, Op::Times, so_far, *x)?;
     }
     Ok(so_far)
 }
@@ -29,25 +29,25 @@ fn chain(nodes: &mut Vec<Node>, firsts: &mut Vec<u32>, list: &[u32]) -> Result<u
 #[tactic(auto, using(crate::proofs::Placing::joined_none))]
 fn join_all(
     nodes: &mut Vec<Node>,
-    firsts: &mut Vec<u32>,
+    spans: &mut Vec<Span>,
     op: Op,
     list: &[u32],
 ) -> Result<u32, NoMemory>
-    requires nodes { AreNodes nodes.old.items firsts.old.items }
+    requires nodes { AreNodes nodes.old.items spans.old.items }
     requires joins { is_joining op ≡ true }
     requires within { All (λ i. i < length nodes.old.items) list.now }
-    ensures nodes { OnOk result (AreNodes nodes.new.items firsts.new.items) }
+    ensures nodes { OnOk result (AreNodes nodes.new.items spans.new.items) }
     ensures grown { OnOk result (Grown nodes.old.items nodes.new.items) }
     ensures joined { IfOk result (λ i. IsJoined op nodes.new.items list.now i) }
 {
     if list.len() > 0 {
-        return join(nodes, firsts, op, list);
+        return join(nodes, spans, op, list);
     }
     let none = match op {
         Op::Both => 1,
         _ => 0,
     };
-    let i = put_leaf(nodes, firsts, Leaf::Lit(none))?;
+    let i = put_leaf(nodes, spans, Leaf::Lit(none))?;
     Ok(i)
 }
 
@@ -56,63 +56,63 @@ fn join_all(
 pub fn build(
     alloc: Global,
     nodes: &mut Vec<Node>,
-    firsts: &mut Vec<u32>,
+    spans: &mut Vec<Span>,
     e: &Expr,
 ) -> Result<u32, NoMemory>
-    requires nodes { AreNodes nodes.old.items firsts.old.items }
-    ensures nodes { OnOk result (AreNodes nodes.new.items firsts.new.items) }
+    requires nodes { AreNodes nodes.old.items spans.old.items }
+    ensures nodes { OnOk result (AreNodes nodes.new.items spans.new.items) }
     ensures grown { OnOk result (Grown nodes.old.items nodes.new.items) }
     ensures within { IfOk result (λ i. i < length nodes.new.items) }
     ensures means { IfOk result (λ i. (m : Data) → Means m nodes.new.items i e.now) }
 {
     match e {
-        Expr::Lit(n) => put_leaf(nodes, firsts, Leaf::Lit(*n)),
-        Expr::StartOf(x, d) => put_leaf(nodes, firsts, Leaf::Start(*x, *d)),
-        Expr::EndOf(x, d) => put_leaf(nodes, firsts, Leaf::End(*x, *d)),
-        Expr::SizeOf(x, d) => put_leaf(nodes, firsts, Leaf::Size(*x, *d)),
-        Expr::LengthOf(x, d) => put_leaf(nodes, firsts, Leaf::Size(*x, *d)),
-        Expr::PresenceOf(x) => put_leaf(nodes, firsts, Leaf::Presence(*x)),
+        Expr::Lit(n) => put_leaf(nodes, spans, Leaf::Lit(*n)),
+        Expr::StartOf(x, d) => put_leaf(nodes, spans, Leaf::Start(*x, *d)),
+        Expr::EndOf(x, d) => put_leaf(nodes, spans, Leaf::End(*x, *d)),
+        Expr::SizeOf(x, d) => put_leaf(nodes, spans, Leaf::Size(*x, *d)),
+        Expr::LengthOf(x, d) => put_leaf(nodes, spans, Leaf::Size(*x, *d)),
+        Expr::PresenceOf(x) => put_leaf(nodes, spans, Leaf::Presence(*x)),
         Expr::Neg(part) => {
-            let i = build(alloc, nodes, firsts, part.get())?;
-            put_pair(nodes, firsts, Op::Neg, i, i)
+            let i = build(alloc, nodes, spans, part.get())?;
+            put_pair(nodes, spans, Op::Neg, i, i)
         }
         Expr::Sum(parts) => {
-            let list = roots(alloc, nodes, firsts, parts.as_slice())?;
-            join_all(nodes, firsts, Op::Add, list.as_slice())
+            let list = roots(alloc, nodes, spans, parts.as_slice())?;
+            join_all(nodes, spans, Op::Add, list.as_slice())
         }
         Expr::Product(parts) => {
-            let list = roots(alloc, nodes, firsts, parts.as_slice())?;
-            chain(nodes, firsts, list.as_slice())
+            let list = roots(alloc, nodes, spans, parts.as_slice())?;
+            chain(nodes, spans, list.as_slice())
         }
         Expr::Max(parts) => {
-            let list = roots(alloc, nodes, firsts, parts.as_slice())?;
-            join_all(nodes, firsts, Op::Greater, list.as_slice())
+            let list = roots(alloc, nodes, spans, parts.as_slice())?;
+            join_all(nodes, spans, Op::Greater, list.as_slice())
         }
         Expr::Min(parts) => {
-            let list = roots(alloc, nodes, firsts, parts.as_slice())?;
-            join_all(nodes, firsts, Op::Lesser, list.as_slice())
+            let list = roots(alloc, nodes, spans, parts.as_slice())?;
+            join_all(nodes, spans, Op::Lesser, list.as_slice())
         }
         Expr::Compare(op, a, b) => {
-            let i = build(alloc, nodes, firsts, a.get())?;
-            let j = build(alloc, nodes, firsts, b.get())?;
-            put_pair(nodes, firsts, Op::Compare(*op), i, j)
+            let i = build(alloc, nodes, spans, a.get())?;
+            let j = build(alloc, nodes, spans, b.get())?;
+            put_pair(nodes, spans, Op::Compare(*op), i, j)
         }
         Expr::Not(part) => {
-            let i = build(alloc, nodes, firsts, part.get())?;
-            put_pair(nodes, firsts, Op::Not, i, i)
+            let i = build(alloc, nodes, spans, part.get())?;
+            put_pair(nodes, spans, Op::Not, i, i)
         }
         Expr::And(parts) => {
-            let list = roots(alloc, nodes, firsts, parts.as_slice())?;
-            join_all(nodes, firsts, Op::Both, list.as_slice())
+            let list = roots(alloc, nodes, spans, parts.as_slice())?;
+            join_all(nodes, spans, Op::Both, list.as_slice())
         }
         Expr::Or(parts) => {
-            let list = roots(alloc, nodes, firsts, parts.as_slice())?;
-            join_all(nodes, firsts, Op::Either, list.as_slice())
+            let list = roots(alloc, nodes, spans, parts.as_slice())?;
+            join_all(nodes, spans, Op::Either, list.as_slice())
         }
         Expr::Implies(a, b) => {
-            let i = build(alloc, nodes, firsts, a.get())?;
-            let j = build(alloc, nodes, firsts, b.get())?;
-            put_pair(nodes, firsts, Op::Implies, i, j)
+            let i = build(alloc, nodes, spans, a.get())?;
+            let j = build(alloc, nodes, spans, b.get())?;
+            put_pair(nodes, spans, Op::Implies, i, j)
         }
     }
 }
@@ -122,18 +122,18 @@ pub fn build(
 fn roots(
     alloc: Global,
     nodes: &mut Vec<Node>,
-    firsts: &mut Vec<u32>,
+    spans: &mut Vec<Span>,
     parts: &[Expr],
 ) -> Result<Vec<u32>, NoMemory>
-    requires nodes { AreNodes nodes.old.items firsts.old.items }
-    ensures nodes { OnOk result (AreNodes nodes.new.items firsts.new.items) }
+    requires nodes { AreNodes nodes.old.items spans.old.items }
+    ensures nodes { OnOk result (AreNodes nodes.new.items spans.new.items) }
     ensures grown { OnOk result (Grown nodes.old.items nodes.new.items) }
     ensures within { IfOk result (λ v. All (λ i. i < length nodes.new.items) v.items) }
     ensures mean { IfOk result (λ v. (m : Data) → MeanEach m nodes.new.items v.items parts.now) }
 {
     let mut list = Vec::new(alloc);
     for part in parts {
-        let i = build(alloc, nodes, firsts, part)?;
+        let i = build(alloc, nodes, spans, part)?;
         list.push(i)?;
     }
     Ok(list)

@@ -38,6 +38,13 @@ pub enum Node {
     Pair(Op, u32, u32),
 }
 
+/// From the first place to the last.
+#[derive(Clone, Copy, Debug, PartialEq, Eq)]
+pub struct Span {
+    pub first: u32,
+    pub last: u32,
+}
+
 /// The interval that a leaf tells of.
 fn interval_of(leaf: Leaf) -> Option<Itv>
     ensures { result ≡ interval_of leaf }

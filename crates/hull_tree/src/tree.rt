@@ -12,7 +12,7 @@ ghost use Rattle.hull_tree.specs.Trees.{IsTreeOf, IsEvaluated, IsRootRange, chan
 use crate::atoms::{Atom, atoms_of, intervals_of};
 use crate::building::build;
 use crate::combine::{Ends, narrowed};
-use crate::nodes::Node;
+use crate::nodes::{Node, Span};
 use crate::walk::{Kept, evaluate, under};
 use region::{Guess, Look, Region};
 use sched_base::{Itv, NoMemory};
@@ -23,7 +23,7 @@ use std::alloc::Global;
 #[derive(Debug, Drop)]
 pub struct HullTree {
     nodes: Vec<Node>,
-    firsts: Vec<u32>,
+    spans: Vec<Span>,
     root: u32,
     atoms: Vec<Atom>,
     intervals: Vec<Itv>,
@@ -37,7 +37,7 @@ impl std::marker::Model for HullTree {
 
     ghost view = { λ t. record { nodes = t.nodes.items; root = t.root; intervals = t.intervals.items; ends = t.ends.items } };
 
-    ghost invariant = { λ t. IsTree t.nodes.items t.firsts.items t.root t.atoms.items t.ends.items };
+    ghost invariant = { λ t. IsTree t.nodes.items t.spans.items t.root t.atoms.items t.ends.items };
 }
 
 /// A range for each node.
@@ -70,14 +70,14 @@ impl HullTree {
         ensures { IfOk result (IsTreeOf e.now) }
     {
         let mut nodes = Vec::new(alloc);
-        let mut firsts = Vec::new(alloc);
-        let root = build(alloc, &mut nodes, &mut firsts, e)?;
+        let mut spans = Vec::new(alloc);
+        let root = build(alloc, &mut nodes, &mut spans, e)?;
         let atoms = atoms_of(alloc, nodes.as_slice())?;
         let intervals = intervals_of(alloc, atoms.as_slice())?;
         let ends = room(alloc, nodes.len())?;
         Ok(HullTree {
             nodes,
-            firsts,
+            spans,
             root,
             atoms,
             intervals,
@@ -104,7 +104,7 @@ impl HullTree {
             model,
             &look,
             self.nodes.as_slice(),
-            self.firsts.as_slice(),
+            self.spans.as_slice(),
             self.ends.as_mut_slice(),
         );
     }
@@ -117,7 +117,7 @@ impl HullTree {
     {
         let kept = Kept {
             nodes: self.nodes.as_slice(),
-            firsts: self.firsts.as_slice(),
+            spans: self.spans.as_slice(),
             atoms: self.atoms.as_slice(),
             ends: self.ends.as_slice(),
         };

@@ -1,7 +1,6 @@
 -- What the tree of an expression tells of a witness.
-use Rattle.std.specs.Prelude.{◌≡◌, ℕ, zero, suc, ◌+◌, ◌-◌, ◌^◌, ◌<◌, ◌≤◌, length, ℤ, Bool, true, ◌&&◌, not, List, [], Option, Some, None, IfSome, IfNone, slice_get}
+use Rattle.std.specs.Prelude.{◌≡◌, ℕ, zero, suc, ◌+◌, ◌-◌, ◌<◌, ◌≤◌, length, ℤ, Bool, true, ◌&&◌, not, List, [], Option, Some, None, IfSome, IfNone, slice_get}
 use Rattle.std.proofs.Common.{refl, sym, ap, subst, ◌∙◌, arith}
-use Rattle.std.proofs.lemmas.Bool.Decides.{nat_tests}
 use Rattle.sched_base.specs.declared.ids.Itv.{Itv}
 use Rattle.sched_model.specs.declared.types.Constraint.TheVariants.{Logic}
 use Rattle.sched_model.specs.declared.types.Expr.{Expr}
@@ -19,7 +18,6 @@ use Rattle.findings.specs.Reads.{LooksOnlyAt, AreUnrefuted}
 use Rattle.hull_tree.specs.Trees.{Tree, IsTreeOf}
 use Rattle.refute_basic.specs.declared.witness.BasicWitness.{BasicWitness}
 use Rattle.refute_basic.specs.declared.witness.BasicWitness.TheVariants as basic
-use Rattle.refute_basic.specs.Witness.{is_number}
 use Rattle.refute_basic.specs.Expr.{is_never_true, expr_row}
 use Rattle.refute_basic.specs.Obj.{never_beats}
 use Rattle.refute_basic.specs.Basic.{refutes}
@@ -30,6 +28,7 @@ use Rattle.prop_basic.specs.Tables.{Fits}
 use Rattle.prop_basic.specs.Tasks.{size_of, quiet, witness_at, IsSilent}
 use Rattle.prop_basic.specs.laws.Owners.{quiet_from, silent_from, size_at, expr_at, is_below}
 use Rattle.prop_basic.specs.laws.Silent.{AsksAll, unrefuted_from, silent_on}
+use Rattle.sched_model.specs.Bounds.{is_number}
 
 -- two tests that say the same
 abbrev pub Same : (Option Guess → Bool) → (Option Guess → Bool) → Type 0
@@ -92,9 +91,6 @@ none_is (Some x) p = tt
 
 pub fits_some : (o : Option Expr) (t : Option Tree) (e : Expr) (u : Tree) → o ≡ Some e → t ≡ Some u → Fits o t → IsTreeOf e u
 fits_some o t e u is at fits = subst (λ p. Fits p (Some u)) is (subst (Fits o) at fits)
-
-pub number_fits : (c : ℕ) → c < 2 ^ 32 → is_number c ≡ true
-number_fits c h = grind (arith, nat_tests)
 
 -- the witness of a propagator
 pub none_at : (m : Data) (k : ℕ) (r : Region) (best : Option ℤ) (w : BasicWitness) → w ≡ witness_at m k → IsSilent m r best w → quiet m k r best

@@ -1,3 +1,4 @@
 pub mod Making
 pub mod Asked
+pub mod Round
 pub mod Watching

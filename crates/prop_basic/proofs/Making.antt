@@ -1,7 +1,6 @@
 -- The parts of a table, one after the other.
-use Rattle.std.specs.Prelude.{◌≡◌, ℕ, zero, suc, ◌+◌, ◌<◌, List, [], ◌∷◌, ◌++◌, length, Option, Some, None, slice_get}
+use Rattle.std.specs.Prelude.{◌≡◌, ℕ, ◌+◌, ◌<◌, List, [], ◌∷◌, ◌++◌, length, Option, Some, None, slice_get}
 use Rattle.std.proofs.Common.{◌≢◌, refl, sym, ap, subst, ◌∙◌, arith, get_or, inl, inr}
-use Rattle.std.proofs.Math.Seq.{get_or-append_seam}
 use Rattle.std.proofs.lemmas.Bool.{cases_eq}
 use Rattle.std.proofs.lemmas.List.{get_or_append_left, length_push}
 use Rattle.sched_base.specs.declared.ids.Itv.{Itv}
@@ -9,9 +8,7 @@ use Rattle.sched_model.specs.declared.types.Constraint.{Constraint}
 use Rattle.hull_tree.specs.Trees.{Tree}
 use Rattle.prop_basic.specs.Tasks.{logic_of}
 use Rattle.prop_basic.specs.Tables.{Fits, FitEach, AreNumbered, tree_at}
-
-newest : {X : Type 0} (n : ℕ) (xs : List X) (x d : X) → n ≡ length xs → get_or (xs ++ x ∷ []) n d ≡ x
-newest n xs x d is = ap (λ k. get_or (xs ++ x ∷ []) k d) is ∙ get_or-append_seam xs x [] d
+use Rattle.base_laws.specs.laws.Places.{newest, there}
 
 pub numbered_none : AreNumbered 0 []
 numbered_none = record { size = refl; each = λ x d below. absurd (omega (arith, below)) }
@@ -36,17 +33,12 @@ pub record FitBelow (n : ℕ) (cs : List Constraint) (ts : List (Option Tree)) :
 pub fit_none : (cs : List Constraint) → FitBelow 0 cs []
 fit_none cs = record { size = refl; each = λ c below. absurd (omega (arith, below)) }
 
-there : (cs : List Constraint) (n : ℕ) (c : Constraint) → n < length cs → c ≡ get_or cs n c → slice_get cs n ≡ Some c
-there [] n c h at = absurd (omega (arith, h))
-there (d ∷ ds) zero c h at = ap Some (sym at)
-there (d ∷ ds) (suc n) c h at = there ds n c (omega (arith, h)) at
-
 pub fit_more : (n : ℕ) (cs : List Constraint) (ts : List (Option Tree)) (c : Constraint) (t : Option Tree) → FitBelow n cs ts → n < length cs → c ≡ get_or cs n c → Fits (logic_of (Some c)) t → FitBelow (n + 1) cs (ts ++ t ∷ [])
 fit_more n cs ts c t so_far within at fits = record {
   size = length_push ts t ∙ ap (λ k. k + 1) so_far.size;
   each = λ i below. elim (cases_eq i n) [
     | inl last ↦ subst (λ k. Fits (logic_of (slice_get cs k)) (tree_at (ts ++ t ∷ []) k)) (sym last)
-        (subst (Fits (logic_of (slice_get cs n))) (sym (newest n ts t None (sym so_far.size))) (subst (λ o. Fits (logic_of o) t) (sym (there cs n c within at)) fits))
+        (subst (Fits (logic_of (slice_get cs n))) (sym (newest n ts t None (sym so_far.size))) (subst (λ o. Fits (logic_of o) t) (sym (there cs n c c within at)) fits))
     | inr other ↦ (let apart : i ≢ n = other in let less : i < n = omega (arith, below, apart) in let size = so_far.size in subst (Fits (logic_of (slice_get cs i))) (sym (get_or_append_left ts (t ∷ []) None i (omega (arith, less, size)))) (so_far.each i less))
   ];
 }

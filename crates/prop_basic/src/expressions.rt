@@ -8,9 +8,8 @@ ghost use Rattle.refute_basic.specs.Basic.{refutes};
 ghost use Rattle.prop_basic.specs.Tasks.{IsSilent, logic_of, objective_of};
 ghost use Rattle.prop_basic.specs.Tables.{Fits};
 
-use crate::hulls::{Goal, ask_tree};
+use crate::hulls::{Goal, Scan, ask_tree};
 use findings::{Finding, ask};
-use hull_tree::HullTree;
 use refute_basic::{Basic, BasicWitness};
 use region::Region;
 use sched_base::{Itv, at};
@@ -35,7 +34,7 @@ pub fn ask_size(
 
 /// What EXPR of a constraint finds; nothing where the constraint is no expression.
 pub fn ask_constraint(
-    tree: &mut Option<HullTree>,
+    tree: &mut Option<Scan>,
     model: &Model,
     region: &Region,
     best: Option<i64>,
@@ -61,7 +60,7 @@ pub fn ask_constraint(
 
 /// What OBJ finds; nothing where there is no best value or no objective.
 pub fn ask_objective(
-    tree: &mut Option<HullTree>,
+    tree: &mut Option<Scan>,
     model: &Model,
     region: &Region,
     best: Option<i64>,

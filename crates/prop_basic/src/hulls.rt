@@ -1,5 +1,5 @@
 //! What the kept look hull of an expression tells under guesses.
-ghost use Rattle.std.specs.Prelude.{◌≡◌, ◌∷◌, [], IsTrue, IfNone, IfSome, is_some};
+ghost use Rattle.std.specs.Prelude.{◌≡◌, ◌≤◌, ◌∷◌, [], length, IsTrue, IfNone, IfOk, IfSome, is_some};
 ghost use Rattle.sched_model.specs.declared.types.Expr.{Expr};
 ghost use Rattle.sched_model.specs.Hull.{hull_of};
 ghost use Rattle.region.specs.Looks.{IsRegionOf};
@@ -7,13 +7,16 @@ ghost use Rattle.findings.specs.Found.{IsFound};
 ghost use Rattle.findings.specs.Reads.{AreUnrefuted};
 ghost use Rattle.hull_tree.specs.Trees.{IsTreeOf};
 ghost use Rattle.prop_basic.specs.Goals.{is_missed, misses};
+ghost use Rattle.prop_basic.specs.Ready.{IsReady};
 
 use findings::ask_by;
 use hull_tree::HullTree;
 use look_hull::surely_false;
 use refute_basic::never_beats;
 use region::{Guess, GuessTest, Region};
+use sched_base::{Itv, NoMemory};
 use sched_model::{Expr, Model, Sense};
+use std::alloc::Global;
 
 /// What the value of an expression has to do: be true, or be better than the best value.
 #[derive(Clone, Copy, Debug, PartialEq, Eq)]
@@ -29,6 +32,15 @@ fn is_missed(goal: Goal, r: (i64, i64)) -> bool
     match goal {
         Goal::Holds => surely_false(r),
         Goal::Beats(sense, best) => never_beats(sense, best, r),
+    }
+}
+
+/// How far the range lies behind the first value that isn't better than the best.
+fn slack(goal: Goal, r: (i64, i64)) -> Option<i64> {
+    match goal {
+        Goal::Holds => None,
+        Goal::Beats(Sense::Minimize, best) => r.0.checked_sub(best),
+        Goal::Beats(Sense::Maximize, best) => best.checked_sub(r.1),
     }
 }
 
@@ -55,12 +67,119 @@ impl<'a> GuessTest for HullTest<'a> {
     fn refutes(&self, guess: Option<Guess>) -> bool {
         is_missed(self.goal, self.tree.range(self.model, self.region, guess))
     }
+
+    fn reach(&self, guess: Guess) -> Option<u64> {
+        let range = self.tree.range(self.model, self.region, Some(guess));
+        u64::try_from(slack(self.goal, range)?).ok()
+    }
+}
+
+/// The tree of an expression, and the place among its intervals where the next search begins: that
+/// of the last finding, so that those before it aren't asked again for each finding.
+#[derive(Debug, Drop)]
+pub struct Scan {
+    tree: HullTree,
+    place: usize,
+}
+
+impl std::marker::Model for Scan {
+    ghost use Rattle.hull_tree.specs.Trees.{Tree};
+
+    ghost Value = { Tree };
+
+    ghost view = { λ s. s.tree };
+}
+
+impl Scan {
+    pub fn new(alloc: Global, e: &Expr) -> Result<Scan, NoMemory>
+        ensures { IfOk result (IsTreeOf e.now) }
+    {
+        let tree = HullTree::new(alloc, e)?;
+        Ok(Scan { tree, place: 0 })
+    }
+
+    /// The intervals that the expression names, each once.
+    pub fn intervals(&self) -> &[Itv]
+        ensures { result.now ≡ self.now.intervals }
+    {
+        self.tree.intervals()
+    }
+}
+
+/// What a test gives of some intervals, from a place on and then up to it.
+#[tactic(auto, using(crate::proofs::Round::unrefuted_round, crate::proofs::Round::busy_after, crate::proofs::Round::busy_before))]
+fn ask_round<T: GuessTest>(
+    test: &T,
+    region: &Region,
+    intervals: &[Itv],
+    place: usize,
+) -> Option<Option<Guess>>
+    requires ready { T.is_ready test.now }
+    requires of { T.region test.now ≡ region.now.region }
+    requires within { place ≤ length intervals.now }
+    ensures none { IfNone result (AreUnrefuted (T.refuting test.now) region.now.region intervals.now []) }
+    ensures some { IfSome result (IsFound (T.refuting test.now) region.now.region) }
+    ensures busy { IfSome result (λ guess. AreUnrefuted (T.refuting test.now) region.now.region intervals.now [] → ⊥) }
+{
+    if let Some(found) = ask_by(test, region, &intervals[place..], &[]) {
+        return Some(found);
+    }
+    ask_by(test, region, &intervals[..place], &[])
+}
+
+/// The interval of a guess, and of one on an order the first.
+fn interval_of(guess: Guess) -> Itv {
+    match guess {
+        Guess::Present(x) => x,
+        Guess::Absent(x) => x,
+        Guess::StartLe(x, _) => x,
+        Guess::StartGe(x, _) => x,
+        Guess::EndLe(x, _) => x,
+        Guess::EndGe(x, _) => x,
+        Guess::Before(_, x, _) => x,
+    }
+}
+
+/// Where the interval of the guess stands; the first place where there is none.
+fn place_of(intervals: &[Itv], guess: Option<Guess>) -> usize {
+    let Some(g) = guess else {
+        return 0;
+    };
+    let x = interval_of(g);
+    intervals.iter().position(|y| y.0 == x.0).unwrap_or(0)
+}
+
+/// What is found by the tree, which was evaluated in the region.
+fn find(
+    tree: &HullTree,
+    model: &Model,
+    region: &Region,
+    expression: &Expr,
+    goal: Goal,
+    place: usize,
+) -> Option<Option<Guess>>
+    requires ready { IsReady model.now region.now.region expression.now tree.now }
+    ensures none { IfNone result (AreUnrefuted (misses model.now region.now.region expression.now goal) region.now.region tree.now.intervals []) }
+    ensures some { IfSome result (IsFound (misses model.now region.now.region expression.now goal) region.now.region) }
+    ensures busy { IfSome result (λ guess. AreUnrefuted (misses model.now region.now.region expression.now goal) region.now.region tree.now.intervals [] → ⊥) }
+{
+    let test = HullTest {
+        tree,
+        model,
+        region,
+        expression,
+        goal,
+    };
+    let intervals = tree.intervals();
+    let begin = if place <= intervals.len() { place } else { 0 };
+    ask_round(&test, region, intervals, begin)
 }
 
 /// What is found of an expression: nothing, or that it misses its goal in the region, or the tight
-/// guess under which it does. The tree is evaluated once; each guess then walks its own ways.
+/// guess under which it does. The tree is evaluated once; each guess then walks its own ways, and
+/// nothing is answered after one round through all of them.
 pub fn ask_tree(
-    tree: &mut HullTree,
+    tree: &mut Scan,
     model: &Model,
     region: &Region,
     expression: &Expr,
@@ -74,14 +193,8 @@ pub fn ask_tree(
     ensures some { IfSome result (IsFound (misses model.now region.now.region expression.now goal) region.now.region) }
     ensures busy { IfSome result (λ guess. AreUnrefuted (misses model.now region.now.region expression.now goal) region.now.region tree.new.intervals [] → ⊥) }
 {
-    tree.evaluate(model, region);
-    let tree = &*tree;
-    let test = HullTest {
-        tree,
-        model,
-        region,
-        expression,
-        goal,
-    };
-    ask_by(&test, region, tree.intervals(), &[])
+    tree.tree.evaluate(model, region);
+    let found = find(&tree.tree, model, region, expression, goal, tree.place)?;
+    tree.place = place_of(tree.tree.intervals(), found);
+    Some(found)
 }

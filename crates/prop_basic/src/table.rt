@@ -9,8 +9,8 @@ ghost use Rattle.prop_basic.specs.Tasks.{size_of, quiet, watching, watching_best
 ghost use Rattle.prop_basic.specs.Tables.{Fits, FitEach, AreNumbered, IsFor, names_in};
 
 use crate::expressions::{ask_constraint, ask_objective, ask_size};
+use crate::hulls::Scan;
 use findings::Finding;
-use hull_tree::HullTree;
 use refute_basic::BasicWitness;
 use region::{CellName, Region};
 use sched_base::{Itv, NoMemory};
@@ -21,9 +21,9 @@ use std::alloc::Global;
 /// one for each constraint after them, which is quiet where the constraint is no expression.
 #[derive(Debug, Drop)]
 pub struct PropBasic {
-    objective: Option<HullTree>,
+    objective: Option<Scan>,
     intervals: Vec<Itv>,
-    trees: Vec<Option<HullTree>>,
+    trees: Vec<Option<Scan>>,
 }
 
 impl std::marker::Model for PropBasic {
@@ -50,17 +50,17 @@ fn first_intervals(alloc: Global, n: u32) -> Result<Vec<Itv>, NoMemory>
 }
 
 /// The tree of a constraint that is an expression.
-fn tree_of(alloc: Global, constraint: &Constraint) -> Result<Option<HullTree>, NoMemory>
+fn tree_of(alloc: Global, constraint: &Constraint) -> Result<Option<Scan>, NoMemory>
     ensures { IfOk result (Fits (logic_of (Some constraint.now))) }
 {
     match constraint {
-        Constraint::Logic(e) => Ok(Some(HullTree::new(alloc, e)?)),
+        Constraint::Logic(e) => Ok(Some(Scan::new(alloc, e)?)),
         _ => Ok(None),
     }
 }
 
 #[tactic(auto, using(crate::proofs::Making::fit_none, crate::proofs::Making::fit_more, crate::proofs::Making::fit_all))]
-fn trees_of(alloc: Global, constraints: &[Constraint]) -> Result<Vec<Option<HullTree>>, NoMemory>
+fn trees_of(alloc: Global, constraints: &[Constraint]) -> Result<Vec<Option<Scan>>, NoMemory>
     ensures { IfOk result (λ v. FitEach constraints.now v.items) }
 {
     let mut trees = Vec::new(alloc);
@@ -70,12 +70,12 @@ fn trees_of(alloc: Global, constraints: &[Constraint]) -> Result<Vec<Option<Hull
     Ok(trees)
 }
 
-fn objective_tree(alloc: Global, model: &Model) -> Result<Option<HullTree>, NoMemory>
+fn objective_tree(alloc: Global, model: &Model) -> Result<Option<Scan>, NoMemory>
     ensures { IfOk result (Fits (objective_of model.now.objective)) }
 {
     match model.objective() {
         None => Ok(None),
-        Some(o) => Ok(Some(HullTree::new(alloc, &o.expr)?)),
+        Some(o) => Ok(Some(Scan::new(alloc, &o.expr)?)),
     }
 }
 
@@ -100,7 +100,7 @@ fn has(intervals: &[Itv], x: Itv) -> bool
 }
 
 /// The intervals that a tree names.
-fn named(tree: &Option<HullTree>) -> &[Itv]
+fn named(tree: &Option<Scan>) -> &[Itv]
     ensures { result.now ≡ names_in tree.now }
 {
     match tree {

@@ -1,21 +1,22 @@
 -- Each witness of this crate's kinds has one propagator, and one that has none refutes nothing.
-use Rattle.std.specs.Prelude.{◌≡◌, ℕ, zero, suc, ◌+◌, ◌-◌, ◌<◌, ◌≤◌, ℤ, Bool, true, false, ◌&&◌, List, [], ◌∷◌, length, Option, slice_get, nat_eq, nat_lt, cond}
+use Rattle.std.specs.Prelude.{◌≡◌, ℕ, zero, suc, ◌+◌, ◌-◌, ◌<◌, ◌≤◌, ℤ, Bool, true, false, ◌&&◌, length, Option, nat_eq, nat_lt, cond}
 use Rattle.std.proofs.Common.{refl, sym, ap, subst, ◌∙◌, arith}
 use Rattle.std.proofs.lemmas.Bool.{true≢false, and_parts}
 use Rattle.std.proofs.lemmas.Bool.Decides.{nat_tests}
 use Rattle.sched_model.specs.Data.{Data}
-use Rattle.sched_model.specs.Words.{passes}
 use Rattle.region.specs.Cells.{Region}
 use Rattle.region.specs.Looks.{Seen, IsRegionOf, is_narrowed}
 use Rattle.region.specs.laws.Lists.{placewise-length}
 use Rattle.refute_basic.specs.declared.witness.BasicWitness.{BasicWitness}
 use Rattle.refute_basic.specs.declared.witness.BasicWitness.TheVariants.{Size, Arc, Cycle, Expr, Obj, Leaf}
-use Rattle.refute_basic.specs.Witness.{is_number}
 use Rattle.refute_basic.specs.Size.{size_row}
 use Rattle.refute_basic.specs.Expr.{is_never_true, expr_row}
 use Rattle.refute_basic.specs.Basic.{refutes}
 use Rattle.refute_basic.specs.laws.Size.{none_past}
 use Rattle.prop_basic.specs.Tasks.{size_of, is_own, looks_after, witness_at, quiet, IsSilent}
+use Rattle.base_laws.specs.laws.Truth.{never_both}
+use Rattle.sched_model.specs.laws.Words.{none_past as nothing_past}
+use Rattle.sched_model.specs.Bounds.{is_number}
 
 same_number : (i j : ℕ) → nat_eq i j ≡ true → i ≡ j
 same_number i j h = grind (arith, nat_tests)
@@ -84,15 +85,6 @@ owns m (suc i) = by_case (nat_lt i (length m.intervals))
     by_case false = refl
 
 -- no other witness of these kinds refutes anything
-none_there : {X : Type 0} (test : X → Bool) (xs : List X) (i : ℕ) → length xs ≤ i → passes test (slice_get xs i) ≡ false
-none_there test [] i h = refl
-none_there test (x ∷ xs) zero h = absurd (omega (arith, h))
-none_there test (x ∷ xs) (suc i) h = none_there test xs i (omega (arith, h))
-
-nothing_more : (b c : Bool) → c ≡ false → (b && c) ≡ false
-nothing_more true c h = h
-nothing_more false c h = refl
-
 pub unowned : (m : Data) (l : Seen) (w : BasicWitness) → IsRegionOf m l.region → is_own w ≡ true → ((k : ℕ) → k < size_of m → looks_after m k w ≡ false) → refutes m l w ≡ false
 unowned m l Obj of own none = absurd (true≢false (none 0 (omega arith)))
 unowned m l (Arc c d) of own none = cc
@@ -107,7 +99,7 @@ unowned m l (Size x) of own none = by_case (nat_lt x (length m.intervals)) refl
     by_case true is =
         let within = below x (length m.intervals) is in
         absurd (true≢false (sym (is_same (1 + x) (1 + x) refl) ∙ ap (λ b. b && nat_eq (1 + x) (1 + x)) (sym is) ∙ none (1 + x) (omega (arith, within))))
-    by_case false is = let more = past x (length m.intervals) is in nothing_more (is_number x) (size_row l x) (sym (none_past l x (omega (arith, more, same))))
+    by_case false is = let more = past x (length m.intervals) is in never_both (is_number x) (size_row l x) (sym (none_past l x (omega (arith, more, same))))
 unowned m l (Expr c) of own none = by_case (nat_lt c (length m.constraints)) refl
   where
     by_case : (b : Bool) → nat_lt c (length m.constraints) ≡ b → refutes m l (Expr c) ≡ false
@@ -115,7 +107,7 @@ unowned m l (Expr c) of own none = by_case (nat_lt c (length m.constraints)) ref
         let within = below c (length m.constraints) is in
         let k = 1 + (length m.intervals + c) in
         absurd (true≢false (sym (is_same k k refl) ∙ ap (λ b. b && nat_eq k k) (sym is) ∙ none k (omega (arith, within))))
-    by_case false is = nothing_more (is_number c) (expr_row m l c) (none_there (is_never_true m l.region) m.constraints c (past c (length m.constraints) is))
+    by_case false is = never_both (is_number c) (expr_row m l c) (nothing_past (is_never_true m l.region) m.constraints c (past c (length m.constraints) is))
 
 -- a propagator is quiet where its witness is silent
 pub quiet_from : (m : Data) (k : ℕ) (r : Region) (best : Option ℤ) → IsSilent m r best (witness_at m k) → quiet m k r best

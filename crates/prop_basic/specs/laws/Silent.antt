@@ -17,25 +17,21 @@ use Rattle.region.specs.Looks.{Seen, IsRegionOf, seen_at}
 use Rattle.region.specs.laws.Intervals.{bounds_there}
 use Rattle.region.specs.laws.Lists.{true_both, length-changed_at}
 use Rattle.region.specs.laws.OneSequence.{same_is, same_self}
-use Rattle.findings.specs.Ends.{is_asked, is_open_end}
+use Rattle.findings.specs.Ends.{is_open_end}
 use Rattle.findings.specs.Reads.{Reads, LooksOnlyAt, IsUnrefuted, is_among, is_paired, reads_cell}
 use Rattle.findings.specs.laws.Alike.{alike_from_cells}
-use Rattle.findings.specs.laws.Kept.{unrefuted_kept}
+use Rattle.findings.specs.laws.Kept.{unrefuted_kept, asked_more}
 use Rattle.findings.specs.laws.Everywhere.{unrefuted_everywhere}
 use Rattle.refute_basic.specs.declared.witness.BasicWitness.{BasicWitness}
 use Rattle.refute_basic.specs.declared.witness.BasicWitness.TheVariants.{Size, Arc, Cycle, Expr, Obj, Leaf}
-use Rattle.refute_basic.specs.Witness.{is_number}
 use Rattle.refute_basic.specs.Size.{has_no_size, size_row}
 use Rattle.refute_basic.specs.Basic.{refutes}
 use Rattle.refute_basic.specs.Listed.{asks_size, is_on_one, lists}
 use Rattle.refute_basic.specs.laws.Size.{none_past, size_alike}
 use Rattle.refute_basic.specs.laws.Hulls.{logic_names, objective_names, expr_alike, obj_alike}
 use Rattle.prop_basic.specs.Tasks.{is_own, reads_of, IsSilent}
-
--- what is asked of one list of guesses is asked of another that has them
-asked_more : (p q : Guess → Bool) (r : Region) (guess : Option Guess) → ((g : Guess) → p g ≡ true → q g ≡ true) → is_asked p r guess ≡ true → is_asked q r guess ≡ true
-asked_more p q r None more asked = refl
-asked_more p q r (Some g) more asked = let two = and_parts (p g) (is_open_end r g) asked in true_both (q g) (is_open_end r g) (more g two.0) two.1
+use Rattle.base_laws.specs.laws.Truth.{alone, never_both}
+use Rattle.sched_model.specs.Bounds.{is_number}
 
 -- expressions: guesses on any interval
 among_one : (xs : List Itv) (t : Topic) → is_among xs [] t ≡ true → is_on_one t ≡ true
@@ -67,10 +63,6 @@ obj_looks m xs covers l k of also alike best = obj_alike m l k (best refl) (λ x
 -- sizes: no guess that the interval is absent
 abbrev itv_at : ℕ → Itv
 itv_at x = record { 0 = x }
-
-alone : (b : Bool) → (b || false) ≡ true → b ≡ true
-alone true h = refl
-alone false h = h
 
 is_itv : (x : ℕ) (z : Itv) → has (itv_at x ∷ []) z ≡ true → z ≡ itv_at x
 is_itv x z h = same_is z (itv_at x) (alone (same z (itv_at x)) h)
@@ -109,10 +101,6 @@ asks_among x (Two p y z) h = cc
 pub size_silent : (m : Data) (r : Region) (best : Option ℤ) (x : ℕ) → IsUnrefuted refutes m r best (Size x) (itv_at x ∷ []) [] → IsSilent m r best (Size x)
 size_silent m r best x none guess asked = none guess (asked_more (lists m (Size x)) (λ g. is_among (itv_at x ∷ []) [] (topic g)) r guess (λ g h. asks_among x (topic g) h) asked)
 
-nothing_more : (b c : Bool) → c ≡ false → (b && c) ≡ false
-nothing_more true c h = h
-nothing_more false c h = refl
-
 pub size_unrefuted : (m : Data) (r : Region) (best : Option ℤ) (x : ℕ) → IsSilent m r best (Size x) → IsUnrefuted refutes m r best (Size x) (itv_at x ∷ []) []
 size_unrefuted m r best x silent None asked = silent None refl
 size_unrefuted m r best x silent (Some g) asked =
@@ -121,7 +109,7 @@ size_unrefuted m r best x silent (Some g) asked =
   where
     by_topic : (t : Topic) → topic g ≡ t → is_among (itv_at x ∷ []) [] t ≡ true → (asks_size x (topic g) ≡ true → refutes m (seen_at r best (Some g)) (Size x) ≡ false) → refutes m (seen_at r best (Some g)) (Size x) ≡ false
     by_topic (One z claim.Absent) is among otherwise =
-        nothing_more (is_number x) (size_row (seen_at r best (Some g)) x) (size_absent (seen_at r best (Some g)) r x (ap (λ t. assumed t r) is ∙ ap (λ w. with_bounds w as_absent r) (is_itv x z among)))
+        never_both (is_number x) (size_row (seen_at r best (Some g)) x) (size_absent (seen_at r best (Some g)) r x (ap (λ t. assumed t r) is ∙ ap (λ w. with_bounds w as_absent r) (is_itv x z among)))
     by_topic (One z claim.Present) is among otherwise = otherwise (ap (asks_size x) is ∙ turned x z among)
     by_topic (One z (claim.StartLe t)) is among otherwise = otherwise (ap (asks_size x) is ∙ turned x z among)
     by_topic (One z (claim.StartGe t)) is among otherwise = otherwise (ap (asks_size x) is ∙ turned x z among)

@@ -6,8 +6,9 @@ use Rattle.prop_basic.specs.declared.hulls.Goal.TheVariants.{Holds}
 use Rattle.prop_basic.specs.Goals.{misses}
 use Rattle.prop_basic.specs.Tasks.{logic_of}
 use Rattle.prop_basic.specs.laws.Silent.{expr_looks}
-use Rattle.prop_basic.proofs.Asked.{expr_same, tree_silent, tree_busy, covers_expr, none_is, fits_some, number_fits}
+use Rattle.prop_basic.proofs.Asked.{expr_same, tree_silent, tree_busy, covers_expr, none_is, fits_some}
 use Rattle.prop_basic.proofs.expressions.ask_constraint.Goals as goal
+use Rattle.sched_model.specs.laws.Small.{number_fits}
 
 pub ask_tree-requires-clause-hull : goal.ask_tree-requires-clause-hull
 ask_tree-requires-clause-hull c =
