@@ -1,5 +1,5 @@
 -- Whom a change wakes.
-use Rattle.std.specs.Prelude.{◌≡◌, ℕ, ◌<◌, ℤ, Bool, true, false, IsTrue, Option, All}
+use Rattle.std.specs.Prelude.{◌≡◌, ℕ, ◌<◌, ℤ, true, false, IsTrue, Option, All}
 use Rattle.std.proofs.Common.{refl, sym, ap, subst, ◌∙◌}
 use Rattle.std.proofs.lemmas.Bool.{true≢false}
 use Rattle.iqueue.specs.Queue.{is_in}
@@ -16,6 +16,7 @@ use Rattle.engine.specs.Changes.{AreSameBut}
 use Rattle.engine.specs.Watching.{Watching, watchers_of}
 use Rattle.engine.specs.Noted.{AreBelow}
 use Rattle.engine.specs.Engines.{EngineValue, IsFor, IsCalm, AreAwake}
+use Rattle.base_laws.specs.laws.Truth.{fails_before}
 
 -- the law that quiet stays where nothing watched changes
 abbrev pub Unwatched : {P : Type 0} → Ghosts P → Type 0
@@ -23,11 +24,11 @@ Unwatched p = (m : Data) (k : ℕ) (r q : Region) (b c : Option ℤ) → IsRegio
 
 -- the watchers of a cell are all below the bound, and the same under its other name
 pub below_of : (n : ℕ) (w : Watching) (c : CellName) → AreBelow n w → All (λ k. k < n) (watchers_of w c)
-below_of n w (Presence x) below = below.by_interval x.0
-below_of n w (StartMin x) below = below.by_interval x.0
-below_of n w (StartMax x) below = below.by_interval x.0
-below_of n w (EndMin x) below = below.by_interval x.0
-below_of n w (EndMax x) below = below.by_interval x.0
+below_of n w (Presence x) below = below.by_presence x.0
+below_of n w (StartMin x) below = below.by_bound x.0
+below_of n w (StartMax x) below = below.by_bound x.0
+below_of n w (EndMin x) below = below.by_bound x.0
+below_of n w (EndMax x) below = below.by_bound x.0
 below_of n w (Order p x y) below = below.by_sequence p.0
 
 turned_watchers : (w : Watching) (c : CellName) → watchers_of w (turned c) ≡ watchers_of w c
@@ -37,10 +38,6 @@ turned_watchers w (StartMax x) = refl
 turned_watchers w (EndMin x) = refl
 turned_watchers w (EndMax x) = refl
 turned_watchers w (Order p x y) = refl
-
-asleep_before : (p q : Bool) → (p ≡ true → q ≡ true) → q ≡ false → p ≡ false
-asleep_before true q f h = absurd (true≢false (sym (f refl) ∙ h))
-asleep_before false q f h = refl
 
 -- other levels don't unmake an engine
 abbrev with_waking : {P : Type 0} → EngineValue P → Waking → EngineValue P
@@ -57,7 +54,7 @@ pub calm_after : {P : Type 0} (p : Ghosts P) → Unwatched p → (cell : CellNam
     → (m : Data) (r q : Region) (best : Option ℤ) → IsFor p m old → IsRegionOf m r → IsRegionOf m q → AreSameBut cell r q → IsCalm p m r best old → IsCalm p m q best new
 calm_after p unwatched cell old new wakes m r q best is of also others calm k within asleep =
     unwatched m k r q best best of also (λ c watched. others c (λ e. awake c watched (ap (watchers_of old.watching) e)) (λ e. awake c watched (ap (watchers_of old.watching) e ∙ turned_watchers old.watching cell)))
-    (λ watched. refl) (calm k within (asleep_before (is_awake old.waking k) (is_awake new.waking k) (wakes.kept k) asleep))
+    (λ watched. refl) (calm k within (fails_before (is_awake old.waking k) (is_awake new.waking k) (wakes.kept k) asleep))
   where
     awake : (c : CellName) → IsTrue (p.watching m k c) → watchers_of old.watching c ≡ watchers_of old.watching cell → ⊥
     awake c watched e = true≢false (sym (wakes.woken k (subst (λ ks. is_in k ks ≡ true) e (is.cells k c within watched))) ∙ asleep)
@@ -66,7 +63,7 @@ pub calm_after_best : {P : Type 0} (p : Ghosts P) → Unwatched p → (old new :
     → (m : Data) (r : Region) (b c : Option ℤ) → IsFor p m old → IsRegionOf m r → IsCalm p m r b old → IsCalm p m r c new
 calm_after_best p unwatched old new wakes m r b c is of calm k within asleep =
     unwatched m k r r b c of of (λ cell watched. same cell r) (λ watched. absurd (true≢false (sym (wakes.woken k (is.best k within watched)) ∙ asleep)))
-    (calm k within (asleep_before (is_awake old.waking k) (is_awake new.waking k) (wakes.kept k) asleep))
+    (calm k within (fails_before (is_awake old.waking k) (is_awake new.waking k) (wakes.kept k) asleep))
   where
     same : (cell : CellName) (r : Region) → SameCell cell r r
     same (Presence x) r = refl

@@ -24,7 +24,8 @@ pub record Noted {X : Type 0} (k : ℕ) (place : X → ℕ) (xs : List X) (old n
 
 -- each number in any list is below a bound
 pub record AreBelow (n : ℕ) (w : Watching) : Type 0 where
-  pub by_interval : AreAllBelow n w.by_interval
+  pub by_presence : AreAllBelow n w.by_presence
+  pub by_bound : AreAllBelow n w.by_bound
   pub by_sequence : AreAllBelow n w.by_sequence
   pub by_best : All (λ k. k < n) w.by_best
 

@@ -58,12 +58,20 @@ impl<A: Propagator, B: Propagator> Propagator for Both<A, B> {
         self.second.next(k - n, model, region, best)
     }
 
-    fn watched(&self, k: u32) -> &[Itv] {
+    fn watched_presences(&self, k: u32) -> &[Itv] {
         let n = self.first.count();
         if k < n {
-            return self.first.watched(k);
+            return self.first.watched_presences(k);
         }
-        self.second.watched(k - n)
+        self.second.watched_presences(k - n)
+    }
+
+    fn watched_bounds(&self, k: u32) -> &[Itv] {
+        let n = self.first.count();
+        if k < n {
+            return self.first.watched_bounds(k);
+        }
+        self.second.watched_bounds(k - n)
     }
 
     fn watched_orders(&self, k: u32) -> &[Seq] {

@@ -14,7 +14,7 @@ pub trait Propagator: Drop {
     ghost use Rattle.region.specs.Looks.{IsRegionOf};
     ghost use Rattle.findings.specs.Found.{IsFinding};
     ghost use Rattle.engine.specs.Plain.{refutes_plain};
-    ghost use Rattle.engine.specs.Watched.{names_cell, names_order};
+    ghost use Rattle.engine.specs.Watched.{names_presence, names_bound, names_order};
 
     /// What it is to be made for a model, and how many there are then.
     ghost is_of: { Self → Data → Type 0 };
@@ -49,10 +49,15 @@ pub trait Propagator: Drop {
         ensures some { IfOk result (λ o. IfSome o (λ f. IsFinding refutes_plain model.now region.now.region best f)) }
         ensures busy { IfOk result (λ o. IfSome o (λ f. quiet model.now k region.now.region best → ⊥)) };
 
-    /// The intervals that have a cell which it watches, and perhaps others.
-    fn watched(&self, k: u32) -> &[Itv]
+    /// The intervals whose presence it watches, and perhaps others.
+    fn watched_presences(&self, k: u32) -> &[Itv]
         requires { (m : Data) × is_of self.now m × (k < size m) }
-        ensures { (m : Data) → is_of self.now m → (c : CellName) → IsTrue (watching m k c) → names_cell result.now c };
+        ensures { (m : Data) → is_of self.now m → (c : CellName) → IsTrue (watching m k c) → names_presence result.now c };
+
+    /// The intervals that have a bound which it watches, and perhaps others.
+    fn watched_bounds(&self, k: u32) -> &[Itv]
+        requires { (m : Data) × is_of self.now m × (k < size m) }
+        ensures { (m : Data) → is_of self.now m → (c : CellName) → IsTrue (watching m k c) → names_bound result.now c };
 
     /// The sequences that have an order which it watches, and perhaps others.
     fn watched_orders(&self, k: u32) -> &[Seq]

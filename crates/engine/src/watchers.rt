@@ -9,10 +9,12 @@ use sched_base::{Itv, List, NoMemory, Seq};
 use sched_model::Model;
 use std::alloc::Global;
 
-/// Which propagators watch a cell of which interval, an order of which sequence, and the best value.
+/// Which propagators watch the presence of which interval, the bounds of which interval, the orders of
+/// which sequence, and the best value.
 #[derive(Drop)]
 pub struct Watchers {
-    by_interval: Vec<List<u32>>,
+    by_presence: Vec<List<u32>>,
+    by_bound: Vec<List<u32>>,
     by_sequence: Vec<List<u32>>,
     by_best: List<u32>,
 }
@@ -22,7 +24,7 @@ impl std::marker::Model for Watchers {
 
     ghost Value = { Watching };
 
-    ghost view = { λ w. record { by_interval = w.by_interval.items; by_sequence = w.by_sequence.items; by_best = w.by_best } };
+    ghost view = { λ w. record { by_presence = w.by_presence.items; by_bound = w.by_bound.items; by_sequence = w.by_sequence.items; by_best = w.by_best } };
 }
 
 /// Adds empty lists until there are more than `n`.
@@ -101,16 +103,19 @@ impl Watchers {
         requires { P.is_of propagators.now model.now }
         ensures { IfOk result (λ w. AreListed (P.size model.now) (P.watching model.now) (P.watching_best model.now) w) }
     {
-        let mut by_interval = Vec::new(alloc);
+        let mut by_presence = Vec::new(alloc);
+        let mut by_bound = Vec::new(alloc);
         let mut by_sequence = Vec::new(alloc);
         let mut by_best = List::new(alloc);
         for k in 0..propagators.count() {
-            note_intervals(alloc, &mut by_interval, propagators.watched(k), k)?;
+            note_intervals(alloc, &mut by_presence, propagators.watched_presences(k), k)?;
+            note_intervals(alloc, &mut by_bound, propagators.watched_bounds(k), k)?;
             note_sequences(alloc, &mut by_sequence, propagators.watched_orders(k), k)?;
             push_if(&mut by_best, propagators.watches_best(k), k)?;
         }
         Ok(Watchers {
-            by_interval,
+            by_presence,
+            by_bound,
             by_sequence,
             by_best,
         })
@@ -121,11 +126,11 @@ impl Watchers {
         ensures { result.now ≡ watchers_of self.now cell }
     {
         match cell {
-            CellName::Presence(x) => list_at(&self.by_interval, x.0 as usize),
-            CellName::StartMin(x) => list_at(&self.by_interval, x.0 as usize),
-            CellName::StartMax(x) => list_at(&self.by_interval, x.0 as usize),
-            CellName::EndMin(x) => list_at(&self.by_interval, x.0 as usize),
-            CellName::EndMax(x) => list_at(&self.by_interval, x.0 as usize),
+            CellName::Presence(x) => list_at(&self.by_presence, x.0 as usize),
+            CellName::StartMin(x) => list_at(&self.by_bound, x.0 as usize),
+            CellName::StartMax(x) => list_at(&self.by_bound, x.0 as usize),
+            CellName::EndMin(x) => list_at(&self.by_bound, x.0 as usize),
+            CellName::EndMax(x) => list_at(&self.by_bound, x.0 as usize),
             CellName::Order(p, _, _) => list_at(&self.by_sequence, p.0 as usize),
         }
     }

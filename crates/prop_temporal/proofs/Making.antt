@@ -1,7 +1,6 @@
 -- The parts of a table, one after the other.
-use Rattle.std.specs.Prelude.{◌≡◌, ℕ, zero, suc, ◌+◌, ◌<◌, Bool, true, false, ◌&&◌, ◌||◌, nat_lt, nat_eq, List, [], ◌∷◌, ◌++◌, length, Some, slice_get}
+use Rattle.std.specs.Prelude.{◌≡◌, ℕ, ◌+◌, ◌<◌, Bool, true, false, ◌&&◌, ◌||◌, nat_lt, nat_eq, List, [], ◌∷◌, ◌++◌, length, Some, slice_get}
 use Rattle.std.proofs.Common.{◌≢◌, refl, sym, ap, subst, ◌∙◌, arith, get_or, inl, inr}
-use Rattle.std.proofs.Math.Seq.{get_or-append_seam}
 use Rattle.std.proofs.lemmas.Bool.{cases_eq}
 use Rattle.std.proofs.lemmas.Bool.Decides.{nat_tests}
 use Rattle.std.proofs.lemmas.List.{get_or_append_left, length_push}
@@ -15,9 +14,7 @@ use Rattle.sched_model.specs.Data.{same, has}
 use Rattle.refute_basic.specs.laws.Arc.{ends_of}
 use Rattle.prop_temporal.specs.Tables.{FitEach, AreOptional, ends_at}
 use Rattle.prop_temporal.specs.Tasks.{is_optional}
-
-newest : {X : Type 0} (n : ℕ) (xs : List X) (x d : X) → n ≡ length xs → get_or (xs ++ x ∷ []) n d ≡ x
-newest n xs x d is = ap (λ k. get_or (xs ++ x ∷ []) k d) is ∙ get_or-append_seam xs x [] d
+use Rattle.base_laws.specs.laws.Places.{newest, there}
 
 -- the optional intervals among the first
 pub optional_none : (ds : List IntervalDef) → AreOptional ds 0 []
@@ -114,16 +111,11 @@ pub record FitBelow (n : ℕ) (cs : List Constraint) (es : List (List Itv)) : Ty
 pub fit_none : (cs : List Constraint) → FitBelow 0 cs []
 fit_none cs = record { size = refl; each = λ c below. absurd (omega (arith, below)) }
 
-there : (cs : List Constraint) (n : ℕ) (c : Constraint) → n < length cs → c ≡ get_or cs n c → slice_get cs n ≡ Some c
-there [] n c h at = absurd (omega (arith, h))
-there (d ∷ ds) zero c h at = ap Some (sym at)
-there (d ∷ ds) (suc n) c h at = there ds n c (omega (arith, h)) at
-
 pub fit_more : (n : ℕ) (cs : List Constraint) (es : List (List Itv)) (c : Constraint) (e : List Itv) → FitBelow n cs es → n < length cs → c ≡ get_or cs n c → e ≡ ends_of (Some c) → FitBelow (n + 1) cs (es ++ e ∷ [])
 fit_more n cs es c e so_far within at fits = record {
   size = length_push es e ∙ ap (λ k. k + 1) so_far.size;
   each = λ i below. elim (cases_eq i n) [
-    | inl last ↦ ap (λ k. ends_at (es ++ e ∷ []) k) last ∙ newest n es e [] (sym so_far.size) ∙ fits ∙ ap ends_of (sym (there cs n c within at)) ∙ ap (λ k. ends_of (slice_get cs k)) (sym last)
+    | inl last ↦ ap (λ k. ends_at (es ++ e ∷ []) k) last ∙ newest n es e [] (sym so_far.size) ∙ fits ∙ ap ends_of (sym (there cs n c c within at)) ∙ ap (λ k. ends_of (slice_get cs k)) (sym last)
     | inr other ↦ (let apart : i ≢ n = other in let less : i < n = omega (arith, below, apart) in let size = so_far.size in get_or_append_left es (e ∷ []) [] i (omega (arith, less, size)) ∙ so_far.each i less)
   ];
 }

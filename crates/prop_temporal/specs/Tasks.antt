@@ -46,6 +46,12 @@ abbrev pub is_presence : Data → CellName → Bool
 is_presence m (cell.Presence x) = nat_lt x.0 (length m.intervals) && is_optional m.intervals x
 is_presence m _ = false
 
+-- a bound of an interval
+abbrev pub is_bound : CellName → Bool
+is_bound (cell.Presence x) = false
+is_bound (cell.Order p x y) = false
+is_bound _ = true
+
 -- what a propagator watches: 0 presences that are open at the root
 abbrev pub watching : Data → ℕ → CellName → Bool
 watching m zero cell = is_presence m cell

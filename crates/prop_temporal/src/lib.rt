@@ -5,6 +5,7 @@ mod ends;
 mod heights;
 mod shown;
 mod silence;
+mod sources;
 mod table;
 mod touching;
 mod walks;

@@ -76,7 +76,7 @@ fn least_start(c: Bounds) -> i128
     min_difference(start, end, c.pmin)
 }
 
-fn earliest_in(end: End, c: Bounds) -> i128
+pub fn earliest_in(end: End, c: Bounds) -> i128
     ensures value { result ≡ earliest_in end c }
     ensures lower { neg_ℤ (pos (2 ^ 65)) ≤ℤ result }
     ensures upper { result ≤ℤ pos (2 ^ 65) }
@@ -87,7 +87,7 @@ fn earliest_in(end: End, c: Bounds) -> i128
     }
 }
 
-fn latest_in(end: End, c: Bounds) -> i128
+pub fn latest_in(end: End, c: Bounds) -> i128
     ensures value { result ≡ latest_in end c }
     ensures lower { neg_ℤ (pos (2 ^ 65)) ≤ℤ result }
     ensures upper { result ≤ℤ pos (2 ^ 65) }
@@ -157,7 +157,7 @@ fn is_in_time(c: Bounds, from: End, d: Bounds, to: End, z: i64) -> bool
 }
 
 /// The distance backwards, where it is a number of 64 bits.
-fn minus(z: i64) -> Option<i64>
+pub fn minus(z: i64) -> Option<i64>
     ensures { IfSome result (λ n. n ≡ pos 0 -ℤ z) }
 {
     if z == i64::MIN {

@@ -1,15 +1,16 @@
 //! The propagators of a model.
-ghost use Rattle.std.specs.Prelude.{◌≡◌, ◌<◌, ◌^◌, ◌∷◌, [], ℕ, length, map, Some, IsTrue, IfOk, IfNone, IfSome};
+ghost use Rattle.std.specs.Prelude.{◌≡◌, ◌<◌, ◌^◌, ◌∷◌, [], ℕ, length, map, true, false, Some, IfOk, IfNone, IfSome};
 ghost use Rattle.sched_model.specs.Data.{Data, has};
 ghost use Rattle.region.specs.declared.types.CellName.{CellName as CellNames};
 ghost use Rattle.region.specs.Looks.{IsRegionOf};
 ghost use Rattle.findings.specs.Found.{IsFinding};
 ghost use Rattle.refute_basic.specs.Basic.{refutes};
 ghost use Rattle.refute_basic.specs.laws.Arc.{ends_of};
-ghost use Rattle.prop_temporal.specs.Tasks.{size_of, quiet, watching, watching_best, is_cell_of, is_presence};
+ghost use Rattle.prop_temporal.specs.Tasks.{size_of, quiet, watching, watching_best, is_cell_of, is_bound, is_presence};
 ghost use Rattle.prop_temporal.specs.Tables.{FitEach, AreOptional, IsFor};
 
 use crate::ends::ask_constraint;
+use crate::sources::Sources;
 use crate::touching::touching_of;
 use crate::walks::Walks;
 use findings::Finding;
@@ -26,6 +27,7 @@ pub struct PropTemporal {
     optionals: Vec<Itv>,
     ends: Vec<List<Itv>>,
     touching: Vec<List<u32>>,
+    sources: Sources,
     walks: Walks,
 }
 
@@ -116,10 +118,12 @@ impl PropTemporal {
         let optionals = optional_intervals(alloc, model.intervals())?;
         let ends = ends_of_all(alloc, model.constraints())?;
         let touching = touching_of(alloc, model, &ends)?;
+        let sources = Sources::new(alloc, model)?;
         Ok(PropTemporal {
             optionals,
             ends,
             touching,
+            sources,
             walks: Walks::new(alloc),
         })
     }
@@ -131,7 +135,7 @@ impl PropTemporal {
         1 + self.ends.len() as u32
     }
 
-    /// What one of them finds; nothing exactly where it is quiet.
+    /// What one of them finds, or another one from which it follows; nothing exactly where it is quiet.
     pub fn next(
         &mut self,
         k: u32,
@@ -152,16 +156,31 @@ impl PropTemporal {
         }
         let c = k - 1;
         let ends = self.ends[c as usize].as_slice();
-        Ok(ask_constraint(model, region, best, c, ends))
+        let Some(found) = ask_constraint(model, region, best, c, ends) else {
+            return Ok(None);
+        };
+        let first = self.sources.first_found(model, region, best, found)?;
+        Ok(Some(first))
     }
 
-    /// The intervals that have a cell which it watches.
-    pub fn watched(&self, k: u32) -> &[Itv]
+    /// The intervals whose presence it watches.
+    pub fn watched_presences(&self, k: u32) -> &[Itv]
         requires { (m : Data) × IsFor self.now m × (k < size_of m) }
-        ensures { (m : Data) → IsFor self.now m → (cell : CellNames) → IsTrue (watching m k cell) → IsTrue (is_cell_of result.now cell) }
+        ensures { (m : Data) → IsFor self.now m → (cell : CellNames) → is_bound cell ≡ false → watching m k cell ≡ is_cell_of result.now cell }
     {
         if k == 0 {
             return &self.optionals;
+        }
+        self.ends[k as usize - 1].as_slice()
+    }
+
+    /// The intervals whose bounds it watches.
+    pub fn watched_bounds(&self, k: u32) -> &[Itv]
+        requires { (m : Data) × IsFor self.now m × (k < size_of m) }
+        ensures { (m : Data) → IsFor self.now m → (cell : CellNames) → is_bound cell ≡ true → watching m k cell ≡ is_cell_of result.now cell }
+    {
+        if k == 0 {
+            return &[];
         }
         self.ends[k as usize - 1].as_slice()
     }

@@ -45,8 +45,13 @@ impl Propagator for FromBasic {
         }))
     }
 
-    #[tactic(auto, using(crate::proofs::Watching::named))]
-    fn watched(&self, k: u32) -> &[Itv] {
+    #[tactic(auto, using(crate::proofs::Watching::presence_named))]
+    fn watched_presences(&self, k: u32) -> &[Itv] {
+        self.0.watched(k)
+    }
+
+    #[tactic(auto, using(crate::proofs::Watching::bound_named))]
+    fn watched_bounds(&self, k: u32) -> &[Itv] {
         self.0.watched(k)
     }
 

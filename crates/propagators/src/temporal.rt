@@ -45,9 +45,14 @@ impl Propagator for FromTemporal {
         }))
     }
 
-    #[tactic(auto, using(crate::proofs::Watching::named))]
-    fn watched(&self, k: u32) -> &[Itv] {
-        self.0.watched(k)
+    #[tactic(auto, using(crate::proofs::Watching::presence_equal))]
+    fn watched_presences(&self, k: u32) -> &[Itv] {
+        self.0.watched_presences(k)
+    }
+
+    #[tactic(auto, using(crate::proofs::Watching::bound_equal))]
+    fn watched_bounds(&self, k: u32) -> &[Itv] {
+        self.0.watched_bounds(k)
     }
 
     #[tactic(auto, using(crate::proofs::Watching::no_orders))]

@@ -1,7 +1,7 @@
 -- What is asked of ARC, and what it reads.
-use Rattle.std.specs.Prelude.{◌≡◌, ℕ, zero, suc, ◌<◌, ◌≤◌, ℤ, Bool, true, false, ◌&&◌, ◌||◌, List, [], ◌∷◌, length, Option, Some, None, slice_get, nat_eq, nat_lt}
+use Rattle.std.specs.Prelude.{◌≡◌, ℕ, ◌<◌, ◌≤◌, ℤ, Bool, true, false, ◌&&◌, ◌||◌, [], ◌∷◌, length, Option, Some, None, slice_get, nat_eq, nat_lt}
 use Rattle.std.proofs.Common.{inl, inr, refl, sym, ap, subst, ◌∙◌, arith}
-use Rattle.std.proofs.lemmas.Bool.{true≢false}
+use Rattle.std.proofs.lemmas.Bool.{true≢false, or_left, or_right}
 use Rattle.std.proofs.lemmas.Bool.Decides.{nat_tests}
 use Rattle.std.proofs.lemmas.List.{get_or_past}
 use Rattle.sched_base.specs.declared.ids.Itv.{Itv}
@@ -21,21 +21,19 @@ use Rattle.region.specs.Guesses.{assumed, topic, with_bounds}
 use Rattle.region.specs.Looks.{Seen, seen_at}
 use Rattle.region.specs.laws.Intervals.{bounds_there}
 use Rattle.region.specs.laws.Lists.{both_true, true_both, length-changed_at}
-use Rattle.region.specs.laws.OneSequence.{same_is, has_cases, has_first, has_later}
-use Rattle.findings.specs.Ends.{is_asked, is_open_end}
+use Rattle.region.specs.laws.OneSequence.{same_is, has_cases}
+use Rattle.findings.specs.Ends.{is_open_end}
 use Rattle.findings.specs.Reads.{LooksOnlyAt, IsUnrefuted, is_among}
 use Rattle.refute_basic.specs.declared.witness.BasicWitness.TheVariants.{Arc}
-use Rattle.refute_basic.specs.Witness.{is_number}
 use Rattle.refute_basic.specs.Arc.{is_too_late, arc_row}
 use Rattle.refute_basic.specs.Basic.{refutes}
 use Rattle.refute_basic.specs.Listed.{asks_size, asks_ends, lists}
 use Rattle.refute_basic.specs.laws.Arc.{ends_of, arc_alike}
 use Rattle.prop_temporal.specs.Tasks.{reads_of, IsSilent}
-
--- what is asked of one list of guesses is asked of another that has them
-asked_more : (p q : Guess → Bool) (r : Region) (guess : Option Guess) → ((g : Guess) → p g ≡ true → q g ≡ true) → is_asked p r guess ≡ true → is_asked q r guess ≡ true
-asked_more p q r None more asked = refl
-asked_more p q r (Some g) more asked = let two = both_true (p g) (is_open_end r g) asked in true_both (q g) (is_open_end r g) (more g two.0) two.1
+use Rattle.base_laws.specs.laws.Truth.{never_both}
+use Rattle.sched_model.specs.laws.Words.{none_past}
+use Rattle.findings.specs.laws.Kept.{asked_more}
+use Rattle.sched_model.specs.Bounds.{is_number}
 
 same_number : (x y : Itv) → nat_eq x.0 y.0 ≡ true → same y x ≡ true
 same_number x y h = grind (arith, nat_tests)
@@ -62,7 +60,7 @@ same_asked x z (claim.EndLe t) said h = same_number z x h
 same_asked x z (claim.EndGe t) said h = same_number z x h
 
 among_two : (a b z : Itv) → (same z a ≡ true → has (a ∷ b ∷ []) z ≡ true) × (same z b ≡ true → has (a ∷ b ∷ []) z ≡ true)
-among_two a b z = (λ h. has_first _ _ h, λ h. has_later _ _ (has_first _ _ h))
+among_two a b z = (λ h. or_left _ _ h, λ h. or_right _ _ (or_left _ _ h))
 
 ends_among : (o : Option Constraint) (t : Topic) → asks_ends o t ≡ true → is_among (ends_of o) [] t ≡ true
 ends_among None t h = absurd (true≢false (sym h))
@@ -134,15 +132,11 @@ never_absent (Some (CumulIn f w lo hi)) r d x h = refl
 never_absent (Some (AlwaysEqual g u v i j)) r d x h = refl
 never_absent (Some (AlwaysNoState g u)) r d x h = refl
 
-nothing_more : (b c : Bool) → c ≡ false → (b && c) ≡ false
-nothing_more true c h = h
-nothing_more false c h = refl
-
 among_asked : (o : Option Constraint) (x : Itv) (c : Claim) → says_absent_claim c ≡ false → is_among (ends_of o) [] (One x c) ≡ true → asks_ends o (One x c) ≡ true
 among_asked None x c said h = absurd (true≢false (sym h))
 among_asked (Some (Temporal from to equal a b z)) x c said h = elim (has_cases (same x a) (same x b || false) h) [
-  | inl first ↦ has_first _ _ (same_asked a x c said first)
-  | inr rest ↦ elim (has_cases (same x b) false rest) [ inl second ↦ has_later _ _ (same_asked b x c said second) | inr none ↦ absurd (true≢false (sym none)) ]
+  | inl first ↦ or_left _ _ (same_asked a x c said first)
+  | inr rest ↦ elim (has_cases (same x b) false rest) [ inl second ↦ or_right _ _ (same_asked b x c said second) | inr none ↦ absurd (true≢false (sym none)) ]
 ]
 among_asked (Some (Logic e)) x c said h = absurd (true≢false (sym h))
 among_asked (Some (Span u parts)) x c said h = absurd (true≢false (sym h))
@@ -166,7 +160,7 @@ arc_unrefuted m r best c d silent (Some g) asked =
     by_claim : (x : Itv) (k : Claim) (b : Bool) → says_absent_claim k ≡ b → topic g ≡ One x k → is_among (reads_of m c).intervals [] (One x k) ≡ true → is_open_end r g ≡ true → refutes m (seen_at r best (Some g)) (Arc c d) ≡ false
     by_claim x k false said is among free = silent (Some g) (true_both (lists m (Arc c d) g) (is_open_end r g) (ap (asks_ends (slice_get m.constraints c)) is ∙ among_asked (slice_get m.constraints c) x k said among) free)
     by_claim x claim.Absent true told is among free =
-        nothing_more (is_number c && is_number d) (arc_row m (seen_at r best (Some g)) c d)
+        never_both (is_number c && is_number d) (arc_row m (seen_at r best (Some g)) c d)
         (ap (λ (t : Topic). passes (is_too_late (assumed t r) d) (slice_get m.constraints c)) is ∙ never_absent (slice_get m.constraints c) r d x among)
     by_claim x claim.Present true told is among free = absurd (true≢false (sym told))
     by_claim x (claim.StartLe t) true told is among free = absurd (true≢false (sym told))
@@ -185,7 +179,7 @@ arc_looks m c d l k of also alike best = ap (λ b. is_number c && is_number d &&
 -- with no other number than 0 and 1 it refutes nothing
 no_way : (r : Region) (d : ℕ) (o : Option Constraint) → (d ≡ 0 → ⊥) → (d ≡ 1 → ⊥) → passes (is_too_late r d) o ≡ false
 no_way r d None first second = refl
-no_way r d (Some (Temporal from to equal a b z)) first second = nothing_more _ _ (neither d equal _ _ first second)
+no_way r d (Some (Temporal from to equal a b z)) first second = never_both _ _ (neither d equal _ _ first second)
   where
     apart : (i j : ℕ) → (i ≡ j → ⊥) → nat_eq i j ≡ false
     apart i j h = grind (arith, nat_tests)
@@ -206,13 +200,8 @@ no_way r d (Some (AlwaysEqual g x v i j)) first second = refl
 no_way r d (Some (AlwaysNoState g x)) first second = refl
 
 pub other_ways : (m : Data) (l : Seen) (c d : ℕ) → (d ≡ 0 → ⊥) → (d ≡ 1 → ⊥) → refutes m l (Arc c d) ≡ false
-other_ways m l c d first second = nothing_more (is_number c && is_number d) (arc_row m l c d) (no_way l.region d (slice_get m.constraints c) first second)
+other_ways m l c d first second = never_both (is_number c && is_number d) (arc_row m l c d) (no_way l.region d (slice_get m.constraints c) first second)
 
 -- nor at a constraint that isn't there
-none_there : {X : Type 0} (test : X → Bool) (xs : List X) (i : ℕ) → length xs ≤ i → passes test (slice_get xs i) ≡ false
-none_there test [] i h = refl
-none_there test (x ∷ xs) zero h = absurd (omega (arith, h))
-none_there test (x ∷ xs) (suc i) h = none_there test xs i (omega (arith, h))
-
 pub arc_past : (m : Data) (l : Seen) (c d : ℕ) → length m.constraints ≤ c → refutes m l (Arc c d) ≡ false
-arc_past m l c d past = nothing_more (is_number c && is_number d) (arc_row m l c d) (none_there (is_too_late l.region d) m.constraints c past)
+arc_past m l c d past = never_both (is_number c && is_number d) (arc_row m l c d) (none_past (is_too_late l.region d) m.constraints c past)

@@ -1,5 +1,5 @@
 -- Arcs are collected one name after another, and what they show.
-use Rattle.std.specs.Prelude.{◌≡◌, ◌⊎◌, ℕ, zero, suc, ◌+◌, ◌*◌, ◌<◌, ◌≤◌, ℤ, pos, ◌+ℤ◌, ◌≤ℤ◌, ◌<ℤ◌, Bool, true, false, ◌&&◌, List, [], ◌∷◌, ◌++◌, length, map, get_or, Option, Some, None, nat_lt, nat_le, int_lt}
+use Rattle.std.specs.Prelude.{◌≡◌, ℕ, zero, suc, ◌+◌, ◌*◌, ◌<◌, ◌≤◌, ℤ, pos, ◌+ℤ◌, ◌≤ℤ◌, ◌<ℤ◌, Bool, true, false, ◌&&◌, List, [], ◌∷◌, ◌++◌, length, map, get_or, Option, Some, None, nat_lt, nat_le, int_lt}
 use Rattle.std.specs.List.{list_all}
 use Rattle.std.proofs.Common.{inl, inr, refl, sym, ap, subst, ◌∙◌, arith}
 use Rattle.std.proofs.lemmas.Int.{ints}
@@ -10,14 +10,14 @@ use Rattle.region.specs.Cells.{Region}
 use Rattle.sched_model.specs.Valid.{IsValid}
 use Rattle.sched_model.specs.laws.Limits.{limits_of}
 use Rattle.region.specs.Looks.{Seen, IsRegionOf}
-use Rattle.findings.specs.laws.Alike.{as_many_bounds}
 use Rattle.region.specs.laws.Lists.{both_true, true_both}
+use Rattle.region.specs.laws.Narrowing.{as_many_bounds}
 use Rattle.refute_basic.specs.declared.edge.Arc.{Arc as Edge}
 use Rattle.cycles.specs.Walks.{no_arc, picked, are_places, total, IsGain, HasHeights}
 use Rattle.cycles.specs.Search.{IsOn}
 use Rattle.refute_basic.specs.declared.arc_name.ArcName.{ArcName}
 use Rattle.refute_basic.specs.declared.witness.BasicWitness.TheVariants.{Cycle}
-use Rattle.refute_basic.specs.Witness.{is_name, is_number, is_valid}
+use Rattle.refute_basic.specs.Witness.{is_name, is_valid}
 use Rattle.refute_basic.specs.Basic.{refutes}
 use Rattle.refute_basic.specs.Cycle.{edge_of}
 use Rattle.refute_basic.specs.Cycle.{closes, cycle_row}
@@ -26,9 +26,8 @@ use Rattle.prop_temporal.specs.Heights.{AllKeep}
 use Rattle.prop_temporal.specs.laws.Walked.{AreOf, AreOf.none, AreOf.one, closes_led}
 use Rattle.prop_temporal.specs.Shown.{Shown, name, no_name, name_at, IsAmong, AreShown, HasTried, Tries, TriesAll, IsOfConstraint, IsOfInterval}
 use Rattle.prop_temporal.specs.laws.Named.{named, tried_all, same_name}
-
-below_or_last : (j k : ℕ) → j < k + 1 → (j < k) ⊎ (j ≡ k)
-below_or_last j k h = grind arith
+use Rattle.base_laws.specs.laws.Numbers.{below_or_last}
+use Rattle.sched_model.specs.Bounds.{is_number}
 
 abbrev pub empty : Shown
 empty = record { names = []; arcs = [] }

@@ -1,5 +1,5 @@
 -- With one interval more, no other arcs are shown than its own, and heights of its two points show that no walk gains.
-use Rattle.std.specs.Prelude.{◌≡◌, ℕ, ◌+◌, ◌*◌, ◌<◌, ℤ, ◌+ℤ◌, ◌≤ℤ◌, Bool, true, false, ◌||◌, List, [], length, get_or, Option, Some, None, option_and_then, slice_get, nat_eq, nat_lt}
+use Rattle.std.specs.Prelude.{◌≡◌, ℕ, ◌+◌, ◌*◌, ◌<◌, ℤ, ◌+ℤ◌, ◌≤ℤ◌, Bool, true, false, List, [], length, get_or, Option, Some, None, option_and_then, slice_get, nat_eq, nat_lt}
 use Rattle.std.proofs.Common.{inl, inr, refl, sym, ap, ◌∙◌, arith}
 use Rattle.std.proofs.lemmas.Bool.{true≢false}
 use Rattle.std.proofs.lemmas.Bool.Decides.{nat_tests}
@@ -19,7 +19,7 @@ use Rattle.region.specs.Guesses.{admits, with_bounds, with_guess}
 use Rattle.region.specs.Looks.{IsRegionOf, seen_at}
 use Rattle.region.specs.laws.Intervals.{bounds_elsewhere}
 use Rattle.region.specs.laws.Lists.{both_true}
-use Rattle.findings.specs.laws.Alike.{as_many_bounds}
+use Rattle.region.specs.laws.Narrowing.{as_many_bounds}
 use Rattle.refute_basic.specs.declared.edge.Arc.{Arc as Edge}
 use Rattle.refute_basic.specs.declared.arc_name.ArcName.{ArcName}
 use Rattle.refute_basic.specs.Cycle.{point, itv, forth, back, longer, shorter, edge_of}
@@ -29,6 +29,7 @@ use Rattle.prop_temporal.specs.Heights.{height_in, height_with, AreTouched, OwnK
 use Rattle.prop_temporal.specs.laws.Named.{named, IsPointOf}
 use Rattle.prop_temporal.specs.laws.Collecting.{lose_refute_none}
 use Rattle.prop_temporal.specs.laws.Quieting.{NoWalk}
+use Rattle.base_laws.specs.laws.Truth.{neither_alone}
 
 abbrev more : Itv → Region → Region
 more x r = with_bounds x as_present r
@@ -36,17 +37,12 @@ more x r = with_bounds x as_present r
 different : (x y : Itv) → same x y ≡ false → y.0 ≡ x.0 → ⊥
 different x y h e = grind (arith, nat_tests)
 
-neither : (p q : Bool) → (p || (q || false)) ≡ false → (p ≡ false) × (q ≡ false)
-neither true q h = absurd (true≢false h)
-neither false true h = absurd (true≢false h)
-neither false false h = (refl, refl)
-
 there_elsewhere : (x y : Itv) (r : Region) → (y.0 ≡ x.0 → ⊥) → is_there (more x r) y ≡ is_there r y
 there_elsewhere x y r off = ap (λ (c : Bounds). says_present c.presence) (bounds_elsewhere x y as_present r off)
 
 forth_elsewhere : (x : Itv) (r : Region) (c : Constraint) → has (ends_of (Some c)) x ≡ false → forth (more x r) c ≡ forth r c
 forth_elsewhere x r (Temporal from to equal a b z) h =
-    let two = neither (same x a) (same x b) h in
+    let two = neither_alone (same x a) (same x b) h in
     rw (there_elsewhere x a r (different x a two.0), there_elsewhere x b r (different x b two.1)) refl
 forth_elsewhere x r (Logic e) h = refl
 forth_elsewhere x r (Span u parts) h = refl
@@ -63,7 +59,7 @@ forth_elsewhere x r (AlwaysNoState g u) h = refl
 
 back_elsewhere : (x : Itv) (r : Region) (c : Constraint) → has (ends_of (Some c)) x ≡ false → back (more x r) c ≡ back r c
 back_elsewhere x r (Temporal from to equal a b z) h =
-    let two = neither (same x a) (same x b) h in
+    let two = neither_alone (same x a) (same x b) h in
     rw (there_elsewhere x a r (different x a two.0), there_elsewhere x b r (different x b two.1)) refl
 back_elsewhere x r (Logic e) h = refl
 back_elsewhere x r (Span u parts) h = refl

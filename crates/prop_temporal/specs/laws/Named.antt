@@ -1,5 +1,5 @@
 -- Which names can be those of arcs that a region shows, and between which points these lie.
-use Rattle.std.specs.Prelude.{◌≡◌, ◌⊎◌, ℕ, zero, suc, ◌*◌, ◌<◌, ℤ, pos, ◌-ℤ◌, Bool, true, false, ◌&&◌, List, [], ◌∷◌, length, Option, Some, None, option_and_then, slice_get, if◌then◌else◌, nat_eq}
+use Rattle.std.specs.Prelude.{◌≡◌, ◌⊎◌, ℕ, zero, suc, ◌*◌, ◌<◌, ℤ, pos, ◌-ℤ◌, Bool, true, false, ◌&&◌, List, [], ◌∷◌, length, Option, Some, option_and_then, slice_get, if◌then◌else◌, nat_eq}
 use Rattle.std.proofs.Common.{inl, inr, refl, sym, ap, subst, ◌∙◌, arith}
 use Rattle.std.proofs.lemmas.Bool.Decides.{nat_tests}
 use Rattle.sched_base.specs.declared.ids.Itv.{Itv}
@@ -13,8 +13,9 @@ use Rattle.region.specs.laws.Lists.{both_true}
 use Rattle.refute_basic.specs.declared.edge.Arc.{Arc as Edge}
 use Rattle.refute_basic.specs.declared.arc_name.ArcName.{ArcName}
 use Rattle.refute_basic.specs.Cycle.{point, edge, edge_if, itv, forth, back, edge_of}
-use Rattle.refute_basic.specs.laws.There.{there_within}
+use Rattle.region.specs.laws.Present.{there_within}
 use Rattle.prop_temporal.specs.Shown.{name, IsTried}
+use Rattle.refute_basic.specs.laws.Cycle.{no_edge, chosen}
 
 -- a point of an interval that is present
 pub record IsPointOf (r : Region) (p : ℕ) : Type 0 where
@@ -45,16 +46,6 @@ either {Z = Z} a k x y e f g h = by_case (nat_eq a k) refl h
     by_case : (b : Bool) → nat_eq a k ≡ b → (if b then x else y) ≡ Some e → Z
     by_case true is h = f (grind (arith, nat_tests)) h
     by_case false is h = g h
-
-no_edge : {Z : Type 0} (e : Edge) → None ≡ Some e → Z
-no_edge e h = cc
-
-chosen : (b : Bool) (e d : Edge) → edge_if b e ≡ Some d → (b ≡ true) × (d ≡ e)
-chosen true e d h = (refl, sym (inner e d h))
-  where
-    inner : (e d : Edge) → Some e ≡ Some d → e ≡ d
-    inner e d h = cc
-chosen false e d h = cc
 
 ends_of : (r : Region) (from to : End) (x y : Itv) (z : ℤ) (e : Edge) → is_there r x ≡ true → is_there r y ≡ true → e ≡ edge from x z to y → HasEnds r e
 ends_of r from to x y z e hx hy is = record {

@@ -1,5 +1,5 @@
 -- The arcs of one interval are collected, and heights are tested along them.
-use Rattle.std.specs.Prelude.{◌≡◌, ◌⊎◌, ℕ, suc, ◌+◌, ◌<◌, ◌≤◌, ℤ, ◌+ℤ◌, ◌≤ℤ◌, true, false, List, [], length, get_or, Some, nat_eq, int_lt}
+use Rattle.std.specs.Prelude.{◌≡◌, ℕ, suc, ◌+◌, ◌<◌, ◌≤◌, ℤ, ◌+ℤ◌, ◌≤ℤ◌, true, false, List, [], length, get_or, Some, nat_eq, int_lt}
 use Rattle.std.specs.List.{list_any}
 use Rattle.std.proofs.Common.{inl, inr, sym, subst, arith, take}
 use Rattle.std.proofs.lemmas.Bool.{true≢false}
@@ -15,6 +15,7 @@ use Rattle.refute_basic.specs.Cycle.{edge_of}
 use Rattle.findings.specs.laws.Members.{any_more}
 use Rattle.prop_temporal.specs.Shown.{Shown, IsAmong, TriesAll, IsOfConstraint, IsOfInterval}
 use Rattle.prop_temporal.specs.Heights.{height_with, AllKeep, IsOwn, OwnKeep}
+use Rattle.base_laws.specs.laws.Numbers.{below_or_last}
 
 -- the arcs of these constraints are among those that are collected
 abbrev pub HasOf : Data → Region → List ℕ → Shown → Type 0
@@ -57,9 +58,6 @@ pub of_all : (m : Data) (r : Region) (cs : List ℕ) (k : ℕ) (s : Shown) → l
 of_all m r cs k s past has = subst (λ (xs : List ℕ). HasOf m r xs s) (take_all k cs past) has
 
 -- one arc more along which the height falls
-below_or_last : (j k : ℕ) → j < k + 1 → (j < k) ⊎ (j ≡ k)
-below_or_last j k h = grind arith
-
 pub keep_next : (h : ℕ → ℤ) (arcs : List Edge) (k : ℕ) → ((j : ℕ) → j < k → ((arc_at arcs j).weight +ℤ h (arc_at arcs j).head) ≤ℤ h (arc_at arcs j).tail)
     → int_lt (h (arc_at arcs k).tail) ((arc_at arcs k).weight +ℤ h (arc_at arcs k).head) ≡ false → (j : ℕ) → j < k + 1 → ((arc_at arcs j).weight +ℤ h (arc_at arcs j).head) ≤ℤ h (arc_at arcs j).tail
 keep_next h arcs k before on_time j less = elim (below_or_last j k less) [

@@ -1,5 +1,5 @@
 -- Quiet for each walk: with no guess, and where each free interval is present.
-use Rattle.std.specs.Prelude.{◌≡◌, ◌⊎◌, ℕ, ◌+◌, ◌<◌, ◌≤◌, ℤ, true, false, IsTrue, List, length, Option, Some, None, nat_eq, nat_lt}
+use Rattle.std.specs.Prelude.{◌≡◌, ℕ, ◌+◌, ◌<◌, ◌≤◌, ℤ, true, false, IsTrue, List, length, Option, Some, None, nat_eq, nat_lt}
 use Rattle.std.proofs.Common.{inl, inr, refl, sym, subst, ◌∙◌, arith}
 use Rattle.std.proofs.lemmas.Bool.Decides.{nat_tests}
 use Rattle.std.proofs.lemmas.Bool.{true≢false}
@@ -18,6 +18,7 @@ use Rattle.refute_basic.specs.declared.witness.BasicWitness.TheVariants.{Size, A
 use Rattle.refute_basic.specs.Basic.{refutes}
 use Rattle.refute_basic.specs.Listed.{lists, asks_presence}
 use Rattle.prop_temporal.specs.Tasks.{quiet, looks_after}
+use Rattle.base_laws.specs.laws.Numbers.{below_or_last}
 
 abbrev pub present_at : ℕ → Guess
 present_at n = Present (record { 0 = n })
@@ -28,9 +29,6 @@ NoWalk m r best o = (is : List ArcName) → refutes m (seen_at r best o) (Cycle 
 pub record AreQuietBelow (m : Data) (r : Region) (best : Option ℤ) (n : ℕ) : Type 0 where
   pub plain : NoWalk m r best None
   pub each : (k : ℕ) → k < n → admits r (present_at k) ≡ true → NoWalk m r best (Some (present_at k))
-
-below_or_last : (j k : ℕ) → j < k + 1 → (j < k) ⊎ (j ≡ k)
-below_or_last j k h = grind arith
 
 pub quiet_first : (m : Data) (r : Region) (best : Option ℤ) → NoWalk m r best None → AreQuietBelow m r best 0
 quiet_first m r best plain = record { plain = plain; each = λ k less. absurd (omega (arith, less)) }

@@ -27,13 +27,15 @@ use Rattle.region.specs.laws.OneSequence.{same_is, has_cases}
 use Rattle.findings.specs.Ends.{is_open_end, is_end, is_end_at}
 use Rattle.findings.specs.Reads.{is_among}
 use Rattle.refute_basic.specs.declared.witness.BasicWitness.TheVariants.{Arc}
-use Rattle.refute_basic.specs.Witness.{is_number}
 use Rattle.refute_basic.specs.Arc.{is_too_late, earliest, latest}
 use Rattle.refute_basic.specs.Listed.{lists}
 use Rattle.refute_basic.specs.laws.Arc.{ends_of}
 use Rattle.prop_temporal.specs.Tasks.{IsSilent}
 use Rattle.prop_temporal.specs.Silence.{earliest_in, latest_in, highest_in, lowest_in, is_in_time, is_silent_way}
 use Rattle.prop_temporal.specs.laws.Arcs.{asks_among}
+use Rattle.base_laws.specs.laws.Truth.{never_both}
+use Rattle.base_laws.specs.laws.Numbers.{differs}
+use Rattle.sched_model.specs.Bounds.{is_number}
 
 -- the numbers under a guess at the end of a cell
 least_latest : (end : End) (k : Claim) (c : Bounds) → is_end_at k c ≡ true → lowest_in end c ≤ℤ latest_in end (guessed k c)
@@ -252,16 +254,12 @@ plain_silent r d (Some (CumulIn f w lo hi)) h = refl
 plain_silent r d (Some (AlwaysEqual g u v i j)) h = refl
 plain_silent r d (Some (AlwaysNoState g u)) h = refl
 
-nothing_more : (b c : Bool) → c ≡ false → (b && c) ≡ false
-nothing_more true c h = h
-nothing_more false c h = refl
-
 pub surely_silent : (m : Data) (r : Region) (best : Option ℤ) (c d : ℕ) → passes (is_silent_way r d) (slice_get m.constraints c) ≡ true → IsSilent m r best (Arc c d)
-surely_silent m r best c d h None asked = nothing_more (is_number c && is_number d) _ (plain_silent r d (slice_get m.constraints c) h)
+surely_silent m r best c d h None asked = never_both (is_number c && is_number d) _ (plain_silent r d (slice_get m.constraints c) h)
 surely_silent m r best c d h (Some g) asked =
     let two = both_true (lists m (Arc c d) g) (is_open_end r g) asked in
     let free = both_true (admits r g) (is_end r (topic g)) two.1 in
-    nothing_more (is_number c && is_number d) _ (guess_silent r d (slice_get m.constraints c) (topic g) h (asks_among m c d g two.0) (inside (topic g) free.0) free.1)
+    never_both (is_number c && is_number d) _ (guess_silent r d (slice_get m.constraints c) (topic g) h (asks_among m c d g two.0) (inside (topic g) free.0) free.1)
   where
     inside : (t : Topic) → admits_topic r t ≡ true → is_inside r t ≡ true
     inside (One x k) e = (both_true (nat_lt x.0 (length r.bounds)) _ e).0
@@ -274,14 +272,11 @@ other a b h = grind (arith, nat_tests)
 is_number_at : (d k : ℕ) → d ≡ k → nat_eq d k ≡ true
 is_number_at d k h = grind (arith, nat_tests)
 
-not_number_at : (d k : ℕ) → (d ≡ k → ⊥) → nat_eq d k ≡ false
-not_number_at d k h = grind (arith, nat_tests)
-
 pub forth_told : (r : Region) (d : ℕ) (from to : End) (equal : Bool) (a b : Itv) (z : ℤ) → d ≡ 0 → (a.0 ≡ b.0 → ⊥) → is_in_time (bounds_of r a) from (bounds_of r b) to z ≡ true → is_silent_way r d (Temporal from to equal a b z) ≡ true
 forth_told r d from to equal a b z way off k = rw (is_number_at d 0 way, other a b off) k
 
 pub back_told : (r : Region) (d : ℕ) (from to : End) (equal : Bool) (a b : Itv) (z : ℤ) → d ≡ 1 → (a.0 ≡ b.0 → ⊥) → (not equal || is_in_time (bounds_of r b) to (bounds_of r a) from (pos 0 -ℤ z)) ≡ true → is_silent_way r d (Temporal from to equal a b z) ≡ true
-back_told r d from to equal a b z way off k = rw (is_number_at d 1 way, not_number_at d 0 (λ e. absurd (omega (arith, e, way))), other a b off) k
+back_told r d from to equal a b z way off k = rw (is_number_at d 1 way, differs d 0 (λ e. absurd (omega (arith, e, way))), other a b off) k
 
 -- the steps of the test
 pub here : (p x y : Bool) → p ≡ true → y ≡ x → y ≡ (not p || x)

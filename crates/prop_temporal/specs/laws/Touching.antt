@@ -2,27 +2,28 @@
 use Rattle.std.specs.Prelude.{◌≡◌, ◌⊎◌, ℕ, zero, suc, ◌+◌, ◌<◌, ◌≤◌, Bool, true, false, List, [], ◌∷◌, ◌++◌, length, get_or, slice_set, slice_get, None, nat_eq, nat_lt}
 use Rattle.std.specs.List.{list_any}
 use Rattle.std.proofs.Common.{inl, inr, refl, sym, ap, subst, ◌∙◌, arith, take}
-use Rattle.std.proofs.lemmas.Bool.{true≢false}
+use Rattle.std.proofs.lemmas.Bool.{true≢false, or_left, or_right}
 use Rattle.std.proofs.lemmas.Bool.Decides.{nat_tests}
 use Rattle.std.proofs.lemmas.List.{get_or-set_same, get_or-set_other, length-set}
 use Rattle.sched_base.specs.declared.ids.Itv.{Itv}
 use Rattle.sched_model.specs.Data.{Data, has, same}
-use Rattle.region.specs.laws.OneSequence.{same_is, has_cases, has_first, has_later}
+use Rattle.region.specs.laws.OneSequence.{same_is, has_cases}
 use Rattle.findings.specs.laws.Members.{any_more}
 use Rattle.refute_basic.specs.laws.Arc.{ends_of}
 use Rattle.prop_temporal.specs.Heights.{is_touched, AreTouched}
 use Rattle.prop_temporal.specs.Touches.{Touches, AreTouchedBy}
+use Rattle.base_laws.specs.laws.Numbers.{below_or_last}
 
 any_before : (c : ℕ) (xs : List ℕ) (d : ℕ) → list_any (λ k. nat_eq c k) xs ≡ true → list_any (λ k. nat_eq c k) (xs ++ d ∷ []) ≡ true
 any_before c [] d h = absurd (true≢false (sym h))
-any_before c (x ∷ xs) d h = elim (has_cases (nat_eq c x) (list_any (λ k. nat_eq c k) xs) h) [ inl e ↦ has_first _ _ e | inr e ↦ has_later _ _ (any_before c xs d e) ]
+any_before c (x ∷ xs) d h = elim (has_cases (nat_eq c x) (list_any (λ k. nat_eq c k) xs) h) [ inl e ↦ or_left _ _ e | inr e ↦ or_right _ _ (any_before c xs d e) ]
 
 any_last : (xs : List ℕ) (c : ℕ) → list_any (λ k. nat_eq c k) (xs ++ c ∷ []) ≡ true
-any_last [] c = has_first _ _ (itself c)
+any_last [] c = or_left _ _ (itself c)
   where
     itself : (n : ℕ) → nat_eq n n ≡ true
     itself n = grind (arith, nat_tests)
-any_last (x ∷ xs) c = has_later _ _ (any_last xs c)
+any_last (x ∷ xs) c = or_right _ _ (any_last xs c)
 
 same_or_not : (i j : ℕ) → (i ≡ j) ⊎ (i ≡ j → ⊥)
 same_or_not i j = by_case (nat_eq i j) refl
@@ -73,9 +74,6 @@ touches_past old ts ends k x c within at outside t = record {
 
 pub touched_none : (m : Data) (ts : List (List ℕ)) → length ts ≡ length m.intervals → AreTouchedBy m 0 ts
 touched_none m ts size = record { size = size; each = λ x c below. absurd (omega (arith, below)) }
-
-below_or_last : (j k : ℕ) → j < k + 1 → (j < k) ⊎ (j ≡ k)
-below_or_last j k h = grind arith
 
 pub touched_more : (m : Data) (n : ℕ) (old new : List (List ℕ)) (ends : List Itv) → ends ≡ ends_of (slice_get m.constraints n) → Touches old new ends n → AreTouchedBy m n old → AreTouchedBy m (n + 1) new
 touched_more m n old new ends is t before = record {

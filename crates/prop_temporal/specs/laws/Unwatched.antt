@@ -21,9 +21,8 @@ use Rattle.region.specs.Guesses.{SameCell, admits, with_guess, topic}
 use Rattle.region.specs.Looks.{IsRegionOf, is_narrowed, seen_at}
 use Rattle.region.specs.laws.Intervals.{bounds_there, bounds_elsewhere, ready_present}
 use Rattle.region.specs.laws.Lists.{both_true, true_both, placewise-at}
-use Rattle.region.specs.laws.Narrowing.{guess_stays}
+use Rattle.region.specs.laws.Narrowing.{guess_stays, as_many_bounds}
 use Rattle.findings.specs.Reads.{LooksOnlyAt, is_among, reads_cell}
-use Rattle.findings.specs.laws.Alike.{as_many_bounds}
 use Rattle.findings.specs.laws.Kept.{quiet_kept}
 use Rattle.refute_basic.specs.declared.witness.BasicWitness.{BasicWitness}
 use Rattle.refute_basic.specs.declared.witness.BasicWitness.TheVariants.{Cycle}

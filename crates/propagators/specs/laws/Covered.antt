@@ -15,7 +15,7 @@ use Rattle.refute_basic.specs.declared.witness.BasicWitness.TheVariants.{Size, A
 use Rattle.refute_basic.specs.Basic.{refutes}
 use Rattle.refute_basic.specs.Listed.{lists, is_derived as is_derived_basic}
 use Rattle.kernel.specs.declared.types.Witness.{Witness}
-use Rattle.kernel.specs.declared.types.Witness.TheVariants.{Basic, Hier, Extra}
+use Rattle.kernel.specs.declared.types.Witness.TheVariants.{Basic, Hier, Seq, Extra}
 use Rattle.kernel.specs.declared.no_extra.NoWitness.{NoWitness}
 use Rattle.engine.specs.Pairs.{chosen}
 use Rattle.engine.specs.Plain.{refutes_plain}
@@ -87,6 +87,7 @@ all_unrefuted : (m : Data) (r : Region) (best : Option ℤ) → IsRegionOf m r �
 all_unrefuted m r best of all (Basic w) guess derived asked = basic_unrefuted m r best of all w guess derived asked
 all_unrefuted m r best of all (Hier w) guess derived asked =
     unrefuted_by refutes_hier lists_hier looks_after_hier (size_of_hier m) m r best of all.hier w (λ l stays none. unowned_hier m l w stays refl none) guess asked
+all_unrefuted m r best of all (Seq w) guess derived asked = cc
 all_unrefuted m r best of all (Extra w) guess derived asked = refl
 
 pub covered : (m : Data) (r : Region) (best : Option ℤ) → IsRegionOf m r → AllQuiet m r best → IsQuietRegion m r best
