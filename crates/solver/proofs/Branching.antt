@@ -16,14 +16,15 @@ use Rattle.region.specs.declared.types.Guess.TheVariants.{Present, StartLe, EndL
 use Rattle.region.specs.declared.types.Claim.{Claim}
 use Rattle.region.specs.declared.types.Claim.TheVariants as claim
 use Rattle.region.specs.declared.types.Topic.TheVariants.{One}
+use Rattle.region.specs.declared.types.Presence.{Presence}
 use Rattle.region.specs.declared.types.Presence.TheVariants as presence
-use Rattle.region.specs.Cells.{Region, unknown, bounds_of, is_fixed, says_present}
+use Rattle.region.specs.Cells.{Region, unknown, bounds_of, is_fixed, says_present, says_maybe}
 use Rattle.region.specs.Claims.{is_open_at, is_ready_at}
 use Rattle.region.specs.Guesses.{admits_topic, is_ready}
 use Rattle.region.specs.Looks.{IsRegionOf, is_narrowed}
 use Rattle.region.specs.laws.Lists.{both_true, true_both}
 use Rattle.solver.specs.Cuts.{IsMiddle}
-use Rattle.solver.specs.Searching.{Cuts, CutsRegion, is_ordered}
+use Rattle.solver.specs.Searching.{Cuts, CutsRegion, is_ordered, is_open_presence}
 
 -- half, rounded down
 half_below : (z : ℤ) → (int_div_euclid z (pos 2) +ℤ int_div_euclid z (pos 2)) ≤ℤ z
@@ -117,3 +118,18 @@ ordered_at m r x of within = all_ordered m.intervals r.bounds x.0 of.bounds with
 -- a cut of an interval of the region splits it, and cuts it so
 pub cut_region : (r : Region) (x : Itv) (c : Bounds) (g : Guess) → x.0 < length r.bounds → c ≡ bounds_of r x → Cuts x c g → CutsRegion r g
 cut_region r x c g within same cuts = record { splits_it = cuts.splits_it r within (sym same); cuts_it = cuts.cuts_it r (sym same) }
+
+-- a presence that is open is cut
+pub open_cut : (r : Region) (x : Itv) → is_open_presence r x ≡ true → CutsRegion r (Present x)
+open_cut r x h = by_presence (both_true (nat_lt x.0 (length r.bounds)) (says_maybe (bounds_of r x).presence) h)
+  where
+    maybe_is : (p : Presence) → says_maybe p ≡ true → p ≡ presence.Maybe
+    maybe_is presence.Absent h = cc
+    maybe_is presence.Present h = cc
+    maybe_is presence.Maybe h = refl
+
+    below : (n k : ℕ) → nat_lt n k ≡ true → n < k
+    below n k h = grind (arith, nat_tests)
+
+    by_presence : (nat_lt x.0 (length r.bounds) ≡ true) × (says_maybe (bounds_of r x).presence ≡ true) → CutsRegion r (Present x)
+    by_presence h = cut_region r x (bounds_of r x) (Present x) (below x.0 (length r.bounds) h.0) refl (cuts_presence x (bounds_of r x) (maybe_is (bounds_of r x).presence h.1))

@@ -21,7 +21,8 @@ use Rattle.kernel.specs.declared.types.Found.{Found}
 use Rattle.kernel.specs.declared.types.StepFault.{StepFault}
 use Rattle.kernel.specs.declared.types.StepFault.TheVariants.{NotRefuted, NotSplitting, NotSolution}
 use Rattle.kernel.specs.Agenda.{first_in}
-use Rattle.kernel.specs.Steps.{LogState, Node, Outcome, Steps, done, more, step, step_at, step_on, taken, node_of, unless, closed, best_of, is_wanted, found_in, left_after}
+use Rattle.kernel.specs.Steps.{LogState, Node, Steps, done, more, step, step_at, step_on, taken, node_of, unless, closed, best_of, is_wanted, found_in, left_after}
+use Rattle.kernel.specs.laws.Outcomes.{same_ok}
 use Rattle.logtext.specs.Logs.{PlainLine}
 use Rattle.engine.specs.Plain.{refutes_plain}
 use Rattle.solver.specs.Cuts.{plain_step}
@@ -33,9 +34,6 @@ use Rattle.solver.specs.Searching.{Closes, HasValue}
 pub steps_on : {W : Type 0} {refutes : Refuting (Witness W)} {m : Data} {s t u : LogState} {xs ys : List (Line W)} → Steps refutes m s xs t → Steps refutes m t ys u → Steps refutes m s (xs ++ ys) u
 steps_on done rest = rest
 steps_on (more first others) rest = more first (steps_on others rest)
-
-same_ok : (s t : LogState) → ◌≡◌ {A = Outcome} (Ok s) (Ok t) → s ≡ t
-same_ok s t h = cc
 
 pub splits_on : (m : Data) (n : ℕ) {s t : LogState} {xs : List PlainLine} (ys : List PlainLine) → Steps refutes_plain m s xs t → SplitFrom m n s xs → SplitFrom m (derived_in n xs) t ys → SplitFrom m n s (xs ++ ys)
 splits_on m n ys done first rest = rest

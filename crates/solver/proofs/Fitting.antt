@@ -29,17 +29,21 @@ use Rattle.refute_basic.specs.declared.witness.BasicWitness.{BasicWitness}
 use Rattle.refute_basic.specs.declared.witness.BasicWitness.TheVariants.{Size, Arc, Cycle, Expr, Obj, Leaf}
 use Rattle.refute_basic.specs.laws.Spelling.{refuting_valid}
 use Rattle.refute_basic.specs.declared.arc_name.ArcName.{ArcName}
-use Rattle.refute_basic.specs.Witness.{name_numbers, is_valid as is_valid_basic, is_number, is_name}
+use Rattle.refute_basic.specs.Witness.{name_numbers, is_valid as is_valid_basic, is_name}
 use Rattle.refute_basic.specs.Basic.{refutes, row_of}
 use Rattle.refute_basic.specs.Cycle.{closes}
 use Rattle.refute_hier.specs.declared.witness.HierWitness.{HierWitness}
 use Rattle.refute_hier.specs.declared.witness.HierWitness.TheVariants.{Span, Alt, Sync}
-use Rattle.refute_hier.specs.Witness.{is_number as is_hier_number, is_valid as is_valid_hier}
+use Rattle.refute_hier.specs.Witness.{is_valid as is_valid_hier}
 use Rattle.refute_hier.specs.laws.Spelling.{refuting_valid as hier_valid}
+use Rattle.refute_seq.specs.declared.witness.SeqWitness.{SeqWitness}
+use Rattle.refute_seq.specs.declared.witness.SeqWitness.TheVariants.{Pair, Triple}
+use Rattle.refute_seq.specs.Witness.{is_valid as is_valid_seq}
+use Rattle.refute_seq.specs.laws.Spelling.{refuting_valid as seq_valid}
 use Rattle.solver.specs.Leaves.{empty_for_each, settled_assignment}
 use Rattle.kernel.specs.declared.types.Line.TheVariants.{Derive, Fail, Split, Sol}
 use Rattle.kernel.specs.declared.types.Witness.{Witness}
-use Rattle.kernel.specs.declared.types.Witness.TheVariants.{Basic, Hier, Extra}
+use Rattle.kernel.specs.declared.types.Witness.TheVariants.{Basic, Hier, Seq, Extra}
 use Rattle.kernel.specs.declared.no_extra.NoWitness.{NoWitness}
 use Rattle.kernel.specs.Derives.{IsDerived}
 use Rattle.engine.specs.Plain.{refutes_plain}
@@ -49,6 +53,7 @@ use Rattle.kernel.specs.Fit.{is_count, is_id, is_fit, is_fit_guess, is_fit_slot,
 use Rattle.textline.specs.Lines.{Bytes, line}
 use Rattle.logtext.specs.Spelling.{line_words, guess_words, witness_words, slot_words, order_words, segments_words}
 use Rattle.logtext.specs.Logs.{PlainLine, IsLine}
+use Rattle.sched_model.specs.Bounds.{is_number}
 
 -- words of at most 20 bytes
 abbrev AreShort : List Bytes → Type 0
@@ -119,17 +124,27 @@ witness_short m l (Leaf k u) refuted =
 
 hier_short : (w : HierWitness) → is_valid_hier w ≡ true → AreShort (witness_words numbers_of (Hier w)) × (length (witness_words numbers_of (Hier w)) ≤ 5)
 hier_short (Span c r i) h =
-    let three = both_true (is_hier_number c && is_hier_number r) (is_hier_number i) h in
-    let two = both_true (is_hier_number c) (is_hier_number r) three.0 in
+    let three = both_true (is_number c && is_number r) (is_number i) h in
+    let two = both_true (is_number c) (is_number r) three.0 in
     ((omega arith, (count_short c two.0, (count_short r two.1, (count_short i three.1, tt)))), omega arith)
 hier_short (Alt c r i j) h =
-    let four = both_true (is_hier_number c && is_hier_number r && is_hier_number i) (is_hier_number j) h in
-    let three = both_true (is_hier_number c && is_hier_number r) (is_hier_number i) four.0 in
-    let two = both_true (is_hier_number c) (is_hier_number r) three.0 in
+    let four = both_true (is_number c && is_number r && is_number i) (is_number j) h in
+    let three = both_true (is_number c && is_number r) (is_number i) four.0 in
+    let two = both_true (is_number c) (is_number r) three.0 in
     ((omega arith, (count_short c two.0, (count_short r two.1, (count_short i three.1, (count_short j four.1, tt))))), omega arith)
 hier_short (Sync c i) h =
-    let two = both_true (is_hier_number c) (is_hier_number i) h in
+    let two = both_true (is_number c) (is_number i) h in
     ((omega arith, (count_short c two.0, (count_short i two.1, tt))), omega arith)
+
+four_short : (a b c d : ℕ) → (is_number a && is_number b && is_number c && is_number d) ≡ true → AreShort (decimal a ∷ decimal b ∷ decimal c ∷ decimal d ∷ [])
+four_short a b c d h =
+    let four = both_true (is_number a && is_number b && is_number c) (is_number d) h in
+    let three = both_true (is_number a && is_number b) (is_number c) four.0 in
+    let two = both_true (is_number a) (is_number b) three.0 in (count_short a two.0, (count_short b two.1, (count_short c three.1, (count_short d four.1, tt))))
+
+seq_short : (w : SeqWitness) → is_valid_seq w ≡ true → AreShort (witness_words numbers_of (Seq w)) × (length (witness_words numbers_of (Seq w)) ≤ 5)
+seq_short (Pair c a b k) h = ((omega arith, four_short c a b k h), omega arith)
+seq_short (Triple p x y z) h = ((omega arith, four_short p x y z h), omega arith)
 
 -- a line of few short words
 line_is : (l : PlainLine) → is_fit is_valid l ≡ true → AreShort (line_words numbers_of l) → length (line_words numbers_of l) ≤ 20000 → IsLine numbers_of is_valid l
@@ -152,6 +167,10 @@ fail_line m l (Hier w) h =
     let fit = hier_valid m l w h in
     let words = hier_short w fit in
     line_is (Fail (Hier w)) fit (omega arith, words.0) (omega (arith, words.1))
+fail_line m l (Seq w) h =
+    let fit = seq_valid m l w h in
+    let words = seq_short w fit in
+    line_is (Fail (Seq w)) fit (omega arith, words.0) (omega (arith, words.1))
 fail_line m l (Extra w) h = cc
 
 -- and a line that derives
@@ -172,6 +191,14 @@ derive_line m r best g (Hier w) valid of is =
     line_is (Derive g (Hier w)) (true_both (is_fit_guess g) (is_valid_hier w) admitted fit)
     (omega arith, short_append (guess_words g) (witness_words numbers_of (Hier w)) first.0 second.0)
     (omega (arith, first.1, second.1, length-append (guess_words g) (witness_words numbers_of (Hier w))))
+derive_line m r best g (Seq w) valid of is =
+    let fit = seq_valid m (seen_at r best (Some g)) w is.refuted in
+    let admitted = fit_admitted m r g valid of is.admitted in
+    let first = guess_short g admitted in
+    let second = seq_short w fit in
+    line_is (Derive g (Seq w)) (true_both (is_fit_guess g) (is_valid_seq w) admitted fit)
+    (omega arith, short_append (guess_words g) (witness_words numbers_of (Seq w)) first.0 second.0)
+    (omega (arith, first.1, second.1, length-append (guess_words g) (witness_words numbers_of (Seq w))))
 derive_line m r best g (Extra w) valid of is = cc
 
 -- the slots of a solution are fit, and spelled by few short words

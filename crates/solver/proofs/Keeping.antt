@@ -10,9 +10,8 @@ use Rattle.region.specs.declared.types.Guess.{Guess}
 use Rattle.region.specs.Cells.{Region}
 use Rattle.region.specs.Guesses.{admits, splits, with_guess, with_fact}
 use Rattle.region.specs.Held.{Held, IsHeldOf}
-use Rattle.region.specs.Looks.{IsRegionOf, is_narrowed}
-use Rattle.region.specs.laws.Lists.{placewise-length}
-use Rattle.region.specs.laws.Narrowing.{guess_stays, splitting}
+use Rattle.region.specs.Looks.{IsRegionOf}
+use Rattle.region.specs.laws.Narrowing.{guess_stays, splitting, as_many_bounds}
 use Rattle.kernel.specs.declared.types.Found.{Found}
 use Rattle.kernel.specs.Pending.{ArePending, AreOpen, Takes, after_saved}
 use Rattle.kernel.specs.laws.Pending.{pending_kept}
@@ -28,9 +27,6 @@ use Rattle.solver.proofs.Fixing.{KeepsFixed, holds_part, guess_keeps, fact_keeps
 use Rattle.solver.proofs.Marking.{marked_push, marked_pop, marked_sifted, Popped}
 
 -- as many intervals
-size_of : (m : Data) (r : Region) → IsRegionOf m r → length m.intervals ≡ length r.bounds
-size_of m r of = placewise-length is_narrowed m.intervals r.bounds of.bounds
-
 -- the region was narrowed, and its saves stayed
 pub derived_ready : {P : Type 0} (p : Ghosts P) (m : Data) (s : Search P) (h : Held) (e : EngineValue P) → IsReady p m s → KeepsFixed s.region.region h.region → IsHeldOf m h → h.saved ≡ s.region.saved
     → h.promised ≡ s.region.promised → IsFor p m e → IsCalm p m h.region (best_of s.found) e → (let t : Search P = record s { region = h; engine = e } in IsReady p m t)
@@ -132,7 +128,7 @@ back_to p m s cell new hs ks k takes holding marks =
     record {
       before = saved.1;
       of = record { region = region; saved = saved.0 };
-      size = sym (size_of m new.region region) ∙ size_of m s.region.region holding.of.region;
+      size = sym (as_many_bounds m new.region region) ∙ as_many_bounds m s.region.region holding.of.region;
       keeps = subst (KeepsFixed takes.region) (sym takes.fact) (fact_keeps takes.region takes.guess admitted);
       popped = marked_pop (AreQuiet p m) s.intervals.list new.saved ks takes.region k (subst (AreMarked (AreQuiet p m) s.intervals.list (new.saved ++ takes.region ∷ [])) marks (subst (λ rs. AreMarked (AreQuiet p m) s.intervals.list rs s.marks.items) takes.saved holding.marks));
     }

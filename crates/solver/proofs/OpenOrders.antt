@@ -4,6 +4,7 @@ use Rattle.std.specs.Prelude.{◌||◌, not, nat_lt, nat_eq}
 use Rattle.std.specs.List.{list_all}
 use Rattle.std.proofs.lemmas.Bool.Decides.{nat_tests}
 use Rattle.std.proofs.lemmas.List.{get_or-map}
+use Rattle.std.proofs.lemmas.Bool.{or_right}
 use Rattle.sched_base.specs.declared.ids.Itv.{Itv}
 use Rattle.sched_base.specs.declared.ids.Seq.{Seq}
 use Rattle.sched_model.specs.declared.types.SequenceDef.{SequenceDef}
@@ -68,13 +69,9 @@ later_cuts r p x y later i of within at unsettled = record {
 }
 
 -- the members behind one are others
-or_true : (p q : Bool) → q ≡ true → (p || q) ≡ true
-or_true true q h = refl
-or_true false q h = h
-
 more_have : (m : Itv) (ms ys : List Itv) → list_all (has ms) ys ≡ true → list_all (has (m ∷ ms)) ys ≡ true
 more_have m ms [] h = refl
-more_have m ms (y ∷ ys) h = let two = both_true (has ms y) (list_all (has ms) ys) h in true_both (has (m ∷ ms) y) _ (or_true (same y m) (has ms y) two.0) (more_have m ms ys two.1)
+more_have m ms (y ∷ ys) h = let two = both_true (has ms y) (list_all (has ms) ys) h in true_both (has (m ∷ ms) y) _ (or_right (same y m) (has ms y) two.0) (more_have m ms ys two.1)
 
 same_itself : (x : Itv) → same x x ≡ true
 same_itself x = itself x.0

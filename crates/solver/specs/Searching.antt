@@ -1,5 +1,5 @@
 -- The search under way: what it holds, and what was written so far.
-use Rattle.std.specs.Prelude.{◌≡◌, ◌⊎◌, ℕ, ◌+◌, ◌≤◌, ◌<◌, ℤ, Bool, true, false, not, ◌&&◌, List, [], ◌∷◌, ◌++◌, length, int_le, Option, Some, None, option_map, is_some, IfSome, Result, Ok, Err, IsTrue, All, ⊤}
+use Rattle.std.specs.Prelude.{◌≡◌, ◌⊎◌, ℕ, ◌+◌, ◌≤◌, ◌<◌, ℤ, Bool, true, false, not, ◌&&◌, List, [], ◌∷◌, ◌++◌, length, nat_lt, int_le, Option, Some, None, option_map, is_some, IfSome, Result, Ok, Err, IsTrue, All, ⊤}
 use Rattle.std.specs.List.{list_all}
 use Rattle.sched_base.specs.declared.ids.Itv.{Itv}
 use Rattle.sched_base.specs.declared.ids.Seq.{Seq}
@@ -12,7 +12,7 @@ use Rattle.sched_model.specs.Valid.{are_distinct}
 use Rattle.sched_model.specs.Solution.{objective_of}
 use Rattle.region.specs.declared.types.Bounds.{Bounds}
 use Rattle.region.specs.declared.types.Guess.{Guess}
-use Rattle.region.specs.Cells.{Region, bounds_of, cells_of, is_settled}
+use Rattle.region.specs.Cells.{Region, bounds_of, cells_of, is_settled, says_maybe}
 use Rattle.region.specs.Guesses.{splits}
 use Rattle.region.specs.Looks.{Seen, seen_at}
 use Rattle.region.specs.Held.{IsHeldOf}
@@ -52,6 +52,10 @@ pub record Cuts (x : Itv) (c : Bounds) (g : Guess) : Type 0 where
 pub record CutsRegion (r : Region) (g : Guess) : Type 0 where
   pub splits_it : IsTrue (splits r g)
   pub cuts_it : IsCut r g
+
+-- it isn't known whether the interval is there
+abbrev pub is_open_presence : Region → Itv → Bool
+is_open_presence r x = nat_lt x.0 (length r.bounds) && says_maybe (bounds_of r x).presence
 
 -- another member of a sequence
 abbrev pub is_other : List Itv → Itv → Itv → Bool

@@ -3,6 +3,7 @@
 
 mod answer;
 mod branch;
+mod choices;
 mod fault;
 mod leaf;
 mod log_lines;

@@ -6,6 +6,7 @@ ghost use Rattle.solver.specs.OpenIntervals.{IsOpenList, Sifts, Leaves};
 ghost use Rattle.solver.specs.Searching.{CutsRegion};
 
 use crate::branch::cut;
+use crate::choices::{Choice, choices_of, cut_choice};
 use region::{Guess, Look};
 use sched_base::{Itv, NoMemory};
 use sched_model::Model;
@@ -21,6 +22,7 @@ pub struct OpenIntervals {
     count: usize,
     // The interval that was cut last, so that not all have to be looked at while it is open.
     last: Option<u32>,
+    choices: Vec<Choice>,
 }
 
 impl std::marker::Model for OpenIntervals {
@@ -45,6 +47,7 @@ impl OpenIntervals {
             list,
             count: n,
             last: None,
+            choices: choices_of(alloc, model)?,
         })
     }
 
@@ -73,9 +76,10 @@ impl OpenIntervals {
         self.list.swap(i, self.count);
     }
 
-    /// A guess that cuts what is open of an interval: a presence, if one is open; or else the interval
-    /// that was cut last, while it is open; or else the interval with the greatest least start. None
-    /// where nothing is open.
+    /// A guess that cuts what is open of an interval: a presence, if one is open, and
+    /// before all others that of a part of an alternative that is present; or else the interval that
+    /// was cut last, while it is open; or else the interval with the greatest least start. None where
+    /// nothing is open.
     pub fn choose(&mut self, model: &Model, look: &Look<'_>) -> Option<Guess>
         requires of { IsRegionOf model.now look.now.region }
         requires open { IsOpenList look.now.region self.old }
@@ -87,10 +91,14 @@ impl OpenIntervals {
         if let Some(guess) = self.cut_again(model, look) {
             return Some(guess);
         }
+        if let Some(guess) = cut_choice(look, self.choices.as_slice()) {
+            return Some(guess);
+        }
         self.cut_first(model, look)
     }
 
-    /// A guess that cuts the interval that was cut last.
+    /// A guess that cuts the interval that was cut last. It was cut where no presence was open, and
+    /// none is in a part of such a region.
     fn cut_again(&self, model: &Model, look: &Look<'_>) -> Option<Guess>
         requires { IsRegionOf model.now look.now.region }
         ensures { IfSome result (CutsRegion look.now.region) }

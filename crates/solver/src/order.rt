@@ -19,7 +19,7 @@ fn is_unknown(order: OrderCell) -> bool
     }
 }
 
-fn is_there(look: &Look<'_>, x: Itv) -> bool
+pub fn is_there(look: &Look<'_>, x: Itv) -> bool
     ensures { result ≡ is_there look.now.region x }
 {
     (x.0 as usize) < look.len() && look.presence(x) == Presence::Present

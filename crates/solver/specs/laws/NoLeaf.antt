@@ -28,7 +28,6 @@ use Rattle.region.specs.Looks.{Seen, IsRegionOf, is_narrowed}
 use Rattle.region.specs.laws.Lists.{both_true, true_both, placewise-length}
 use Rattle.region.specs.laws.Narrowing.{as_many}
 use Rattle.refute_basic.specs.declared.witness.BasicWitness.TheVariants.{Leaf}
-use Rattle.refute_basic.specs.Witness.{is_number}
 use Rattle.refute_basic.specs.Served.{is_served_constraint, is_served}
 use Rattle.refute_basic.specs.Leaf.{is_leaf_constraint, settled_alone, has_size, all_sized, fails_at, is_no_better, keeps, leaf_case, leaf_row, PassesLeaf}
 use Rattle.refute_basic.specs.Basic.{refutes}
@@ -38,6 +37,7 @@ use Rattle.refute_hier.specs.declared.witness.HierWitness.{HierWitness}
 use Rattle.refute_hier.specs.Hier.{refutes as hier_refutes}
 use Rattle.refute_hier.specs.laws.Settled.{keeps_family, all_unrefuted_hold}
 use Rattle.solver.specs.Leaves.{empty_for_each, settled_assignment, Solves}
+use Rattle.sched_model.specs.Bounds.{is_number}
 
 -- a settled region allows the assignment at the settled values
 fits_itself : (p : Presence) (a b e f lo hi : ℤ)
