@@ -142,6 +142,32 @@ fn split_logs(rt: HostRuntime) -> Result<(), Fail> {
     Ok(())
 }
 
+/// Two that each have to end before the other starts.
+const ROUND: &str =
+    "a = intervalVar(size=1,end=0..20); b = intervalVar(size=1,end=0..20); endBeforeStart(a,b); endBeforeStart(b,a);\n";
+
+/// A walk through both precedences and both sizes that closes, and one that stays open.
+const WALKED: [PrintedRow; 2] = [
+    (
+        "schedlog 1\nf CYCLE 4 0 0 0 0 1 1 0 0 0 1 0 0 1 0 0 0\nend\n",
+        0,
+        "accepted infeasible\nnodes 1\nend\n",
+        "",
+    ),
+    (
+        "schedlog 1\nf CYCLE 3 0 0 0 0 1 1 0 0 0 1 0 0\nend\n",
+        5,
+        "",
+        "log refused line 2\n",
+    ),
+];
+
+#[test]
+fn walked_logs(rt: HostRuntime) -> Result<(), Fail> {
+    assert!(rt; prints_all(rt.alloc(), &CHECK, ROUND, &WALKED)?);
+    Ok(())
+}
+
 /// Texts that are refused, and how.
 const REFUSED: [(&str, &str); 11] = [
     ("a = intervalVar(); $", "1 statement 2 at 19"),

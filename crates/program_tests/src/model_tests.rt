@@ -7,7 +7,7 @@ use std::test::Fail;
 const SHOW: [&str; 2] = ["show", "m"];
 
 /// Models, the status of `solve`, and how its answer begins and ends.
-const SOLVED: [SolvedRow; 8] = [
+const SOLVED: [SolvedRow; 9] = [
     ("\n", 0, "feasible\nnodes 1\n", "end\n"),
     (
         "x = intervalVar(size=1,start=0..1,end=1..2);",
@@ -16,19 +16,19 @@ const SOLVED: [SolvedRow; 8] = [
         "\nend\n",
     ),
     (
-        "a = intervalVar(size=5,start=0..1,end=5..6); b = intervalVar(size=3,start=6..8,end=9..11); endBeforeStart(a,b,2); minimize(endOf(b));",
+        "a = intervalVar(size=5); b = intervalVar(size=3); endBeforeStart(a,b,2); minimize(endOf(b));",
         0,
         "optimal 10\nnodes ",
         "\na 0 5\nb 7 10\nend\n",
     ),
     (
-        "a = intervalVar(size=1,start=0..1,end=1..2); b = intervalVar(size=1,start=0..1,end=1..2); endBeforeStart(a,b); endBeforeStart(b,a);",
+        "a = intervalVar(size=1,end=0..20); b = intervalVar(size=1,end=0..20); endBeforeStart(a,b); endBeforeStart(b,a);",
         10,
-        "infeasible\nnodes ",
-        "\nend\n",
+        "infeasible\nnodes 1\n",
+        "end\n",
     ),
     (
-        "a = intervalVar(size=1,start=0..1,end=1..2); b = intervalVar(optional,size=1,start=0..1,end=1..2); endBeforeStart(a,b); endBeforeStart(b,a); minimize(presenceOf(b));",
+        "a = intervalVar(size=1,end=0..20); b = intervalVar(optional,size=1,end=0..20); endBeforeStart(a,b); endBeforeStart(b,a); minimize(presenceOf(b));",
         0,
         "optimal 0\nnodes ",
         "\nb absent\nend\n",
@@ -46,10 +46,16 @@ const SOLVED: [SolvedRow; 8] = [
         "\nday 0 2\nnight absent\nreport 3 4\nend\n",
     ),
     (
-        "x = intervalVar(start=0..2,end=1..9); x1 = intervalVar(optional,size=4,start=1..2,end=5..6); x2 = intervalVar(optional,size=6,start=0..3,end=6..9); alternative(x,[x1,x2]); minimize(endOf(x));",
+        "x = intervalVar(); x1 = intervalVar(optional,size=4); x2 = intervalVar(optional,size=6); alternative(x,[x1,x2]); minimize(endOf(x));",
         0,
-        "optimal 5\nnodes ",
-        "\nx 1 5\nx1 1 5\nx2 absent\nend\n",
+        "optimal 4\nnodes ",
+        "\nx 0 4\nx1 0 4\nx2 absent\nend\n",
+    ),
+    (
+        "a = intervalVar(size=1..5); b1 = intervalVar(optional,size=2); b2 = intervalVar(optional,size=3); span(a,[b1,b2]); !presenceOf(b1); !presenceOf(b2);",
+        10,
+        "infeasible\nnodes 1\n",
+        "end\n",
     ),
 ];
 
