@@ -14,7 +14,7 @@ cp "$top"/bench/models/*.cpo "$work"
 echo 'a = intervalVar(size=3); minimize(endOf(a));' > "$work/default_range.cpo"
 
 python3 - "$work" <<'PY'
-import sys
+import random, sys
 work = sys.argv[1]
 
 # So many intervals of fixed size that nothing binds: a search that looks at all intervals at each node is slow here.
@@ -32,6 +32,15 @@ for i in range(orders):
 lines.append("minimize(max([" + ", ".join(f"endOf(step_{i}_{steps - 1})" for i in range(orders)) + "]));")
 with open(f"{work}/orders_8_10.cpo", "w") as text:
     text.write("\n".join(lines) + "\n")
+
+# A chain of 1,000 intervals, whose precedences stand in a random order. An engine that asks them in the order of the model
+# learns each bound again and again, and writes hundreds of thousands of lines.
+order = list(range(999))
+random.Random(1).shuffle(order)
+with open(f"{work}/chain_1000.cpo", "w") as text:
+    text.writelines(f"task_{i} = intervalVar(size=1);\n" for i in range(1000))
+    text.writelines(f"endBeforeStart(task_{i}, task_{i + 1});\n" for i in order)
+    text.write("minimize(endOf(task_999));\n")
 
 # A wide objective: the sum of 1,000 ends. A guess on one interval must not look at all of it.
 with open(f"{work}/wide_1000.cpo", "w") as text:
