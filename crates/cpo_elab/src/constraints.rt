@@ -10,14 +10,9 @@ use cpo_text::{
     Bound, Constrained, Cpart, Cumul, Extreme, Hierarchy, Moments, Order, Over, Sense, Spaced,
     Temporal,
 };
-use sched_base::{Cum, Itv, List, Mat, NoMemory, Seq};
+use sched_base::{Cum, Itv, List, Mat, NUMBER_LIMIT, NoMemory, Seq};
 use sched_model::{Constraint, End, Sense as Aimed, Window};
 use std::alloc::Global;
-
-/// The least and the greatest value that a bound leaves open.
-const LOWEST: i64 = -4_611_686_018_427_387_904;
-
-const HIGHEST: i64 = 4_611_686_018_427_387_904;
 
 fn points_of(word: Temporal) -> (End, End, bool)
     ensures { result ≡ points_of word }
@@ -83,14 +78,14 @@ fn bound_of(bound: Bound, f: Cum, c: i64) -> Constraint
         Bound::AtMost => Constraint::CumulIn {
             f,
             window: Window::Always,
-            lo: LOWEST,
+            lo: -NUMBER_LIMIT,
             hi: c,
         },
         Bound::AtLeast => Constraint::CumulIn {
             f,
             window: Window::Always,
             lo: c,
-            hi: HIGHEST,
+            hi: NUMBER_LIMIT,
         },
     }
 }

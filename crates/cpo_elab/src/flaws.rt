@@ -9,7 +9,8 @@ ghost use Rattle.cpo_elab.specs.Drafts.{is_flawed_pair, is_flawed};
 
 use crate::numbers::{int_of, range_of};
 use cpo_text::{Constrained, Cpart, Cumul, Definition, Int, Ivarg, Moments, Signed, Statement};
-use sched_base::{H, List};
+use sched_base::List;
+use sched_model::is_moment;
 
 /// What may be wrong with two numbers: the first is above the second, or one is outside the bounds
 /// on moments.
@@ -28,12 +29,6 @@ pub enum AmountFlaw {
 
 /// The greatest height, type, distance or state.
 const AMOUNT_LIMIT: i64 = 1_000_000;
-
-fn is_moment(t: i64) -> bool
-    ensures { result ≡ is_moment t }
-{
-    -H <= t && t <= H
-}
 
 fn is_flawed_pair(flaw: PairFlaw, r: (i64, i64)) -> bool
     ensures { result ≡ is_flawed_pair flaw r }

@@ -2,9 +2,7 @@ ghost use Rattle.std.specs.Prelude.{◌≡◌, ◌≤◌, ◌^◌};
 ghost use Rattle.cpo_elab.specs.Numbers.{size_of, int_of, int_or_zero, range_of};
 
 use cpo_text::{Int, Range};
-
-/// The bound on literals.
-pub const LITERAL_LIMIT: u64 = 4_611_686_018_427_387_904;
+use sched_base::NUMBER_LIMIT;
 
 /// The value of digits; 0 for those that are above the bound on literals, which no statement has
 /// that the grammar accepts.
@@ -14,7 +12,7 @@ pub fn size_of(n: Option<u64>) -> u64
 {
     match n {
         None => 0,
-        Some(n) => { if n <= LITERAL_LIMIT { n } else { 0 } }
+        Some(n) => { if n <= NUMBER_LIMIT as u64 { n } else { 0 } }
     }
 }
 

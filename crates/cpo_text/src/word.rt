@@ -3,9 +3,7 @@ ghost use Rattle.cpo_text.specs.Tokens.{bounded, digits_value, word_of};
 ghost use Rattle.cpo_text.specs.Places.{said_word};
 
 use crate::piece::Piece;
-
-/// The bound on literals, 2^62.
-const LITERAL_LIMIT: u64 = 4_611_686_018_427_387_904;
+use sched_base::NUMBER_LIMIT;
 
 /// What a token says. A number above the bound on literals has no value.
 #[derive(Clone, Copy, Debug)]
@@ -31,7 +29,7 @@ fn value(digits: &[u8]) -> Option<u64>
     for b in digits {
         let digit = b.saturating_sub(b'0');
         let next = u128::from(value) * 10 + u128::from(digit);
-        if next > u128::from(LITERAL_LIMIT) {
+        if next > NUMBER_LIMIT as u128 {
             return None;
         }
         value = next as u64;

@@ -1,6 +1,6 @@
 ghost use Rattle.std.specs.Prelude.{◌≡◌, ◌&&◌, Some, true};
 ghost use Rattle.sched_model.specs.Domain.{is_in_domain};
-ghost use Rattle.sched_model.specs.Solution.{is_solution, is_better, beats};
+ghost use Rattle.sched_model.specs.Solution.{is_solution, is_better};
 ghost use Rattle.sched_model.specs.Valid.{IsValid};
 ghost use Rattle.region.specs.Cells.{is_settled, allows};
 ghost use Rattle.region.specs.Looks.{IsRegionOf};
@@ -8,16 +8,7 @@ ghost use Rattle.kernel.specs.Steps.{is_wanted};
 
 use crate::types::Found;
 use region::Region;
-use sched_model::{Assignment, Model, Sense, is_solution, value};
-
-fn beats(sense: Sense, value: i64, best: i64) -> bool
-    ensures { result ≡ beats sense value best }
-{
-    match sense {
-        Sense::Minimize => value < best,
-        Sense::Maximize => best < value,
-    }
-}
+use sched_model::{Assignment, Model, beats, is_solution, value};
 
 #[tactic(auto, using(crate::proofs::LineTests::no_value, crate::proofs::LineTests::beats_best))]
 fn is_better(model: &Model, best: i64, a: &Assignment) -> bool

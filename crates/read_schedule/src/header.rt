@@ -5,10 +5,8 @@ ghost use Rattle.read_schedule.specs.Reads.{Decides, IsNumberAlone, IsCountAlone
 
 use crate::lines::Lines;
 use crate::words::take_number;
+use sched_base::NUMBER_LIMIT;
 use textline::{Words, read_count};
-
-/// The greatest count of nodes, 2^62.
-const MOST_NODES: u64 = 4_611_686_018_427_387_904;
 
 fn is_number(words: &mut Words<'_>) -> bool
     ensures { Decides (IsNumberAlone words.old) result }
@@ -44,7 +42,7 @@ fn is_node_count(words: &mut Words<'_>) -> bool
     let Some(n) = read_count(word) else {
         return false;
     };
-    if n > MOST_NODES {
+    if n > NUMBER_LIMIT as u64 {
         return false;
     }
     words.is_done()

@@ -1,7 +1,7 @@
 //! Whether a look allows an assignment.
 ghost use Rattle.std.specs.Prelude.{◌≡◌, ◌<◌, ◌^◌, not, length, slice_index_or, IsTrue};
 ghost use Rattle.std.specs.List.{list_all};
-ghost use Rattle.sched_model.specs.Words.{is_between, pairwise, placewise};
+ghost use Rattle.sched_model.specs.Words.{pairwise, placewise};
 ghost use Rattle.sched_model.specs.declared.types.Slot.TheVariants.{Present};
 ghost use Rattle.region.specs.Cells.{allows, cells_of, fits_bounds, says_absent};
 ghost use Rattle.region.specs.Orders.{allows_order, may_precede};
@@ -9,13 +9,7 @@ ghost use Rattle.region.specs.Orders.{allows_order, may_precede};
 use crate::look::Look;
 use crate::types::{Bounds, Presence};
 use sched_base::{Itv, List, Seq};
-use sched_model::{Assignment, Slot};
-
-fn is_between(lo: i64, hi: i64, z: i64) -> bool
-    ensures { result ≡ is_between lo hi z }
-{
-    lo <= z && z <= hi
-}
+use sched_model::{Assignment, Slot, is_between};
 
 fn may_be_present(presence: Presence) -> bool
     ensures { result ≡ not (says_absent presence) }

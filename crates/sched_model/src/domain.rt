@@ -8,22 +8,23 @@ ghost use Rattle.sched_model.specs.Data.{same, has, matrix_of};
 ghost use Rattle.sched_model.specs.Sweep.{begins_after, end_with, keeps_from, later_end};
 ghost use Rattle.sched_model.specs.Value.{is_present};
 
+use crate::bounds::{is_amount, is_between, is_moment};
 use crate::distances::{distance, fits_between, matrix_of};
 use crate::slots::{is_present, same};
 use crate::types::{Assignment, IntervalDef, Segment, SequenceDef, Slot, StateDef};
 use crate::whole::Model;
-use sched_base::{H, Itv, List, Mat};
+use sched_base::{Itv, List, Mat};
 
 fn starts_in(d: &IntervalDef, s: i64) -> bool
     ensures { result ≡ is_between d.now.start_lo d.now.start_hi s }
 {
-    d.start_lo <= s && s <= d.start_hi
+    is_between(d.start_lo, d.start_hi, s)
 }
 
 fn ends_in(d: &IntervalDef, e: i64) -> bool
     ensures { result ≡ is_between d.now.end_lo d.now.end_hi e }
 {
-    d.end_lo <= e && e <= d.end_hi
+    is_between(d.end_lo, d.end_hi, e)
 }
 
 fn lasts_in(d: &IntervalDef, s: i64, e: i64) -> bool
@@ -140,18 +141,6 @@ fn is_row(model: &Model, matrix: Option<Mat>, v: i64) -> bool
         None => true,
         Some(d) => v < i64::from(d.size),
     }
-}
-
-fn is_moment(t: i64) -> bool
-    ensures { result ≡ is_moment t }
-{
-    -H <= t && t <= H
-}
-
-fn is_amount(v: i64) -> bool
-    ensures { result ≡ is_amount v }
-{
-    0 <= v && v <= 1_000_000
 }
 
 fn is_span(i: Segment) -> bool

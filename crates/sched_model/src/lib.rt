@@ -2,6 +2,7 @@
 //! solution. The definitions stand in `specs/`; the functions here compute them.
 #![tactic(auto)]
 
+mod bounds;
 mod changes;
 mod cumulative;
 mod distances;
@@ -18,11 +19,12 @@ mod types;
 mod values;
 mod whole;
 
+pub use bounds::{is_between, is_moment, is_small};
 pub use distances::distance;
 pub use domain::in_domain;
 pub use hulls::hull;
-pub use sched_base::{Boxed, Con, Cum, H, Itv, List, Mat, NoMemory, Seq, Stf};
-pub use sentences::{holds, is_solution, value};
+pub use sched_base::{Boxed, Con, Cum, H, Itv, List, Mat, NUMBER_LIMIT, NoMemory, Seq, Stf};
+pub use sentences::{beats, holds, is_solution, value};
 pub use slots::Slots;
 pub use temporal::is_precedence;
 pub use types::{

@@ -6,7 +6,7 @@ ghost use Rattle.sched_model.specs.Domain.{fits_def, is_in_domain};
 ghost use Rattle.sched_model.specs.Valid.{IsValid, is_constraint};
 ghost use Rattle.sched_model.specs.Sentences.{Holds, holds, holds_at};
 ghost use Rattle.sched_model.specs.declared.types.Constraint.{Constraint};
-ghost use Rattle.sched_model.specs.Solution.{IsSolution, is_solution, objective_of};
+ghost use Rattle.sched_model.specs.Solution.{IsSolution, beats, is_solution, objective_of};
 ghost use Rattle.sched_model.specs.Value.{is_present, is_true, value_of};
 
 use crate::cumulative::{Bound, is_bounded};
@@ -16,7 +16,7 @@ use crate::sequence::{has_no_overlap, is_first, is_last, stands_before, stands_n
 use crate::slots::{is_present, order_of};
 use crate::states::{has_no_state, has_state};
 use crate::temporal::is_precedence;
-use crate::types::{Assignment, Constraint, Expr};
+use crate::types::{Assignment, Constraint, Expr, Sense};
 use crate::values::value_in;
 use crate::whole::Model;
 use sched_base::{Con, Itv, at};
@@ -149,4 +149,14 @@ pub fn is_solution(model: &Model, a: &Assignment) -> bool
         return false;
     }
     all_hold(model, a)
+}
+
+/// Whether a value is better than another, in the sense of an objective.
+pub fn beats(sense: Sense, value: i64, best: i64) -> bool
+    ensures { result ≡ beats sense value best }
+{
+    match sense {
+        Sense::Minimize => value < best,
+        Sense::Maximize => best < value,
+    }
 }

@@ -12,7 +12,7 @@ use crate::pieces::{
     put_interval, put_matrix, put_names, put_next_interval, put_next_number, put_number, put_open,
     put_state,
 };
-use sched_base::{Cum, Desk, Itv, Mat, Seq, Stf, at};
+use sched_base::{Cum, Desk, Itv, Mat, NUMBER_LIMIT, Seq, Stf, at};
 use sched_model::{Constraint, End, Model, SequenceDef, Window};
 
 fn temporal_word(from: End, to: End, equal: bool) -> &'static [u8]
@@ -177,15 +177,12 @@ fn put_ordered<D: Desk>(
     put_text(page, desk, b")");
 }
 
-/// The least number that a level may be, -2^62: no bound from below.
-const LEAST: i64 = -4_611_686_018_427_387_904;
-
 /// A function that is bounded at every moment.
 fn put_bounded<D: Desk>(page: &mut Page, desk: &mut D, model: &Model, f: Cum, lo: i64, hi: i64)
     ensures { Prints (bounded_text (function_text model.now f) lo hi) page.old page.new (D.state desk.old) (D.state desk.new) }
 {
     put_function(page, desk, model, f);
-    if lo == LEAST {
+    if lo == -NUMBER_LIMIT {
         put_text(page, desk, b" <= ");
         put_number(page, desk, hi);
         return;
