@@ -11,4 +11,4 @@ mod put;
 mod tree;
 mod walk;
 
-pub use tree::HullTree;
+pub use tree::{HullTree, Sides};

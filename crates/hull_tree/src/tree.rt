@@ -6,17 +6,18 @@ ghost use Rattle.sched_model.specs.Words.{passes_if_any};
 ghost use Rattle.region.specs.Guesses.{admits, looked_at, topic};
 ghost use Rattle.region.specs.Looks.{IsRegionOf};
 ghost use Rattle.look_hull.specs.LookHull.{look_hull};
-ghost use Rattle.hull_tree.specs.Nodes.{DifferAt};
+ghost use Rattle.hull_tree.specs.Nodes.{AreNodes, DifferAt};
+ghost use Rattle.hull_tree.specs.Atoms.{AreAtoms};
 ghost use Rattle.hull_tree.specs.Trees.{IsTreeOf, IsEvaluated, IsRootRange, changed};
 
 use crate::atoms::{Atom, atoms_of, intervals_of};
 use crate::building::build;
 use crate::combine::{Ends, narrowed};
-use crate::nodes::{Node, Span};
+use crate::nodes::{Node, Op, Span};
 use crate::walk::{Kept, evaluate, under};
 use region::{Guess, Look, Region};
 use sched_base::{Itv, NoMemory};
-use sched_model::{Expr, Model};
+use sched_model::{CompareOp, Expr, Model};
 use std::alloc::Global;
 
 /// An expression as nodes, and the range of each node in the region that was evaluated last.
@@ -64,6 +65,14 @@ fn changed(guess: Guess) -> (Itv, Itv)
     }
 }
 
+/// A comparison, and the ranges of its two sides.
+#[derive(Clone, Copy, Debug, PartialEq, Eq)]
+pub struct Sides {
+    pub op: CompareOp,
+    pub left: (i64, i64),
+    pub right: (i64, i64),
+}
+
 impl HullTree {
     /// The tree of an expression. Only this call asks for memory, as much as the expression has nodes.
     pub fn new(alloc: Global, e: &Expr) -> Result<HullTree, NoMemory>
@@ -109,18 +118,28 @@ impl HullTree {
         );
     }
 
+    /// All nodes with what is kept of them.
+    fn kept(&self) -> Kept<'_>
+        ensures nodes { result.nodes.now ≡ self.now.nodes }
+        ensures ends { result.ends.now ≡ self.now.ends }
+        ensures spans { AreNodes result.nodes.now result.spans.now }
+        ensures atoms { AreAtoms result.nodes.now result.atoms.now }
+    {
+        Kept {
+            nodes: self.nodes.as_slice(),
+            spans: self.spans.as_slice(),
+            atoms: self.atoms.as_slice(),
+            ends: self.ends.as_slice(),
+        }
+    }
+
     /// The range of the root in a look that tells the same but of two intervals.
     fn root_under(&self, model: &Model, look: &Look<'_>, x: Itv, y: Itv) -> Ends
         requires of { IsRegionOf model.now look.now.region }
         requires differ { DifferAt model.now self.now.nodes x y self.now.ends look.now.region }
         ensures { IsRootRange model.now self.now look.now.region result }
     {
-        let kept = Kept {
-            nodes: self.nodes.as_slice(),
-            spans: self.spans.as_slice(),
-            atoms: self.atoms.as_slice(),
-            ends: self.ends.as_slice(),
-        };
+        let kept = self.kept();
         under(model, look, &kept, x, y, self.root)
     }
 
@@ -150,5 +169,25 @@ impl HullTree {
     {
         let _ = model.intervals();
         narrowed(self.root_ends(model, region, guess))
+    }
+
+    /// The ranges of the two sides under a guess, where the expression is a comparison. They cost as much
+    /// as `range`; nothing is proved of them, for they only tell how far a refuted guess may be moved.
+    pub fn sides(&self, model: &Model, region: &Region, guess: Guess) -> Option<Sides>
+        requires of { IsRegionOf model.now region.now.region }
+        requires evaluated { IsEvaluated model.now region.now.region self.now }
+        requires admitted { IsTrue (admits region.now.region guess) }
+    {
+        let Node::Pair(Op::Compare(op), a, b) = self.nodes[self.root as usize] else {
+            return None;
+        };
+        let (x, y) = changed(guess);
+        let look = region.look(Some(guess), None);
+        let kept = self.kept();
+        Some(Sides {
+            op,
+            left: narrowed(under(model, &look, &kept, x, y, a)),
+            right: narrowed(under(model, &look, &kept, x, y, b)),
+        })
     }
 }

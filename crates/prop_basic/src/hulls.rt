@@ -10,12 +10,12 @@ ghost use Rattle.prop_basic.specs.Goals.{is_missed, misses};
 ghost use Rattle.prop_basic.specs.Ready.{IsReady};
 
 use findings::ask_by;
-use hull_tree::HullTree;
+use hull_tree::{HullTree, Sides};
 use look_hull::surely_false;
 use refute_basic::never_beats;
 use region::{Guess, GuessTest, Region};
 use sched_base::{Itv, NoMemory};
-use sched_model::{Expr, Model, Sense};
+use sched_model::{CompareOp, Expr, Model, Sense};
 use std::alloc::Global;
 
 /// What the value of an expression has to do: be true, or be better than the best value.
@@ -35,12 +35,26 @@ fn is_missed(goal: Goal, r: (i64, i64)) -> bool
     }
 }
 
+/// By how much a comparison fails in all of its two ranges: how far they may still come together.
+fn failing_by(sides: Sides) -> Option<i64> {
+    let Sides { op, left, right } = sides;
+    let above = left.0.checked_sub(right.1)?;
+    let below = right.0.checked_sub(left.1)?;
+    match op {
+        CompareOp::Eq => Some(above.max(below).saturating_sub(1)),
+        CompareOp::Ne => None,
+        CompareOp::Le => Some(above.saturating_sub(1)),
+        CompareOp::Ge => Some(below.saturating_sub(1)),
+        CompareOp::Lt => Some(above),
+        CompareOp::Gt => Some(below),
+    }
+}
+
 /// How far the range lies behind the first value that isn't better than the best.
-fn slack(goal: Goal, r: (i64, i64)) -> Option<i64> {
-    match goal {
-        Goal::Holds => None,
-        Goal::Beats(Sense::Minimize, best) => r.0.checked_sub(best),
-        Goal::Beats(Sense::Maximize, best) => best.checked_sub(r.1),
+fn behind(sense: Sense, best: i64, r: (i64, i64)) -> Option<i64> {
+    match sense {
+        Sense::Minimize => r.0.checked_sub(best),
+        Sense::Maximize => best.checked_sub(r.1),
     }
 }
 
@@ -69,8 +83,14 @@ impl<'a> GuessTest for HullTest<'a> {
     }
 
     fn reach(&self, guess: Guess) -> Option<u64> {
-        let range = self.tree.range(self.model, self.region, Some(guess));
-        u64::try_from(slack(self.goal, range)?).ok()
+        let missed = match self.goal {
+            Goal::Holds => failing_by(self.tree.sides(self.model, self.region, guess)?)?,
+            Goal::Beats(sense, best) => {
+                let range = self.tree.range(self.model, self.region, Some(guess));
+                behind(sense, best, range)?
+            }
+        };
+        u64::try_from(missed).ok()
     }
 }
 
