@@ -1,3 +1,4 @@
 pub mod Slots
 pub mod Turns
 pub mod Numbered
+pub mod Placing

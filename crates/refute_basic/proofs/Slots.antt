@@ -13,7 +13,7 @@ use Rattle.region.specs.Looks.{IsRegionOf}
 use Rattle.sched_base.specs.declared.ids.Itv.{Itv}
 use Rattle.sched_model.specs.declared.types.Slot.{Slot}
 use Rattle.sched_model.specs.declared.types.Slot.TheVariants as slot
-use Rattle.sched_model.specs.Words.{◌implies◌, is_between, is_empty, passes}
+use Rattle.sched_model.specs.Words.{◌implies◌, is_between, passes}
 use Rattle.sched_model.specs.Value.{slot_of}
 use Rattle.region.specs.declared.types.Bounds.{Bounds}
 use Rattle.region.specs.declared.types.Presence.TheVariants as presence
@@ -83,15 +83,6 @@ sized_next_at (b ∷ bs) (suc u) within h = sized_next_at bs u (omega (arith, wi
 
 pub sized_next : (r : Region) (u : ℕ) (b : Bool) → u < length r.bounds → false ≡ is_unsized_at r u → list_all has_size (drop u r.bounds) ≡ b → list_all has_size (drop (u + 1) r.bounds) ≡ b
 sized_next r u b within h before = rw add-one (sized_next_at r.bounds u within h ∙ before)
-
--- a model with a sequence isn't served
-pub some_is_not_empty : {X : Type 0} (xs : List X) (q : Bool) → 0 < length xs → false ≡ (is_empty xs && q)
-some_is_not_empty [] q h = absurd (omega (arith, h))
-some_is_not_empty (x ∷ xs) q h = refl
-
-pub none_is_empty : {X : Type 0} (xs : List X) (q : Bool) → length xs ≤ 0 → q ≡ (is_empty xs && q)
-none_is_empty [] q h = refl
-none_is_empty (x ∷ xs) q h = absurd (omega (arith, h))
 
 pub settled_slot_at : (r : Region) (x : Itv) (c : Bounds) (s : Slot) → c ≡ bounds_of r x → s ≡ settled_slot c → s ≡ slot_of (settled_alone r) x
 settled_slot_at r x c s is slot = slot ∙ ap settled_slot is ∙ settled_slot_of r x

@@ -2,6 +2,7 @@ pub mod Witness
 pub mod Served
 pub mod Size
 pub mod Arc
+pub mod Standing
 pub mod Cycle
 pub mod Expr
 pub mod Obj

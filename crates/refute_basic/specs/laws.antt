@@ -2,6 +2,9 @@ pub mod Names
 pub mod Spelling
 pub mod SameSlots
 pub mod There
+pub mod Told
+pub mod Gaps
+pub mod Alike
 pub mod Size
 pub mod Arc
 pub mod Walks

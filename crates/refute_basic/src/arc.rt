@@ -1,7 +1,7 @@
 ghost use Rattle.std.specs.Prelude.{◌≡◌, ◌<◌, ◌+ℤ◌, ◌-ℤ◌, length, int_lt};
 ghost use Rattle.refute_basic.specs.Arc.{earliest, latest, is_too_late, arc_row};
 
-use crate::edges::is_there;
+use crate::standing::is_there;
 use region::Look;
 use sched_base::{Itv, at};
 use sched_model::{Constraint, End, Model};

@@ -1,4 +1,5 @@
 ghost use Rattle.std.specs.Prelude.{◌≡◌, ◌≤◌, ◌≤ℤ◌, ◌+ℤ◌, ◌-ℤ◌, ◌^◌, pos, neg_ℤ, length};
+ghost use Rattle.region.specs.Looks.{IsRegionOf};
 ghost use Rattle.refute_basic.specs.Cycle.{closes, cycle_row, goes_on};
 
 use crate::arc_name::ArcName;
@@ -26,7 +27,8 @@ fn goes_on(
     first: i64,
     rest: &[ArcName],
 ) -> bool
-    requires { length rest.now ≤ 4000 }
+    requires of { IsRegionOf model.now look.now.region }
+    requires few { length rest.now ≤ 4000 }
     ensures { result ≡ goes_on model.now look.now.region begin from first rest.now }
 {
     let mut at = from;
@@ -46,6 +48,7 @@ fn goes_on(
 
 /// Whether CYCLE refutes the look. It reads each arc once.
 pub fn cycle(model: &Model, look: &Look<'_>, arcs: &[ArcName]) -> bool
+    requires { IsRegionOf model.now look.now.region }
     ensures { result ≡ cycle_row model.now look.now arcs.now }
 {
     if arcs.len() > 4000 {

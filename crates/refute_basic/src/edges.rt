@@ -1,24 +1,16 @@
-ghost use Rattle.std.specs.Prelude.{◌≡◌, ◌-ℤ◌, pos, true, slice_get, option_and_then, IsTrue};
+ghost use Rattle.std.specs.Prelude.{◌≡◌, ◌-ℤ◌, pos, true, slice_get, option_and_then, IsTrue, if◌then◌else◌};
+ghost use Rattle.sched_model.specs.Data.{gap};
 ghost use Rattle.sched_model.specs.Valid.{is_constraint, is_small, is_moment};
-ghost use Rattle.region.specs.Cells.{is_there};
-ghost use Rattle.refute_basic.specs.Cycle.{point, edge, forth, back, longer, shorter, edge_of};
+ghost use Rattle.region.specs.Looks.{IsRegionOf};
+ghost use Rattle.refute_basic.specs.Cycle.{point, edge, itv, forth, back, longer, shorter, along, plain_edge_of, edge_of};
 
 use crate::arc_name::ArcName;
 use crate::edge::Arc;
-use region::{Look, Presence};
-use sched_base::{Itv, at};
+use crate::gaps::gap;
+use crate::standing::{is_there, stand};
+use region::Look;
+use sched_base::{Itv, Mat, Seq, at};
 use sched_model::{Constraint, End, Model};
-
-/// Whether the interval is present.
-#[tactic(auto, using(region::specs::laws::Present::none_there))]
-pub fn is_there(look: &Look<'_>, x: Itv) -> bool
-    ensures { result ≡ is_there look.now.region x }
-{
-    if x.0 as usize >= look.len() {
-        return false;
-    }
-    look.presence(x) == Presence::Present
-}
 
 fn point(end: End, x: Itv) -> usize
     ensures { result ≡ point end x }
@@ -142,9 +134,53 @@ fn back_at(model: &Model, look: &Look<'_>, c: u32) -> Option<Arc>
     }
 }
 
-/// The arc of this name, where there is one and the look shows its intervals as present.
-pub fn edge_of(model: &Model, look: &Look<'_>, name: ArcName) -> Option<Arc>
-    ensures { result ≡ edge_of model.now look.now.region name }
+/// The distance that a constraint keeps between each two, the first of which stands before the second.
+fn kept_distance(
+    model: &Model,
+    look: &Look<'_>,
+    p: Seq,
+    matrix: Option<Mat>,
+    direct: bool,
+    a: Itv,
+    b: Itv,
+) -> i64
+    requires { IsRegionOf model.now look.now.region }
+    ensures { result ≡ (if direct then pos 0 else gap model.now p matrix a b) }
+{
+    if direct {
+        return 0;
+    }
+    gap(model, look, p, matrix, a, b)
+}
+
+fn along(model: &Model, look: &Look<'_>, a: Itv, b: Itv, c: &Constraint) -> Option<Arc>
+    requires { IsRegionOf model.now look.now.region }
+    ensures { result ≡ along model.now look.now.region a b c.now }
+{
+    match c {
+        Constraint::NoOverlap { p, matrix, direct } => {
+            if !stand(look, *p, a, b) {
+                return None;
+            }
+            let distance = kept_distance(model, look, *p, *matrix, *direct, a, b);
+            Some(edge(End::Finish, a, distance, End::Start, b))
+        }
+        _ => None,
+    }
+}
+
+fn along_at(model: &Model, look: &Look<'_>, a: Itv, b: Itv, c: u32) -> Option<Arc>
+    requires { IsRegionOf model.now look.now.region }
+    ensures { result ≡ option_and_then (along model.now look.now.region a b) (slice_get model.now.constraints c) }
+{
+    match at(model.constraints(), c as usize) {
+        None => None,
+        Some(constraint) => along(model, look, a, b, constraint),
+    }
+}
+
+fn plain_edge_of(model: &Model, look: &Look<'_>, name: ArcName) -> Option<Arc>
+    ensures { result ≡ plain_edge_of model.now look.now.region name }
 {
     if name.z != 0 {
         return None;
@@ -168,4 +204,15 @@ pub fn edge_of(model: &Model, look: &Look<'_>, name: ArcName) -> Option<Arc>
         return shorter(look, Itv(name.x));
     }
     None
+}
+
+/// The arc of this name, where there is one and the look shows its intervals as present.
+pub fn edge_of(model: &Model, look: &Look<'_>, name: ArcName) -> Option<Arc>
+    requires { IsRegionOf model.now look.now.region }
+    ensures { result ≡ edge_of model.now look.now.region name }
+{
+    if name.kind == 3 {
+        return along_at(model, look, Itv(name.y), Itv(name.z), name.x);
+    }
+    plain_edge_of(model, look, name)
 }

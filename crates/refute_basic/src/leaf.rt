@@ -1,7 +1,5 @@
 ghost use Rattle.std.specs.Prelude.{◌≡◌, ◌<◌, ◌^◌, ◌-ℤ◌, length, IsTrue};
-ghost use Rattle.sched_model.specs.Words.{is_between};
 ghost use Rattle.sched_model.specs.Valid.{is_moment};
-ghost use Rattle.sched_model.specs.Solution.{beats};
 ghost use Rattle.region.specs.Cells.{is_settled};
 ghost use Rattle.region.specs.Looks.{HasMoments, IsRegionOf};
 ghost use Rattle.refute_basic.specs.Leaf.{has_size, all_sized, is_unsized_at, fails_at, is_no_better, leaf_row};
@@ -9,7 +7,7 @@ ghost use Rattle.refute_basic.specs.Leaf.{has_size, all_sized, is_unsized_at, fa
 use crate::settled::{Settled, fails, value_settled};
 use region::{Bounds, Look, Presence};
 use sched_base::{Itv, at};
-use sched_model::{Model, Sense};
+use sched_model::{Model, beats, is_between};
 
 fn size_of(s: i64, e: i64) -> i64
     requires start { IsTrue (is_moment s) }
@@ -17,12 +15,6 @@ fn size_of(s: i64, e: i64) -> i64
     ensures { result ≡ e -ℤ s }
 {
     e - s
-}
-
-fn is_between(lo: i64, hi: i64, z: i64) -> bool
-    ensures { result ≡ is_between lo hi z }
-{
-    lo <= z && z <= hi
 }
 
 /// Whether the size is in its range where the interval is present.
@@ -47,15 +39,6 @@ fn all_sized(look: &Look<'_>) -> bool
         }
     }
     true
-}
-
-fn beats(sense: Sense, value: i64, best: i64) -> bool
-    ensures { result ≡ beats sense value best }
-{
-    match sense {
-        Sense::Minimize => value < best,
-        Sense::Maximize => best < value,
-    }
 }
 
 /// Whether the size of an interval is out of its range.

@@ -4,8 +4,8 @@ ghost use Rattle.refute_basic.specs.Served.{is_served_constraint, is_served};
 
 use sched_model::{Constraint, Model};
 
-/// Whether the search takes the constraint: a precedence, an expression, or one on an interval and
-/// its parts.
+/// Whether the search takes the constraint: a precedence, an expression, one on an interval and its
+/// parts, or one on a sequence.
 fn is_served_constraint(c: &Constraint) -> bool
     ensures { result ≡ is_served_constraint c.now }
 {
@@ -15,6 +15,11 @@ fn is_served_constraint(c: &Constraint) -> bool
         Constraint::Span { .. } => true,
         Constraint::Alternative { .. } => true,
         Constraint::Synchronize { .. } => true,
+        Constraint::NoOverlap { .. } => true,
+        Constraint::First { .. } => true,
+        Constraint::Last { .. } => true,
+        Constraint::Before { .. } => true,
+        Constraint::Prev { .. } => true,
         _ => false,
     }
 }
@@ -25,14 +30,10 @@ fn are_served(constraints: &[Constraint]) -> bool
     constraints.iter().all(|c| is_served_constraint(c))
 }
 
-/// Whether the search serves the model: it has no sequence, and each constraint is a precedence, an
-/// expression, a span, an alternative or a synchronization. It reads each constraint once.
-#[tactic(auto, using(crate::proofs::Slots::none_is_empty, crate::proofs::Slots::some_is_not_empty))]
+/// Whether the search serves the model: each constraint is a precedence, an expression, a span, an
+/// alternative, a synchronization, or one on a sequence. It reads each constraint once.
 pub fn is_served(model: &Model) -> bool
     ensures { result ≡ is_served model.now }
 {
-    if model.sequences().len() > 0 {
-        return false;
-    }
     are_served(model.constraints())
 }

@@ -1,6 +1,4 @@
 pub mod Spelling
-pub mod Told
-pub mod Gaps
 pub mod Triple
 pub mod Pair
 pub mod Sound
@@ -9,3 +7,4 @@ pub mod Known
 pub mod Settled
 pub mod Placed
 pub mod Ordered
+pub mod Whole

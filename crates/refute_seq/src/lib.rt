@@ -2,7 +2,7 @@
 //! three that stand in a circle.
 #![tactic(auto)]
 
-mod gaps;
+mod find;
 mod on_sequence;
 mod order;
 mod pair;
@@ -11,8 +11,9 @@ mod told;
 mod triple;
 mod witness;
 
-pub use gaps::gap;
+pub use find::find_seq;
 pub use on_sequence::OnSequence;
 pub use order::settled_order;
-pub use told::{is_away, is_there, precedes, stand};
+pub use refute_basic::{gap, is_there, members_of, precedes, stand};
+pub use told::is_away;
 pub use witness::SeqWitness;

@@ -6,8 +6,7 @@ ghost use Rattle.region.specs.Looks.{IsRegionOf};
 ghost use Rattle.refute_seq.specs.Standing.{precedes};
 ghost use Rattle.refute_seq.specs.Order.{placed, settled_order};
 
-use crate::gaps::members_of;
-use crate::told::{is_there, precedes};
+use refute_basic::{is_there, members_of, precedes};
 use region::Look;
 use sched_base::{Itv, List, NoMemory, Seq};
 use sched_model::Model;

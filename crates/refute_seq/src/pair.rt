@@ -4,11 +4,18 @@ ghost use Rattle.region.specs.Looks.{IsRegionOf, ect_of, lst_of};
 ghost use Rattle.refute_seq.specs.Standing.{are_next, is_aside};
 ghost use Rattle.refute_seq.specs.Pair.{pair_case, pair_row};
 
-use crate::gaps::{gap, is_late, members_of};
-use crate::told::{is_away, precedes, stand};
+use crate::told::is_away;
+use refute_basic::{gap, members_of, precedes, stand};
 use region::Look;
 use sched_base::{Itv, Mat, Seq, at};
 use sched_model::{Constraint, Model};
+
+/// Whether a moment with a distance is later than another moment.
+fn is_late(first: i64, d: i64, second: i64) -> bool
+    ensures { result ≡ int_lt second (first +ℤ d) }
+{
+    i128::from(second) < i128::from(first) + i128::from(d)
+}
 
 fn is_aside(look: &Look<'_>, p: Seq, x: Itv, y: Itv, z: Itv) -> bool
     ensures { result ≡ is_aside look.now.region p x y z }
@@ -48,7 +55,7 @@ fn is_too_near(model: &Model, look: &Look<'_>, p: Seq, matrix: Option<Mat>, a: I
     is_late(look.ect(a), gap(model, look, p, matrix, a, b), look.lst(b))
 }
 
-#[tactic(auto, using(crate::specs::laws::Told::first_within, crate::specs::laws::Told::second_within))]
+#[tactic(auto, using(refute_basic::specs::laws::Told::first_within, refute_basic::specs::laws::Told::second_within))]
 fn pair_case(
     model: &Model,
     look: &Look<'_>,

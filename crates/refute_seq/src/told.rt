@@ -1,10 +1,10 @@
 //! What a look tells of the members of a sequence.
 ghost use Rattle.std.specs.Prelude.{◌≡◌};
-ghost use Rattle.region.specs.Cells.{bounds_of, is_there};
-ghost use Rattle.refute_seq.specs.Standing.{is_away, precedes, stand};
+ghost use Rattle.region.specs.Cells.{bounds_of};
+ghost use Rattle.refute_seq.specs.Standing.{is_away};
 
-use region::{Look, OrderCell, Presence};
-use sched_base::{Itv, Seq};
+use region::{Look, Presence};
+use sched_base::Itv;
 
 fn presence(look: &Look<'_>, x: Itv) -> Presence
     ensures { result ≡ (bounds_of look.now.region x).presence }
@@ -15,30 +15,9 @@ fn presence(look: &Look<'_>, x: Itv) -> Presence
     look.presence(x)
 }
 
-/// Whether the interval is present.
-pub fn is_there(look: &Look<'_>, x: Itv) -> bool
-    ensures { result ≡ is_there look.now.region x }
-{
-    presence(look, x) == Presence::Present
-}
-
 /// Whether the interval is absent.
 pub fn is_away(look: &Look<'_>, x: Itv) -> bool
     ensures { result ≡ is_away look.now.region x }
 {
     presence(look, x) == Presence::Absent
-}
-
-/// Whether the first of two members is told to stand before the second.
-pub fn precedes(look: &Look<'_>, p: Seq, x: Itv, y: Itv) -> bool
-    ensures { result ≡ precedes look.now.region p x y }
-{
-    look.order(p, x, y) == OrderCell::Forward
-}
-
-/// Whether two members are present, and the first stands before the second.
-pub fn stand(look: &Look<'_>, p: Seq, x: Itv, y: Itv) -> bool
-    ensures { result ≡ stand look.now.region p x y }
-{
-    is_there(look, x) && is_there(look, y) && precedes(look, p, x, y)
 }

@@ -1,7 +1,7 @@
 ghost use Rattle.std.specs.Prelude.{◌≡◌};
 ghost use Rattle.refute_seq.specs.Triple.{are_in_circle, triple_row};
 
-use crate::told::stand;
+use refute_basic::stand;
 use region::Look;
 use sched_base::{Itv, Seq};
 

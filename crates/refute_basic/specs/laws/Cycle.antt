@@ -1,27 +1,35 @@
 -- CYCLE leaves no solution: the points of one lose along each arc.
-use Rattle.std.specs.Prelude.{◌≡◌, ℕ, zero, suc, ◌+◌, ◌*◌, ℤ, pos, ◌+ℤ◌, ◌-ℤ◌, ◌≤ℤ◌, Bool, true, false, ◌&&◌, List, [], ◌∷◌, length, Option, Some, None, option_and_then, slice_get, if◌then◌else◌, nat_eq, nat_le, All}
+use Rattle.std.specs.Prelude.{◌≡◌, ℕ, zero, suc, ◌+◌, ◌*◌, ℤ, pos, ◌+ℤ◌, ◌-ℤ◌, ◌≤ℤ◌, Bool, true, false, ◌&&◌, List, [], ◌∷◌, length, Option, Some, None, option_and_then, slice_get, if◌then◌else◌, nat_eq, nat_le, int_le, All}
 use Rattle.std.proofs.Common.{refl, sym, ap, subst, ◌∙◌, arith, get_or}
 use Rattle.std.proofs.lemmas.Int.{ints}
 use Rattle.sched_base.specs.declared.ids.Itv.{Itv}
+use Rattle.sched_base.specs.declared.ids.Seq.{Seq}
+use Rattle.sched_base.specs.declared.ids.Mat.{Mat}
 use Rattle.sched_model.specs.declared.types.End.{End}
 use Rattle.sched_model.specs.declared.types.End.TheVariants.{Start, Finish}
 use Rattle.sched_model.specs.declared.types.Slot.{Slot}
 use Rattle.sched_model.specs.declared.types.Slot.TheVariants as slot
 use Rattle.sched_model.specs.declared.types.Assignment.{Assignment}
 use Rattle.sched_model.specs.declared.types.Constraint.{Constraint}
-use Rattle.sched_model.specs.declared.types.Constraint.TheVariants.{Temporal}
-use Rattle.sched_model.specs.Data.{Data}
-use Rattle.sched_model.specs.Value.{point_of, start_or, end_or}
+use Rattle.sched_model.specs.declared.types.Constraint.TheVariants.{Temporal, NoOverlap}
+use Rattle.sched_model.specs.Words.{pairwise, adjacent}
+use Rattle.sched_model.specs.Data.{Data, gap}
+use Rattle.sched_model.specs.Value.{point_of, start_or, end_or, start_of, end_of, order_of}
+use Rattle.sched_model.specs.Sequence.{is_apart, has_no_overlap, stands_before}
 use Rattle.sched_model.specs.Sentences.{Holds, holds}
 use Rattle.sched_model.specs.Temporal.{reaches}
 use Rattle.sched_model.specs.Solution.{IsSolution}
 use Rattle.region.specs.Cells.{Region, bounds_of, is_there, Allows}
 use Rattle.region.specs.Looks.{Seen, IsRegionOf, HasNone}
 use Rattle.region.specs.laws.Lists.{both_true}
+use Rattle.region.specs.laws.Orderly.{pair_stood}
+use Rattle.region.specs.laws.Present.{IsAllowed}
 use Rattle.refute_basic.specs.declared.edge.Arc.{Arc as Edge}
 use Rattle.refute_basic.specs.declared.arc_name.ArcName.{ArcName}
-use Rattle.refute_basic.specs.Cycle.{point, edge, edge_if, itv, forth, back, longer, shorter, closes, cycle_row}
+use Rattle.refute_basic.specs.Standing.{stand}
+use Rattle.refute_basic.specs.Cycle.{point, edge, edge_if, itv, forth, back, longer, shorter, along, closes, cycle_row}
 use Rattle.refute_basic.specs.laws.There.{IsThere, there_in}
+use Rattle.refute_basic.specs.laws.Told.{Stood, stood}
 use Rattle.refute_basic.specs.laws.Arc.{implied}
 use Rattle.refute_basic.specs.laws.Walks.{AllLose, none_closes}
 
@@ -75,9 +83,25 @@ either false x y e f g h = g h
 pub no_edge : {Z : Type 0} (e : Edge) → None ≡ Some e → Z
 no_edge e h = cc
 
+-- of two that stand in an order without overlap the second starts after the first, and where distances bind each two, by as
+-- much later
+apart : (m : Data) (a : Assignment) (p : Seq) (x y : Itv) (matrix : Option Mat) (direct : Bool) → stands_before (order_of a p) x y ≡ true → has_no_overlap m a p matrix direct (order_of a p) ≡ true
+    → (end_of a x +ℤ (if direct then pos 0 else gap m p matrix x y)) ≤ℤ start_of a y
+apart m a p x y matrix false order holds = at_most _ _ (pair_stood (λ u w. is_apart a (gap m p matrix u w) u w) (order_of a p) x y holds order)
+  where
+    at_most : (u v : ℤ) → int_le u v ≡ true → u ≤ℤ v
+    at_most u v h = grind (arith, ints)
+apart m a p x y matrix true order holds =
+    at_most _ _ (pair_stood (is_apart a (pos 0)) (order_of a p) x y (both_true (pairwise (is_apart a (pos 0)) (order_of a p)) (adjacent (λ u w. is_apart a (gap m p matrix u w) u w) (order_of a p)) holds).0 order)
+  where
+    at_most : (u v : ℤ) → int_le u v ≡ true → u ≤ℤ v
+    at_most u v h = grind (arith, ints)
+
 pub solution_loses : (m : Data) (r : Region) (a : Assignment) → IsRegionOf m r → IsSolution m a → Allows r a → AllLose m r (height_in a)
 solution_loses m r a of solution allows i e is =
-    either (nat_eq i.z 0) _ _ e
+    either (nat_eq i.kind 3) _ _ e
+    (λ h. listed (along m r (itv i.y) (itv i.z)) e (Holds m a) m.constraints i.x solution.holds h (by_along (itv i.y) (itv i.z)))
+    (either (nat_eq i.z 0) _ _ e
     (either (nat_eq i.kind 0) _ _ e
     (either (nat_eq i.y 0) _ _ e
     (λ h. listed (forth r) e (Holds m a) m.constraints i.x solution.holds h by_forth)
@@ -85,11 +109,8 @@ solution_loses m r a of solution allows i e is =
     (either (nat_eq i.y 0) _ _ e
     (either (nat_eq i.kind 1) _ _ e by_longer (either (nat_eq i.kind 2) _ _ e by_shorter (no_edge e)))
     (no_edge e)))
-    (no_edge e) is
+    (no_edge e)) is
   where
-    Loses : Edge → Type 0
-    Loses d = (d.weight +ℤ height_in a d.head) ≤ℤ height_in a d.tail
-
     loses : (from to : End) (x y : Itv) (z : ℤ) (d : Edge) → d ≡ edge from x z to y → (point_of a from x +ℤ z) ≤ℤ point_of a to y → (d.weight +ℤ height_in a d.head) ≤ℤ height_in a d.tail
     loses from to x y z d is at_most = subst (λ (d : Edge). (d.weight +ℤ height_in a d.head) ≤ℤ height_in a d.tail) (sym is)
         (turned z (value_at a.slots (point from x)) (value_at a.slots (point to y)) (point_of a from x) (point_of a to y) (at_point a from x) (at_point a to y) at_most)
@@ -122,6 +143,13 @@ solution_loses m r a of solution allows i e is =
         loses to from y x (pos 0 -ℤ z) e two.1
         (backward (point_of a from x) z (point_of a to y) (subst (λ (b : Bool). reaches b (point_of a from x +ℤ z) (point_of a to y) ≡ true) four.0 (implied _ _ _ (there x four.1).here (there y three.1).here holds)))
     by_back c holds h = no_edge e h
+
+    by_along : (x y : Itv) (c : Constraint) → Holds m a c → along m r x y c ≡ Some e → (e.weight +ℤ height_in a e.head) ≤ℤ height_in a e.tail
+    by_along x y (NoOverlap p matrix direct) holds h =
+        let two = chosen (stand r p x y) (edge Finish x (if direct then pos 0 else gap m p matrix x y) Start y) e h in
+        let s : Stood r a p x y = stood m r a p x y (record { of = of; domain = solution.domain; allows = allows }) two.0 in
+        loses Finish Start x y (if direct then pos 0 else gap m p matrix x y) e two.1 (apart m a p x y matrix direct s.order holds)
+    by_along x y c holds h = no_edge e h
 
     by_longer : longer r (itv i.x) ≡ Some e → (e.weight +ℤ height_in a e.head) ≤ℤ height_in a e.tail
     by_longer h =

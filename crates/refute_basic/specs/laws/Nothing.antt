@@ -37,12 +37,12 @@ cycle_of_none m l is js i none = never_both (nat_le (length (is ++ i ∷ js)) 40
 pub cycle_of_empty : (m : Data) (l : Seen) → cycle_row m l [] ≡ false
 cycle_of_empty m l = refl
 
--- a name whose last number isn't 0, or whose first is above 2, is of no arc
-pub wrong_last : (m : Data) (r : Region) (i : ArcName) → nat_eq i.z 0 ≡ false → edge_of m r i ≡ None
-wrong_last m r i h = rw h refl
+-- a name of no member whose last number isn't 0, or one whose first is above 3, is of no arc
+pub wrong_last : (m : Data) (r : Region) (i : ArcName) → nat_eq i.kind 3 ≡ false → nat_eq i.z 0 ≡ false → edge_of m r i ≡ None
+wrong_last m r i other h = rw (other, h) refl
 
-pub wrong_kind : (m : Data) (r : Region) (i : ArcName) → nat_eq i.kind 0 ≡ false → nat_eq i.kind 1 ≡ false → nat_eq i.kind 2 ≡ false → edge_of m r i ≡ None
-wrong_kind m r i h j k = rw (h, j, k) (by_case (nat_eq i.z 0) (nat_eq i.y 0) None)
+pub wrong_kind : (m : Data) (r : Region) (i : ArcName) → nat_eq i.kind 3 ≡ false → nat_eq i.kind 0 ≡ false → nat_eq i.kind 1 ≡ false → nat_eq i.kind 2 ≡ false → edge_of m r i ≡ None
+wrong_kind m r i other h j k = rw (other, h, j, k) (by_case (nat_eq i.z 0) (nat_eq i.y 0) None)
   where
     by_case : (p q : Bool) (o : Option Edge) → (if p then (if q then o else o) else o) ≡ o
     by_case true true o = refl

@@ -1,11 +1,14 @@
--- What CYCLE refutes depends on which intervals are present, and on no bound.
-use Rattle.std.specs.Prelude.{◌≡◌, ℕ, ◌<◌, ◌≤◌, ℤ, pos, ◌+ℤ◌, Bool, true, false, ◌&&◌, List, [], ◌∷◌, length, Option, Some, None, option_and_then, slice_get, nat_eq, nat_lt, nat_le}
+-- What CYCLE refutes depends on which intervals are present and on the orders of sequences without overlap, and on no bound.
+use Rattle.std.specs.Prelude.{◌≡◌, ℕ, zero, suc, ◌<◌, ◌≤◌, ℤ, pos, ◌+ℤ◌, Bool, true, false, ◌&&◌, List, [], ◌∷◌, length, Option, Some, None, option_and_then, slice_get, nat_eq, nat_lt, nat_le}
 use Rattle.std.specs.Ordering.{int_eq}
+use Rattle.std.specs.List.{list_any}
 use Rattle.std.proofs.Common.{refl, sym, ap, ◌∙◌, arith, get_or}
 use Rattle.std.proofs.lemmas.Int.{ints}
+use Rattle.std.proofs.lemmas.Bool.{or_left, or_right}
 use Rattle.std.proofs.lemmas.Bool.Decides.{nat_tests}
 use Rattle.std.proofs.lemmas.List.{get_or_past}
 use Rattle.sched_base.specs.declared.ids.Itv.{Itv}
+use Rattle.sched_base.specs.declared.ids.Seq.{Seq}
 use Rattle.sched_model.specs.declared.types.IntervalDef.{IntervalDef}
 use Rattle.sched_model.specs.declared.types.Constraint.{Constraint}
 use Rattle.sched_model.specs.declared.types.Constraint.TheVariants.{Temporal, Logic, Span, Alternative, Synchronize, NoOverlap, First, Last, Before, Prev, CumulIn, AlwaysEqual, AlwaysNoState}
@@ -17,7 +20,9 @@ use Rattle.region.specs.Looks.{Seen, IsRegionOf, is_narrowed}
 use Rattle.region.specs.laws.Lists.{both_true, placewise-length, placewise-at}
 use Rattle.refute_basic.specs.declared.edge.Arc.{Arc as Edge}
 use Rattle.refute_basic.specs.declared.arc_name.ArcName.{ArcName}
-use Rattle.refute_basic.specs.Cycle.{itv, forth, back, edge_of, goes_on, closes, cycle_row}
+use Rattle.refute_basic.specs.Standing.{is_no_overlap, is_disjunctive}
+use Rattle.refute_basic.specs.Cycle.{itv, forth, back, along, edge_of, goes_on, closes, cycle_row}
+use Rattle.refute_basic.specs.laws.Alike.{SameOrder, stand_alike}
 
 -- the same presences and sizes
 pub record AreAsPresent (r q : Region) : Type 0 where
@@ -60,9 +65,43 @@ at_same : (f g : Constraint → Option Edge) → ((c : Constraint) → f c ≡ g
 at_same f g same None = refl
 at_same f g same (Some c) = same c
 
-edge_same : (m : Data) (r q : Region) → AreAsPresent r q → (i : ArcName) → edge_of m r i ≡ edge_of m q i
-edge_same m r q same i =
+-- the same orders of the sequences without overlap
+abbrev pub SameOrders : Data → Region → Region → Type 0
+SameOrders m r q = (p : Seq) → is_disjunctive m p ≡ true → (x y : Itv) → SameOrder r q p x y
+
+any_at : (t : Constraint → Bool) (cs : List Constraint) (k : ℕ) (c : Constraint) → slice_get cs k ≡ Some c → t c ≡ true → list_any t cs ≡ true
+any_at t [] k c at h = cc
+any_at t (d ∷ cs) zero c at h = let same : d ≡ c = cc at in or_left (t d) (list_any t cs) (ap t same ∙ h)
+any_at t (d ∷ cs) (suc k) c at h = or_right (t d) (list_any t cs) (any_at t cs k c at h)
+
+pub disjunctive_at : (m : Data) (k : ℕ) (c : Constraint) (p : Seq) → slice_get m.constraints k ≡ Some c → is_no_overlap p c ≡ true → is_disjunctive m p ≡ true
+disjunctive_at m k c p at h = any_at (is_no_overlap p) m.constraints k c at h
+
+along_same : (m : Data) (r q : Region) → AreAsPresent r q → SameOrders m r q → (x y : Itv) (o : Option Constraint) → ((c : Constraint) (p : Seq) → o ≡ Some c → is_no_overlap p c ≡ true → is_disjunctive m p ≡ true)
+    → option_and_then (along m r x y) o ≡ option_and_then (along m q x y) o
+along_same m r q same orders x y None known = refl
+along_same m r q same orders x y (Some (NoOverlap p matrix direct)) known =
+    rw (stand_alike r q p x y (record { first = same.presence x; second = same.presence y; order = orders p (known (NoOverlap p matrix direct) p refl (itself p.0)) x y })) refl
+  where
+    itself : (n : ℕ) → nat_eq n n ≡ true
+    itself n = grind (arith, nat_tests)
+along_same m r q same orders x y (Some (Temporal from to equal u v z)) known = refl
+along_same m r q same orders x y (Some (Logic e)) known = refl
+along_same m r q same orders x y (Some (Span u parts)) known = refl
+along_same m r q same orders x y (Some (Alternative u parts)) known = refl
+along_same m r q same orders x y (Some (Synchronize u parts)) known = refl
+along_same m r q same orders x y (Some (First p u)) known = refl
+along_same m r q same orders x y (Some (Last p u)) known = refl
+along_same m r q same orders x y (Some (Before p u v)) known = refl
+along_same m r q same orders x y (Some (Prev p u v)) known = refl
+along_same m r q same orders x y (Some (CumulIn f w lo hi)) known = refl
+along_same m r q same orders x y (Some (AlwaysEqual g u v i j)) known = refl
+along_same m r q same orders x y (Some (AlwaysNoState g u)) known = refl
+
+edge_same : (m : Data) (r q : Region) → AreAsPresent r q → SameOrders m r q → (i : ArcName) → edge_of m r i ≡ edge_of m q i
+edge_same m r q same orders i =
     rw (
+      along_same m r q same orders (itv i.y) (itv i.z) (slice_get m.constraints i.x) (disjunctive_at m i.x),
       at_same (forth r) (forth q) (forth_same r q same) (slice_get m.constraints i.x),
       at_same (back r) (back q) (back_same r q same) (slice_get m.constraints i.x),
       same.presence (itv i.x),
@@ -74,15 +113,15 @@ passes_same : {X : Type 0} (f g : X → Bool) → ((x : X) → f x ≡ g x) → 
 passes_same f g same None p e = ap (passes g) e
 passes_same f g same (Some x) p e = same x ∙ ap (passes g) e
 
-goes_same : (m : Data) (r q : Region) → AreAsPresent r q → (begin at : ℕ) (sum : ℤ) (is : List ArcName) → goes_on m r begin at sum is ≡ goes_on m q begin at sum is
-goes_same m r q same begin at sum [] = refl
-goes_same m r q same begin at sum (i ∷ is) = passes_same (λ e. nat_eq at e.tail && goes_on m r begin e.head (sum +ℤ e.weight) is) (λ e. nat_eq at e.tail && goes_on m q begin e.head (sum +ℤ e.weight) is)
-    (λ e. ap (λ b. nat_eq at e.tail && b) (goes_same m r q same begin e.head (sum +ℤ e.weight) is)) (edge_of m r i) (edge_of m q i) (edge_same m r q same i)
+goes_same : (m : Data) (r q : Region) → AreAsPresent r q → SameOrders m r q → (begin at : ℕ) (sum : ℤ) (is : List ArcName) → goes_on m r begin at sum is ≡ goes_on m q begin at sum is
+goes_same m r q same orders begin at sum [] = refl
+goes_same m r q same orders begin at sum (i ∷ is) = passes_same (λ e. nat_eq at e.tail && goes_on m r begin e.head (sum +ℤ e.weight) is) (λ e. nat_eq at e.tail && goes_on m q begin e.head (sum +ℤ e.weight) is)
+    (λ e. ap (λ b. nat_eq at e.tail && b) (goes_same m r q same orders begin e.head (sum +ℤ e.weight) is)) (edge_of m r i) (edge_of m q i) (edge_same m r q same orders i)
 
-pub closes_same : (m : Data) (r q : Region) → AreAsPresent r q → (is : List ArcName) → closes m r is ≡ closes m q is
-closes_same m r q same [] = refl
-closes_same m r q same (i ∷ is) = passes_same (λ e. goes_on m r e.tail e.head e.weight is) (λ e. goes_on m q e.tail e.head e.weight is)
-    (λ e. goes_same m r q same e.tail e.head e.weight is) (edge_of m r i) (edge_of m q i) (edge_same m r q same i)
+pub closes_same : (m : Data) (r q : Region) → AreAsPresent r q → SameOrders m r q → (is : List ArcName) → closes m r is ≡ closes m q is
+closes_same m r q same orders [] = refl
+closes_same m r q same orders (i ∷ is) = passes_same (λ e. goes_on m r e.tail e.head e.weight is) (λ e. goes_on m q e.tail e.head e.weight is)
+    (λ e. goes_same m r q same orders e.tail e.head e.weight is) (edge_of m r i) (edge_of m q i) (edge_same m r q same orders i)
 
 -- regions of one model with the same presence cells
 pub as_present_from_cells : (m : Data) (r q : Region) → IsRegionOf m r → IsRegionOf m q → ((x : Itv) → (bounds_of r x).presence ≡ (bounds_of q x).presence) → AreAsPresent r q
@@ -119,5 +158,6 @@ as_present_from_cells m r q of also same = record {
         let there : bounds_of q x ≡ unknown = get_or_past q.bounds x.0 unknown (omega (arith, past, placewise-length is_narrowed m.intervals q.bounds also.bounds)) in
         (ap (λ (c : Bounds). c.pmin) (here ∙ sym there), ap (λ (c : Bounds). c.pmax) (here ∙ sym there))
 
-pub cycle_alike : (m : Data) (l k : Seen) (arcs : List ArcName) → IsRegionOf m l.region → IsRegionOf m k.region → ((x : Itv) → (bounds_of l.region x).presence ≡ (bounds_of k.region x).presence) → cycle_row m l arcs ≡ cycle_row m k arcs
-cycle_alike m l k arcs of also same = ap (λ b. nat_le (length arcs) 4000 && b) (closes_same m l.region k.region (as_present_from_cells m l.region k.region of also same) arcs)
+pub cycle_alike : (m : Data) (l k : Seen) (arcs : List ArcName) → IsRegionOf m l.region → IsRegionOf m k.region → ((x : Itv) → (bounds_of l.region x).presence ≡ (bounds_of k.region x).presence) → SameOrders m l.region k.region
+    → cycle_row m l arcs ≡ cycle_row m k arcs
+cycle_alike m l k arcs of also same orders = ap (λ b. nat_le (length arcs) 4000 && b) (closes_same m l.region k.region (as_present_from_cells m l.region k.region of also same) orders arcs)

@@ -1,5 +1,5 @@
 -- Why a sum of weights fits a number of 128 bits: each is of magnitude at most 2^62, and a walk has at most 4,000 arcs.
-use Rattle.std.specs.Prelude.{◌≡◌, ℕ, suc, ◌*◌, ◌^◌, ◌<◌, ◌≤◌, ℤ, pos, neg_ℤ, ◌+ℤ◌, ◌-ℤ◌, ◌≤ℤ◌, true, false, ◌&&◌, List, [], ◌∷◌, length, Option, Some, None, option_and_then, slice_get, nat_eq, int_le}
+use Rattle.std.specs.Prelude.{◌≡◌, ℕ, suc, ◌*◌, ◌^◌, ◌<◌, ◌≤◌, ℤ, pos, neg_ℤ, ◌+ℤ◌, ◌-ℤ◌, ◌≤ℤ◌, Bool, true, false, ◌&&◌, List, [], ◌∷◌, length, Option, Some, None, option_and_then, slice_get, nat_eq, int_le, if◌then◌else◌}
 use Rattle.std.proofs.Common.{refl, sym, subst, arith, get_or}
 use Rattle.std.proofs.lemmas.Int.{ints}
 use Rattle.std.proofs.lemmas.Option.{slice_get-get_or}
@@ -8,9 +8,9 @@ use Rattle.sched_base.specs.declared.ids.Itv.{Itv}
 use Rattle.sched_model.specs.declared.types.End.TheVariants.{Start, Finish}
 use Rattle.sched_model.specs.declared.types.IntervalDef.{IntervalDef}
 use Rattle.sched_model.specs.declared.types.Constraint.{Constraint}
-use Rattle.sched_model.specs.declared.types.Constraint.TheVariants.{Temporal}
+use Rattle.sched_model.specs.declared.types.Constraint.TheVariants.{Temporal, NoOverlap}
 use Rattle.sched_model.specs.Words.{total}
-use Rattle.sched_model.specs.Data.{Data}
+use Rattle.sched_model.specs.Data.{Data, gap}
 use Rattle.sched_model.specs.Valid.{IsValid, is_constraint, is_itv, is_small, is_span_of_moments, is_interval_def}
 use Rattle.region.specs.Cells.{Region, bounds_of, unknown, is_there}
 use Rattle.region.specs.Looks.{IsRegionOf, is_narrowed}
@@ -18,8 +18,10 @@ use Rattle.region.specs.laws.Lists.{both_true, placewise-length, placewise-at}
 use Rattle.region.specs.laws.Standing.{least_is, greatest_is}
 use Rattle.refute_basic.specs.declared.edge.Arc.{Arc as Edge}
 use Rattle.refute_basic.specs.declared.arc_name.ArcName.{ArcName}
-use Rattle.refute_basic.specs.Cycle.{edge, itv, forth, back, longer, shorter, edge_of}
+use Rattle.refute_basic.specs.Standing.{stand}
+use Rattle.refute_basic.specs.Cycle.{edge, itv, forth, back, longer, shorter, along, edge_of}
 use Rattle.region.specs.laws.Present.{there_within}
+use Rattle.refute_basic.specs.laws.Gaps.{small_gap}
 use Rattle.refute_basic.specs.laws.Cycle.{chosen, either, no_edge}
 
 -- the distance of a precedence is small, and so are sizes
@@ -50,7 +52,9 @@ sizes_at m r x valid of there =
 
 pub weight_small : (m : Data) (r : Region) (i : ArcName) (e : Edge) → IsValid m → IsRegionOf m r → edge_of m r i ≡ Some e → is_small e.weight ≡ true
 weight_small m r i e valid of is =
-    either (nat_eq i.z 0) _ _ e
+    either (nat_eq i.kind 3) _ _ e
+    (λ h. of_some (along m r (itv i.y) (itv i.z)) e (slice_get m.constraints i.x) (λ c. is_constraint m c ≡ true) known h (by_along (itv i.y) (itv i.z)))
+    (either (nat_eq i.z 0) _ _ e
     (either (nat_eq i.kind 0) _ _ e
     (either (nat_eq i.y 0) _ _ e
     (λ h. of_some (forth r) e (slice_get m.constraints i.x) (λ c. is_constraint m c ≡ true) known h by_forth)
@@ -58,7 +62,7 @@ weight_small m r i e valid of is =
     (either (nat_eq i.y 0) _ _ e
     (either (nat_eq i.kind 1) _ _ e by_longer (either (nat_eq i.kind 2) _ _ e by_shorter (no_edge e)))
     (no_edge e)))
-    (no_edge e) is
+    (no_edge e)) is
   where
     known : (c : Constraint) → slice_get m.constraints i.x ≡ Some c → is_constraint m c ≡ true
     known c at = all_at (is_constraint m) m.constraints i.x c valid.constraints at
@@ -74,6 +78,15 @@ weight_small m r i e valid of is =
     by_back (Temporal from to equal x y z) fit h =
         weighs (edge to y (pos 0 -ℤ z) from x) (chosen (equal && is_there r x && is_there r y) (edge to y (pos 0 -ℤ z) from x) e h).1 (minus_small z (both_true (is_itv m x && is_itv m y) (is_small z) fit).1)
     by_back c fit h = no_edge e h
+
+    by_along : (x y : Itv) (c : Constraint) → is_constraint m c ≡ true → along m r x y c ≡ Some e → is_small e.weight ≡ true
+    by_along x y (NoOverlap p matrix direct) fit h =
+        weighs (edge Finish x (if direct then pos 0 else gap m p matrix x y) Start y) (chosen (stand r p x y) (edge Finish x (if direct then pos 0 else gap m p matrix x y) Start y) e h).1 (small direct)
+      where
+        small : (d : Bool) → is_small (if d then pos 0 else gap m p matrix x y) ≡ true
+        small true = refl
+        small false = small_gap m p matrix x y valid
+    by_along x y c fit h = no_edge e h
 
     by_longer : longer r (itv i.x) ≡ Some e → is_small e.weight ≡ true
     by_longer h =

@@ -10,43 +10,16 @@ use Rattle.sched_model.specs.declared.types.Constraint.{Constraint}
 use Rattle.sched_model.specs.declared.types.Constraint.TheVariants as constraint
 use Rattle.sched_model.specs.Words.{◌implies◌, passes}
 use Rattle.sched_model.specs.Data.{Data, same, has, members_of}
-use Rattle.region.specs.Orders.{known_order, order_in, says_forward}
-use Rattle.region.specs.Cells.{Region, bounds_of, cells_of, is_there, says_present, says_absent}
+use Rattle.region.specs.Cells.{Region, bounds_of, says_absent}
 use Rattle.region.specs.Looks.{Seen, lst_in, ect_in, lst_of, ect_of}
 use Rattle.region.specs.laws.OneSequence.{same_self}
+pub use Rattle.refute_basic.specs.laws.Alike.{SamePresence, SameOrder, SameTwo, precedes_alike, stand_alike}
 use Rattle.refute_seq.specs.Standing.{precedes, stand, is_away, is_aside, are_next}
 use Rattle.refute_seq.specs.Pair.{pair_case, pair_of, pair_row}
 use Rattle.refute_seq.specs.Triple.{are_in_circle, triple_row}
 
--- the same is known of the presence of an interval, or of the order of two, in two regions
-abbrev pub SamePresence : Region → Region → Itv → Type 0
-SamePresence r q x = (bounds_of r x).presence ≡ (bounds_of q x).presence
-
-abbrev pub SameOrder : Region → Region → Seq → Itv → Itv → Type 0
-SameOrder r q p x y = order_in (cells_of r p) x y ≡ order_in (cells_of q p) x y
-
-there_alike : (r q : Region) (x : Itv) → SamePresence r q x → is_there r x ≡ is_there q x
-there_alike r q x h = ap says_present h
-
 away_alike : (r q : Region) (x : Itv) → SamePresence r q x → is_away r x ≡ is_away q x
 away_alike r q x h = ap says_absent h
-
-forward_is : (b c : Bool) → b ≡ says_forward (known_order b c)
-forward_is true c = refl
-forward_is false true = refl
-forward_is false false = refl
-
-precedes_alike : (r q : Region) (p : Seq) (x y : Itv) → SameOrder r q p x y → precedes r p x y ≡ precedes q p x y
-precedes_alike r q p x y h = forward_is (precedes r p x y) (precedes r p y x) ∙ ap says_forward h ∙ sym (forward_is (precedes q p x y) (precedes q p y x))
-
--- two members are as present, and stand alike
-pub record SameTwo (r q : Region) (p : Seq) (x y : Itv) : Type 0 where
-  pub first : SamePresence r q x
-  pub second : SamePresence r q y
-  pub order : SameOrder r q p x y
-
-stand_alike : (r q : Region) (p : Seq) (x y : Itv) → SameTwo r q p x y → stand r p x y ≡ stand q p x y
-stand_alike r q p x y h = rw (there_alike r q x h.first, there_alike r q y h.second, precedes_alike r q p x y h.order) refl
 
 circle_alike : (r q : Region) (p : Seq) (x y z : Itv) → SameTwo r q p x y → SameTwo r q p y z → SameTwo r q p z x → are_in_circle r p x y z ≡ are_in_circle q p x y z
 circle_alike r q p x y z f g h = rw (stand_alike r q p x y f, stand_alike r q p y z g, stand_alike r q p z x h) refl

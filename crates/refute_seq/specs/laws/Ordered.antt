@@ -52,7 +52,7 @@ one_way_at cs i j a b = decided (nat_lt i j) (nat_lt j i) (cell_at cs i j) (cell
     decided false true c Backward h k x y = cc
     decided false false c d h k x y = cc
 
-one_way : (s : SequenceCells) (x y : Itv) → is_before s x y ≡ true → is_before s y x ≡ true → ⊥
+pub one_way : (s : SequenceCells) (x y : Itv) → is_before s x y ≡ true → is_before s y x ≡ true → ⊥
 one_way s x y h k = one_way_at s.cells (place_of s.members x) (place_of s.members y) h k
 
 -- a settled look at a region of a valid model of which no witness refutes
@@ -101,15 +101,18 @@ is_row m l p ok =
     (once_kept (is_there l.region) (cells_of l.region p).members (subst (λ xs. pairwise differ xs ≡ true) (sym (members_are m l.region p ok.of)) (members_once m p ok.valid)))
     (each_all (λ y. list_all (differ y) []) ms (λ x here. refl))
 
-has_settled : (r : Region) (p : Seq) (x : Itv) → has (settled_order r (cells_of r p)) x ≡ (has (cells_of r p).members x && is_there r x)
-has_settled r p x = has_ordered (precedes r p) [] (present r p) x ∙ nothing_else (has (present r p) x) ∙ has_kept (is_there r) (cells_of r p).members x
+pub has_settled_in : (r : Region) (s : SequenceCells) (x : Itv) → has (settled_order r s) x ≡ (has s.members x && is_there r x)
+has_settled_in r s x = has_ordered (is_before s) [] (filter (is_there r) s.members) x ∙ nothing_else (has (filter (is_there r) s.members) x) ∙ has_kept (is_there r) s.members x
   where
     nothing_else : (b : Bool) → (b || false) ≡ b
     nothing_else true = refl
     nothing_else false = refl
 
+pub has_settled : (r : Region) (p : Seq) (x : Itv) → has (settled_order r (cells_of r p)) x ≡ (has (cells_of r p).members x && is_there r x)
+has_settled r p x = has_settled_in r (cells_of r p) x
+
 -- which an assignment with that order lists, as the region allows
-settled_lists : (m : Data) (l : Seen) (a : Assignment) (p : Seq) → IsSettledLook m l → IsSettledTo m l.region a → Lists (cells_of l.region p).members a (settled_order l.region (cells_of l.region p))
+pub settled_lists : (m : Data) (l : Seen) (a : Assignment) (p : Seq) → IsSettledLook m l → IsSettledTo m l.region a → Lists (cells_of l.region p).members a (settled_order l.region (cells_of l.region p))
 settled_lists m l a p ok to = record {
   once = (is_row m l p ok).once;
   members = λ x here. let two = both_true (has ms x) (is_there l.region x) (sym (has_settled l.region p x) ∙ here) in (two.0, shows x two.0 ∙ two.1);
@@ -122,7 +125,7 @@ settled_lists m l a p ok to = record {
     shows : (x : Itv) → has ms x ≡ true → is_present a x ≡ is_there l.region x
     shows x here = (pinned m l.region a x to (member_is m p x ok.valid (subst (λ xs. has xs x ≡ true) (members_are m l.region p ok.of) here))).there
 
-settled_allows : (m : Data) (l : Seen) (p : Seq) → IsSettledLook m l → allows_order (cells_of l.region p) (settled_order l.region (cells_of l.region p)) ≡ true
+pub settled_allows : (m : Data) (l : Seen) (p : Seq) → IsSettledLook m l → allows_order (cells_of l.region p) (settled_order l.region (cells_of l.region p)) ≡ true
 settled_allows m l p ok =
     let s = cells_of l.region p in
     let xs = settled_order l.region s in

@@ -1,8 +1,8 @@
 -- Members that take their places one after the other stand in a row, where of each two one stands before the other and no
 -- three stand in a circle.
-use Rattle.std.specs.Prelude.{◌≡◌, ◌⊎◌, Bool, true, false, ◌&&◌, ◌||◌, List, [], ◌∷◌, if◌then◌else◌}
+use Rattle.std.specs.Prelude.{◌≡◌, ◌⊎◌, ◌+◌, ◌≤◌, length, Bool, true, false, ◌&&◌, ◌||◌, List, [], ◌∷◌, if◌then◌else◌}
 use Rattle.std.specs.List.{list_all, filter}
-use Rattle.std.proofs.Common.{refl, sym, subst, ap, ◌∙◌, inl, inr}
+use Rattle.std.proofs.Common.{refl, sym, subst, ap, ◌∙◌, inl, inr, arith}
 use Rattle.std.proofs.lemmas.Bool.{both_ways, not-true, not_from_false}
 use Rattle.base_laws.specs.laws.Kept.{filter_yes, filter_no, all_filter}
 use Rattle.sched_base.specs.declared.ids.Itv.{Itv}
@@ -143,3 +143,27 @@ once_kept t (y ∷ ys) once = let two = both_true (list_all (differ y) ys) (pair
     decided : (b : Bool) → t y ≡ b → list_all (differ y) ys ≡ true → pairwise differ (filter t ys) ≡ true → pairwise differ (filter t (y ∷ ys)) ≡ true
     decided true is first rest = ap (pairwise differ) (filter_yes t y ys is) ∙ true_both (list_all (differ y) (filter t ys)) (pairwise differ (filter t ys)) (all_filter (differ y) t ys first) rest
     decided false is first rest = ap (pairwise differ) (filter_no t y ys is) ∙ rest
+
+-- each takes one place
+placed_length : (before : Itv → Itv → Bool) (x : Itv) (ys : List Itv) → length (placed before x ys) ≡ 1 + length ys
+placed_length before x [] = omega arith
+placed_length before x (y ∷ ys) = decided (before x y) (placed_length before x ys)
+  where
+    decided : (b : Bool) → length (placed before x ys) ≡ 1 + length ys → length (if b then x ∷ y ∷ ys else y ∷ placed before x ys) ≡ 1 + length (y ∷ ys)
+    decided true h = omega arith
+    decided false h = omega (arith, h)
+
+ordered_length : (before : Itv → Itv → Bool) (xs ys : List Itv) → length (ordered_from before xs ys) ≡ length xs + length ys
+ordered_length before xs [] = omega arith
+ordered_length before xs (y ∷ ys) = omega (arith, ordered_length before (placed before y xs) ys, placed_length before y xs)
+
+kept_fewer : {X : Type 0} (p : X → Bool) (xs : List X) → length (filter p xs) ≤ length xs
+kept_fewer p [] = omega arith
+kept_fewer p (x ∷ xs) = decided (p x) refl (kept_fewer p xs)
+  where
+    decided : (b : Bool) → p x ≡ b → length (filter p xs) ≤ length xs → length (filter p (x ∷ xs)) ≤ length (x ∷ xs)
+    decided true is h = omega (arith, ap length (filter_yes p x xs is), h)
+    decided false is h = omega (arith, ap length (filter_no p x xs is), h)
+
+pub ordered_few : (before : Itv → Itv → Bool) (p : Itv → Bool) (ms : List Itv) → length (ordered_from before [] (filter p ms)) ≤ length ms
+ordered_few before p ms = omega (arith, ordered_length before [] (filter p ms), kept_fewer p ms)

@@ -1,5 +1,5 @@
 //! The distances between members of a sequence, by their places.
-ghost use Rattle.std.specs.Prelude.{◌≡◌, ◌+ℤ◌, int_lt};
+ghost use Rattle.std.specs.Prelude.{◌≡◌};
 ghost use Rattle.sched_model.specs.Data.{gap, members_of, type_of, types_of};
 ghost use Rattle.region.specs.Looks.{IsRegionOf};
 
@@ -47,11 +47,4 @@ pub fn gap(model: &Model, look: &Look<'_>, p: Seq, matrix: Option<Mat>, x: Itv, 
     let from = type_of(model, look, p, x);
     let to = type_of(model, look, p, y);
     distance(model, matrix, u64::from(from), u64::from(to))
-}
-
-/// Whether a moment with a distance is later than another moment.
-pub fn is_late(first: i64, d: i64, second: i64) -> bool
-    ensures { result ≡ int_lt second (first +ℤ d) }
-{
-    i128::from(second) < i128::from(first) + i128::from(d)
 }
