@@ -2,3 +2,4 @@ pub mod Apart
 pub mod Places
 pub mod Two
 pub mod Finding
+pub mod Relating

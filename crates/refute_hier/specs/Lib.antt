@@ -3,7 +3,9 @@ pub mod Parts
 pub mod Span
 pub mod Alt
 pub mod Sync
+pub mod SeqRel
 pub mod Hier
 pub mod Listed
 pub mod Rows
+pub mod Related
 pub mod laws

@@ -5,8 +5,11 @@ pub mod Past
 pub mod Span
 pub mod Alt
 pub mod Sync
+pub mod Standing
+pub mod SeqRel
 pub mod Sound
 pub mod Rows
 pub mod Families
 pub mod Parts
 pub mod Settled
+pub mod Relations

@@ -1,4 +1,5 @@
 use crate::alt::alt;
+use crate::seqrel::seqrel;
 use crate::span::span;
 use crate::sync::sync;
 use crate::witness::HierWitness;
@@ -22,6 +23,7 @@ impl Refuter for Hier {
             HierWitness::Span { c, r, i } => span(model, look, c, r, i),
             HierWitness::Alt { c, r, i, j } => alt(model, look, c, r, i, j),
             HierWitness::Sync { c, i } => sync(model, look, c, i),
+            HierWitness::SeqRel { c, x } => seqrel(model, look, c, x),
         }
     }
 

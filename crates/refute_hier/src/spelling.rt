@@ -15,6 +15,8 @@ const ALT: i64 = 1;
 
 const SYNC: i64 = 2;
 
+const SEQREL: i64 = 3;
+
 impl Numbers for HierWitness {
     ghost use Rattle.refute_hier.specs.Witness.{numbers_of, is_valid};
     ghost use Rattle.refute_hier.specs.laws.Spelling.{few_numbers, small_numbers, told_apart};
@@ -30,6 +32,7 @@ impl Numbers for HierWitness {
                 is_number(c) && is_number(r) && is_number(i) && is_number(j)
             }
             HierWitness::Sync { c, i } => is_number(c) && is_number(i),
+            HierWitness::SeqRel { c, x } => is_number(c) && is_number(x),
         }
     }
 
@@ -43,6 +46,7 @@ impl Numbers for HierWitness {
                 j: _,
             } => 5,
             HierWitness::Sync { c: _, i: _ } => 3,
+            HierWitness::SeqRel { c: _, x: _ } => 3,
         }
     }
 
@@ -65,6 +69,11 @@ impl Numbers for HierWitness {
                 0 => SYNC,
                 1 => i64::from(c),
                 _ => i64::from(i),
+            },
+            HierWitness::SeqRel { c, x } => match n {
+                0 => SEQREL,
+                1 => i64::from(c),
+                _ => i64::from(x),
             },
         }
     }
@@ -128,6 +137,16 @@ fn sync(c: i64, i: i64) -> Option<HierWitness>
     })
 }
 
+fn seqrel(c: i64, x: i64) -> Option<HierWitness>
+    ensures some { IfSome result (λ w. (numbers_of w ≡ pos 3 ∷ c ∷ x ∷ []) × IsTrue (is_valid w)) }
+    ensures none { IfNone result ((w : HierWitness) → IsTrue (is_valid w) → numbers_of w ≡ pos 3 ∷ c ∷ x ∷ [] → ⊥) }
+{
+    Some(HierWitness::SeqRel {
+        c: small(c)?,
+        x: small(x)?,
+    })
+}
+
 /// The valid witness with these numbers.
 fn read(list: &[i64]) -> Option<HierWitness>
     ensures some { IfSome result (λ w. (numbers_of w ≡ list.now) × IsTrue (is_valid w)) }
@@ -137,6 +156,7 @@ fn read(list: &[i64]) -> Option<HierWitness>
         [SPAN, c, r, i] => span(*c, *r, *i),
         [ALT, c, r, i, j] => alt(*c, *r, *i, *j),
         [SYNC, c, i] => sync(*c, *i),
+        [SEQREL, c, x] => seqrel(*c, *x),
         _ => None,
     }
 }

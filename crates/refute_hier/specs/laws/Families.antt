@@ -1,4 +1,4 @@
--- The witnesses of one constraint refute a look exactly where one of its rows does, and a constraint of another kind has none.
+-- The witnesses of one constraint refute a look exactly where one of its rows does, and those of another kind at most SEQREL.
 use Rattle.std.specs.Prelude.{◌≡◌, ℕ, Bool, true, false, List, Some, slice_get}
 use Rattle.std.proofs.Common.{refl, sym, ap, ◌∙◌}
 use Rattle.std.proofs.lemmas.Bool.{true≢false}
@@ -17,6 +17,7 @@ use Rattle.refute_hier.specs.Witness.{is_valid, constraint_of}
 use Rattle.refute_hier.specs.Span.{span_of}
 use Rattle.refute_hier.specs.Alt.{alt_of}
 use Rattle.refute_hier.specs.Sync.{sync_of}
+use Rattle.refute_hier.specs.SeqRel.{seqrel_of}
 use Rattle.refute_hier.specs.Hier.{refutes, row_of}
 use Rattle.refute_hier.specs.Rows.{as_constraint, is_family, some_refutes, IsWitness}
 use Rattle.refute_hier.specs.laws.Rows.{row_is, some_if_row}
@@ -36,8 +37,8 @@ none_refutes m l kind a bs c w is names none = by_case (refutes m l w) refl
 pub witness_refutes : (m : Data) (l : Seen) (kind : Kind) (a : Itv) (bs : List Itv) (c : ℕ) (w : HierWitness) → slice_get m.constraints c ≡ Some (as_constraint kind a bs) → IsWitness kind l.region a bs c w → refutes m l w ≡ true
 witness_refutes m l kind a bs c w is one = true_both (is_valid w) (row_of m l w) one.valid (row_is m l kind a bs c w is one.constraint ∙ one.row)
 
--- a constraint that is none on an interval and its parts has no witness
-no_span : (r : Region) (k i : ℕ) (d : Constraint) → is_family d ≡ false → span_of r k i d ≡ false
+-- a constraint that is none on an interval and its parts has no witness of these kinds
+pub no_span : (r : Region) (k i : ℕ) (d : Constraint) → is_family d ≡ false → span_of r k i d ≡ false
 no_span r k i (constraint.Span a bs) h = cc
 no_span r k i (constraint.Alternative a bs) h = cc
 no_span r k i (constraint.Synchronize a bs) h = cc
@@ -52,7 +53,7 @@ no_span r k i (constraint.CumulIn f w lo hi) h = refl
 no_span r k i (constraint.AlwaysEqual g x v p q) h = refl
 no_span r k i (constraint.AlwaysNoState g x) h = refl
 
-no_alt : (r : Region) (k i j : ℕ) (d : Constraint) → is_family d ≡ false → alt_of r k i j d ≡ false
+pub no_alt : (r : Region) (k i j : ℕ) (d : Constraint) → is_family d ≡ false → alt_of r k i j d ≡ false
 no_alt r k i j (constraint.Span a bs) h = cc
 no_alt r k i j (constraint.Alternative a bs) h = cc
 no_alt r k i j (constraint.Synchronize a bs) h = cc
@@ -67,7 +68,7 @@ no_alt r k i j (constraint.CumulIn f w lo hi) h = refl
 no_alt r k i j (constraint.AlwaysEqual g x v p q) h = refl
 no_alt r k i j (constraint.AlwaysNoState g x) h = refl
 
-no_sync : (r : Region) (i : ℕ) (d : Constraint) → is_family d ≡ false → sync_of r i d ≡ false
+pub no_sync : (r : Region) (i : ℕ) (d : Constraint) → is_family d ≡ false → sync_of r i d ≡ false
 no_sync r i (constraint.Span a bs) h = cc
 no_sync r i (constraint.Alternative a bs) h = cc
 no_sync r i (constraint.Synchronize a bs) h = cc
@@ -82,10 +83,12 @@ no_sync r i (constraint.CumulIn f w lo hi) h = refl
 no_sync r i (constraint.AlwaysEqual g x v p q) h = refl
 no_sync r i (constraint.AlwaysNoState g x) h = refl
 
-no_row : (m : Data) (l : Seen) (d : Constraint) (w : HierWitness) → slice_get m.constraints (constraint_of w) ≡ Some d → is_family d ≡ false → row_of m l w ≡ false
-no_row m l d (witness.Span n k i) is none = ap (passes (span_of l.region k i)) is ∙ no_span l.region k i d none
-no_row m l d (witness.Alt n k i j) is none = ap (passes (alt_of l.region k i j)) is ∙ no_alt l.region k i j d none
-no_row m l d (witness.Sync n i) is none = ap (passes (sync_of l.region i)) is ∙ no_sync l.region i d none
+no_row : (m : Data) (l : Seen) (d : Constraint) (w : HierWitness) → slice_get m.constraints (constraint_of w) ≡ Some d → is_family d ≡ false → ((x : Itv) → seqrel_of l.region x d ≡ false) → row_of m l w ≡ false
+no_row m l d (witness.Span n k i) is none nobody = ap (passes (span_of l.region k i)) is ∙ no_span l.region k i d none
+no_row m l d (witness.Alt n k i j) is none nobody = ap (passes (alt_of l.region k i j)) is ∙ no_alt l.region k i j d none
+no_row m l d (witness.Sync n i) is none nobody = ap (passes (sync_of l.region i)) is ∙ no_sync l.region i d none
+no_row m l d (witness.SeqRel n x) is none nobody = ap (passes (seqrel_of l.region (record { 0 = x }))) is ∙ nobody (record { 0 = x })
 
-pub other_refutes : (m : Data) (l : Seen) (d : Constraint) (w : HierWitness) → slice_get m.constraints (constraint_of w) ≡ Some d → is_family d ≡ false → refutes m l w ≡ false
-other_refutes m l d w is none = never_both (is_valid w) (row_of m l w) (no_row m l d w is none)
+-- nor has it one where no member stands where it has nobody
+pub other_refutes : (m : Data) (l : Seen) (d : Constraint) (w : HierWitness) → slice_get m.constraints (constraint_of w) ≡ Some d → is_family d ≡ false → ((x : Itv) → seqrel_of l.region x d ≡ false) → refutes m l w ≡ false
+other_refutes m l d w is none nobody = never_both (is_valid w) (row_of m l w) (no_row m l d w is none nobody)

@@ -22,6 +22,7 @@ use Rattle.refute_hier.specs.Parts.{plays_in, is_there, is_away, at_part, some_p
 use Rattle.refute_hier.specs.Span.{span_case, span_of}
 use Rattle.refute_hier.specs.Alt.{are_two, alt_case, alt_of}
 use Rattle.refute_hier.specs.Sync.{sync_case, sync_of}
+use Rattle.refute_hier.specs.SeqRel.{seqrel_of}
 use Rattle.refute_hier.specs.Hier.{row_of}
 use Rattle.region.specs.laws.Found.{never}
 use Rattle.refute_hier.specs.laws.Filtered.{chosen}
@@ -47,6 +48,16 @@ sync_shape r i Span a bs c = refl
 sync_shape r i Alternative a bs c = refl
 sync_shape r i Synchronize a bs c = refl
 
+seqrel_shape : (r : Region) (x : Itv) (kind : Kind) (a : Itv) (bs : List Itv) → seqrel_of r x (as_constraint kind a bs) ≡ false
+seqrel_shape r x Span a bs = refl
+seqrel_shape r x Alternative a bs = refl
+seqrel_shape r x Synchronize a bs = refl
+
+no_relation : (kind : Kind) (r : Region) (a : Itv) (bs : List Itv) (c x : ℕ) → family_row kind r a bs (witness.SeqRel c x) ≡ false
+no_relation Span r a bs c x = refl
+no_relation Alternative r a bs c x = refl
+no_relation Synchronize r a bs c x = refl
+
 pub row_is : (m : Data) (l : Seen) (kind : Kind) (a : Itv) (bs : List Itv) (c : ℕ) (w : HierWitness) → slice_get m.constraints c ≡ Some (as_constraint kind a bs) → constraint_of w ≡ c → row_of m l w ≡ family_row kind l.region a bs w
 row_is m l kind a bs c (witness.Span n k i) is names =
     ap (λ d. passes (span_of l.region k i) (slice_get m.constraints d)) names ∙ ap (passes (span_of l.region k i)) is ∙ span_shape l.region k i kind a bs n
@@ -54,6 +65,9 @@ row_is m l kind a bs c (witness.Alt n k i j) is names =
     ap (λ d. passes (alt_of l.region k i j) (slice_get m.constraints d)) names ∙ ap (passes (alt_of l.region k i j)) is ∙ alt_shape l.region k i j kind a bs n
 row_is m l kind a bs c (witness.Sync n i) is names =
     ap (λ d. passes (sync_of l.region i) (slice_get m.constraints d)) names ∙ ap (passes (sync_of l.region i)) is ∙ sync_shape l.region i kind a bs n
+row_is m l kind a bs c (witness.SeqRel n x) is names =
+    ap (λ d. passes (seqrel_of l.region (record { 0 = x })) (slice_get m.constraints d)) names ∙ ap (passes (seqrel_of l.region (record { 0 = x }))) is ∙ seqrel_shape l.region (record { 0 = x }) kind a bs
+    ∙ sym (no_relation kind l.region a bs n x)
 
 -- what passes at a place makes some pass, and two places that pass are two
 some_at : {X : Type 0} (test : X → Bool) (xs : List X) (i : ℕ) → passes test (slice_get xs i) ≡ true → list_any test xs ≡ true
@@ -204,12 +218,15 @@ pub some_if_row : (kind : Kind) (r : Region) (a : Itv) (bs : List Itv) (w : Hier
 some_if_row Span r a bs (witness.Span c k i) h = span_some r k i a bs h
 some_if_row Span r a bs (witness.Alt c k i j) h = never h
 some_if_row Span r a bs (witness.Sync c i) h = never h
+some_if_row Span r a bs (witness.SeqRel c x) h = never h
 some_if_row Alternative r a bs (witness.Span c k i) h = never h
 some_if_row Alternative r a bs (witness.Alt c k i j) h = alt_some r k i j a bs h
 some_if_row Alternative r a bs (witness.Sync c i) h = never h
+some_if_row Alternative r a bs (witness.SeqRel c x) h = never h
 some_if_row Synchronize r a bs (witness.Span c k i) h = never h
 some_if_row Synchronize r a bs (witness.Alt c k i j) h = never h
 some_if_row Synchronize r a bs (witness.Sync c i) h = sync_some r i a bs h
+some_if_row Synchronize r a bs (witness.SeqRel c x) h = never h
 
 -- and where some part is something, one at a place is
 pub record Place {X : Type 0} (test : X → Bool) (xs : List X) : Type 0 where

@@ -37,6 +37,7 @@ use Rattle.refute_hier.specs.laws.Families.{witness_refutes}
 use Rattle.refute_hier.specs.laws.Parts.{is_one}
 use Rattle.region.specs.laws.Pinned.{IsSettledTo, Pinned, pinned}
 use Rattle.sched_model.specs.laws.Words.{if_implied}
+use Rattle.base_laws.specs.laws.Items.{all_listed}
 use Rattle.base_laws.specs.laws.Truth.{other_fails, not_away}
 
 -- an interval of the model and its parts, in an assignment that a settled region leaves
@@ -281,10 +282,6 @@ broken_refuted m l a c d valid to is of broken = elim (holds_or_refuted m l a c 
 -- the same of all constraints: of other kinds this says nothing
 abbrev pub keeps_family : Data → Assignment → Constraint → Bool
 keeps_family m a d = is_family d implies holds m a d
-
-all_listed : {X : Type 0} (test : X → Bool) (xs : List X) → ((n : ℕ) (x : X) → slice_get xs n ≡ Some x → test x ≡ true) → list_all test xs ≡ true
-all_listed test [] each = refl
-all_listed test (x ∷ xs) each = true_both (test x) (list_all test xs) (each 0 x refl) (all_listed test xs (λ n y is. each (suc n) y is))
 
 pub all_unrefuted_hold : (m : Data) (l : Seen) (a : Assignment) → IsValid m → IsSettledTo m l.region a → ((w : HierWitness) → refutes m l w ≡ false) → list_all (keeps_family m a) m.constraints ≡ true
 all_unrefuted_hold m l a valid to none = all_listed (keeps_family m a) m.constraints (λ c d is. if_implied (is_family d) (holds m a d) (λ of. unrefuted_holds m l a c d valid to none is of))

@@ -8,16 +8,18 @@ use Rattle.sched_model.specs.Valid.{IsValid}
 use Rattle.region.specs.Cells.{Region}
 use Rattle.region.specs.Looks.{Seen, IsRegionOf, HasNone}
 use Rattle.refute_hier.specs.declared.witness.HierWitness.{HierWitness}
-use Rattle.refute_hier.specs.declared.witness.HierWitness.TheVariants.{Span, Alt, Sync}
+use Rattle.refute_hier.specs.declared.witness.HierWitness.TheVariants.{Span, Alt, Sync, SeqRel}
 use Rattle.refute_hier.specs.Witness.{is_valid}
 use Rattle.refute_hier.specs.Span.{span_of}
 use Rattle.refute_hier.specs.Alt.{alt_of}
 use Rattle.refute_hier.specs.Sync.{sync_of}
+use Rattle.refute_hier.specs.SeqRel.{seqrel_of}
 use Rattle.refute_hier.specs.Hier.{refutes, row_of}
 use Rattle.region.specs.laws.Found.{Never, never, by_constraint}
 use Rattle.refute_hier.specs.laws.Span.{span_never}
 use Rattle.refute_hier.specs.laws.Alt.{alt_never}
 use Rattle.refute_hier.specs.laws.Sync.{sync_never}
+use Rattle.refute_hier.specs.laws.SeqRel.{seqrel_one}
 
 span_one : (m : Data) (r : Region) (k i : ℕ) (d : Constraint) → span_of r k i d ≡ true → Never m r d
 span_one m r k i (constraint.Span x parts) h a ok holds = span_never m r a k i x parts ok holds h
@@ -68,3 +70,4 @@ pub sound_law : (m : Data) (l : Seen) (w : HierWitness) → IsValid m → IsRegi
 sound_law m l (Span c k i) valid of h = by_constraint m l c (span_of l.region k i) of (span_one m l.region k i) (and_parts (is_valid (Span c k i)) (row_of m l (Span c k i)) h).1
 sound_law m l (Alt c k i j) valid of h = by_constraint m l c (alt_of l.region k i j) of (alt_one m l.region k i j) (and_parts (is_valid (Alt c k i j)) (row_of m l (Alt c k i j)) h).1
 sound_law m l (Sync c i) valid of h = by_constraint m l c (sync_of l.region i) of (sync_one m l.region i) (and_parts (is_valid (Sync c i)) (row_of m l (Sync c i)) h).1
+sound_law m l (SeqRel c x) valid of h = by_constraint m l c (seqrel_of l.region (record { 0 = x })) of (seqrel_one m l.region (record { 0 = x })) (and_parts (is_valid (SeqRel c x)) (row_of m l (SeqRel c x)) h).1

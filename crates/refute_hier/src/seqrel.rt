@@ -1,0 +1,103 @@
+//! SEQREL: relations of the members of a sequence.
+ghost use Rattle.std.specs.Prelude.{◌≡◌, false, IfSome, IfNone};
+ghost use Rattle.sched_model.specs.Data.{members_of};
+ghost use Rattle.region.specs.Looks.{IsRegionOf};
+ghost use Rattle.refute_hier.specs.SeqRel.{stand, seqrel_of, seqrel_row, related_in};
+ghost use Rattle.refute_hier.specs.Related.{IsRelated};
+
+use crate::parts::shows_present;
+use crate::witness::HierWitness;
+use region::{Look, OrderCell};
+use sched_base::{Itv, Seq, at};
+use sched_model::{Constraint, Model};
+
+/// Whether two members are present, and the first is told to stand before the second.
+fn stand(look: &Look<'_>, p: Seq, x: Itv, y: Itv) -> bool
+    ensures { result ≡ stand look.now.region p x y }
+{
+    shows_present(look, x) && shows_present(look, y) && look.order(p, x, y) == OrderCell::Forward
+}
+
+/// Whether a member stands where the relation has nobody.
+pub fn seqrel_of(look: &Look<'_>, x: Itv, relation: &Constraint) -> bool
+    ensures { result ≡ seqrel_of look.now.region x relation.now }
+{
+    match relation {
+        Constraint::First { p, a } => stand(look, *p, x, *a),
+        Constraint::Last { p, a } => stand(look, *p, *a, x),
+        Constraint::Before { p, a, b } => x.0 == b.0 && stand(look, *p, *b, *a),
+        Constraint::Prev { p, a, b } => {
+            (x.0 == b.0 && stand(look, *p, *b, *a))
+                || (stand(look, *p, *a, x) && stand(look, *p, x, *b))
+        }
+        _ => false,
+    }
+}
+
+/// Whether SEQREL refutes the look, in constant time.
+pub fn seqrel(model: &Model, look: &Look<'_>, c: u32, x: u32) -> bool
+    ensures { result ≡ seqrel_row model.now look.now c x }
+{
+    match at(model.constraints(), c as usize) {
+        Some(relation) => seqrel_of(look, Itv(x), relation),
+        None => false,
+    }
+}
+
+/// The sequence of a relation of its members.
+pub fn related_in(constraint: &Constraint) -> Option<Seq>
+    ensures { result ≡ related_in constraint.now }
+{
+    match constraint {
+        Constraint::First { p, a: _ } => Some(*p),
+        Constraint::Last { p, a: _ } => Some(*p),
+        Constraint::Before { p, a: _, b: _ } => Some(*p),
+        Constraint::Prev { p, a: _, b: _ } => Some(*p),
+        _ => None,
+    }
+}
+
+/// The members of a sequence, and none where there is no such sequence.
+pub fn members_of(model: &Model, p: Seq) -> &[Itv]
+    ensures { result.now ≡ members_of model.now p }
+{
+    match model.sequences().get(p.0 as usize) {
+        None => &[],
+        Some(d) => d.members.as_slice(),
+    }
+}
+
+/// The witness that names a member, where this stands where the relation has nobody.
+#[tactic(auto, using(crate::proofs::Relating::found_one))]
+fn witness_at(look: &Look<'_>, relation: &Constraint, x: Itv, c: u32) -> Option<HierWitness>
+    ensures some { IfSome result (IsRelated look.now.region relation.now c) }
+    ensures none { IfNone result (seqrel_of look.now.region x relation.now ≡ false) }
+{
+    if seqrel_of(look, x, relation) {
+        return Some(HierWitness::SeqRel { c, x: x.0 });
+    }
+    None
+}
+
+/// A member that stands where the relation has nobody, as a witness of constraint `c`, which is this
+/// relation; none exactly where there is none. It looks at each member once.
+#[tactic(auto, using(crate::proofs::Relating::none_so_far, crate::proofs::Relating::none_at_all, crate::proofs::Relating::no_relation))]
+pub fn find_related(
+    model: &Model,
+    look: &Look<'_>,
+    relation: &Constraint,
+    c: u32,
+) -> Option<HierWitness>
+    requires { IsRegionOf model.now look.now.region }
+    ensures some { IfSome result (IsRelated look.now.region relation.now c) }
+    ensures none { IfNone result ((x : Itv) → seqrel_of look.now.region x relation.now ≡ false) }
+{
+    let p = related_in(relation)?;
+    let members = members_of(model, p);
+    for i in 0..members.len() {
+        if let Some(w) = witness_at(look, relation, members[i], c) {
+            return Some(w);
+        }
+    }
+    None
+}
