@@ -32,7 +32,7 @@ abbrev pub basic_kinds : List Bytes
 basic_kinds = codes "SIZE" ∷ codes "ARC" ∷ codes "CYCLE" ∷ codes "EXPR" ∷ codes "OBJ" ∷ codes "LEAF" ∷ []
 
 abbrev pub hier_kinds : List Bytes
-hier_kinds = codes "SPAN" ∷ codes "ALT" ∷ codes "SYNC" ∷ []
+hier_kinds = codes "SPAN" ∷ codes "ALT" ∷ codes "SYNC" ∷ codes "SEQREL" ∷ []
 
 abbrev pub seq_kinds : List Bytes
 seq_kinds = codes "PAIR" ∷ codes "TRIPLE" ∷ []

@@ -8,7 +8,7 @@ ghost use Rattle.logtext.specs.Reads.{FindsWord};
 const BASIC: [&[u8]; 6] = [b"SIZE", b"ARC", b"CYCLE", b"EXPR", b"OBJ", b"LEAF"];
 
 /// The words of the kinds in `refute_hier`, by their places there.
-const HIER: [&[u8]; 3] = [b"SPAN", b"ALT", b"SYNC"];
+const HIER: [&[u8]; 4] = [b"SPAN", b"ALT", b"SYNC", b"SEQREL"];
 
 /// The words of the kinds in `refute_seq`, by their places there.
 const SEQ: [&[u8]; 2] = [b"PAIR", b"TRIPLE"];
@@ -45,7 +45,7 @@ pub fn hier_place(word: &[u8]) -> Option<usize>
 
 /// The word of the kind at a place in `refute_hier`.
 pub fn hier_word(place: usize) -> &'static [u8]
-    requires { place < 3 }
+    requires { place < 4 }
     ensures { result.now ≡ get_or hier_kinds place [] }
 {
     HIER[place]

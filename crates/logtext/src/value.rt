@@ -4,10 +4,8 @@ ghost use Rattle.kernel.specs.Fit.{is_count, is_id};
 ghost use Rattle.logtext.specs.Reads.{Takes, count_words, id_words, moment_words, bound_words, is_fit_bound, pair_words, is_fit_pair};
 
 use sched_base::{Itv, Seq};
+use sched_model::is_small;
 use textline::{Words, read_count, read_number};
-
-/// The bound on moments, 2^62.
-const MOMENT_LIMIT: i64 = 4_611_686_018_427_387_904;
 
 /// Whether a word is this one.
 pub fn is(word: &[u8], other: &[u8]) -> bool
@@ -40,12 +38,6 @@ pub fn take_id(words: &mut Words<'_>) -> Option<Itv>
     Some(Itv(n))
 }
 
-fn is_moment(t: i64) -> bool
-    ensures { result ≡ is_small t }
-{
-    -MOMENT_LIMIT <= t && t <= MOMENT_LIMIT
-}
-
 /// Takes a moment of magnitude at most 2^62.
 pub fn take_moment(words: &mut Words<'_>) -> Option<i64>
     ensures { Takes moment_words is_small words.old words.new result }
@@ -54,7 +46,7 @@ pub fn take_moment(words: &mut Words<'_>) -> Option<i64>
     let Some(t) = read_number(word) else {
         return None;
     };
-    if is_moment(t) {
+    if is_small(t) {
         return Some(t);
     }
     None

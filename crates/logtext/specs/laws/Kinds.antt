@@ -13,7 +13,7 @@ use Rattle.refute_basic.specs.declared.witness.BasicWitness.{BasicWitness}
 use Rattle.refute_basic.specs.declared.witness.BasicWitness.TheVariants.{Size, Arc, Cycle, Expr, Obj, Leaf}
 use Rattle.refute_basic.specs.Witness.{numbers_of}
 use Rattle.refute_hier.specs.declared.witness.HierWitness.{HierWitness}
-use Rattle.refute_hier.specs.declared.witness.HierWitness.TheVariants.{Span, Alt, Sync}
+use Rattle.refute_hier.specs.declared.witness.HierWitness.TheVariants.{Span, Alt, Sync, SeqRel}
 use Rattle.refute_hier.specs.Witness.{numbers_of as hier_numbers}
 use Rattle.refute_seq.specs.declared.witness.SeqWitness.{SeqWitness}
 use Rattle.refute_seq.specs.declared.witness.SeqWitness.TheVariants.{Pair, Triple}
@@ -75,6 +75,7 @@ pub hier_placed : (w : HierWitness) → is_placed hier_kinds (hier_numbers w) �
 hier_placed (Span c r i) = refl
 hier_placed (Alt c r i j) = refl
 hier_placed (Sync c i) = refl
+hier_placed (SeqRel c x) = refl
 
 pub seq_placed : (w : SeqWitness) → is_placed seq_kinds (seq_numbers w) ≡ true
 seq_placed (Pair c a b k) = refl
@@ -117,12 +118,12 @@ abbrev pub low_of : {W : Type 0} → Witness W → ℕ
 low_of (Extra w) = 0
 low_of (Basic w) = 1
 low_of (Hier w) = 7
-low_of (Seq w) = 10
+low_of (Seq w) = 11
 
 abbrev pub many_of : {W : Type 0} → Witness W → ℕ
 many_of (Extra w) = 1
 many_of (Basic w) = 6
-many_of (Hier w) = 3
+many_of (Hier w) = 4
 many_of (Seq w) = 2
 
 -- so a witness begins with one of them
@@ -138,7 +139,7 @@ basic_word k within = get_or-append-add (codes "EXTRA" ∷ []) (basic_kinds ++ (
 hier_word : (k : ℕ) → k < length hier_kinds → get_or first_words (7 + k) [] ≡ get_or hier_kinds k []
 hier_word k within = get_or-append-add (codes "EXTRA" ∷ basic_kinds) (hier_kinds ++ seq_kinds) k [] ∙ get_or-append hier_kinds seq_kinds [] k within
 
-seq_word : (k : ℕ) → get_or first_words (10 + k) [] ≡ get_or seq_kinds k []
+seq_word : (k : ℕ) → get_or first_words (11 + k) [] ≡ get_or seq_kinds k []
 seq_word k = get_or-append-add (codes "EXTRA" ∷ (basic_kinds ++ hier_kinds)) seq_kinds k []
 
 basic_begins : {W : Type 0} (numbers : W → List ℤ) (w : BasicWitness) (zs : List ℤ) → numbers_of w ≡ zs → is_placed basic_kinds zs ≡ true → Begins numbers (Basic w)
@@ -152,7 +153,7 @@ hier_begins : {W : Type 0} (numbers : W → List ℤ) (w : HierWitness) (zs : Li
 hier_begins numbers w [] is placed = cc
 hier_begins numbers w (negsuc k ∷ zs) is placed = cc
 hier_begins numbers w (pos k ∷ zs) is placed =
-    let within : k < 3 = grind (arith, nat_tests) in
+    let within : k < 4 = grind (arith, nat_tests) in
     record { place = k; others = map signed_decimal zs; within = within; first = ap (kind_words hier_kinds) is ∙ ap (λ v. v ∷ map signed_decimal zs) (sym (hier_word k within)) }
 
 seq_begins : {W : Type 0} (numbers : W → List ℤ) (w : SeqWitness) (zs : List ℤ) → seq_numbers w ≡ zs → is_placed seq_kinds zs ≡ true → Begins numbers (Seq w)
@@ -200,16 +201,16 @@ no_hier numbers (Extra w) k us other within e =
     let same = same_place_from numbers (Extra w) (7 + k) us (omega (arith, within)) (ap (λ v. v ∷ us) (hier_word k within) ∙ e) in
     let few = (begins numbers (Extra w)).within in absurd (omega (arith, same, few))
 
-pub no_seq : {W : Type 0} (numbers : W → List ℤ) (w : Witness W) (k : ℕ) (us : List Bytes) → (low_of w ≡ 10 → ⊥) → k < length seq_kinds → get_or seq_kinds k [] ∷ us ≡ witness_words numbers w → ⊥
+pub no_seq : {W : Type 0} (numbers : W → List ℤ) (w : Witness W) (k : ℕ) (us : List Bytes) → (low_of w ≡ 11 → ⊥) → k < length seq_kinds → get_or seq_kinds k [] ∷ us ≡ witness_words numbers w → ⊥
 no_seq numbers (Seq w) k us other within e = other refl
 no_seq numbers (Basic w) k us other within e =
-    let same = same_place_from numbers (Basic w) (10 + k) us (omega (arith, within)) (ap (λ v. v ∷ us) (seq_word k) ∙ e) in
+    let same = same_place_from numbers (Basic w) (11 + k) us (omega (arith, within)) (ap (λ v. v ∷ us) (seq_word k) ∙ e) in
     let few = (begins numbers (Basic w)).within in absurd (omega (arith, same, few))
 no_seq numbers (Hier w) k us other within e =
-    let same = same_place_from numbers (Hier w) (10 + k) us (omega (arith, within)) (ap (λ v. v ∷ us) (seq_word k) ∙ e) in
+    let same = same_place_from numbers (Hier w) (11 + k) us (omega (arith, within)) (ap (λ v. v ∷ us) (seq_word k) ∙ e) in
     let few = (begins numbers (Hier w)).within in absurd (omega (arith, same, few))
 no_seq numbers (Extra w) k us other within e =
-    let same = same_place_from numbers (Extra w) (10 + k) us (omega (arith, within)) (ap (λ v. v ∷ us) (seq_word k) ∙ e) in
+    let same = same_place_from numbers (Extra w) (11 + k) us (omega (arith, within)) (ap (λ v. v ∷ us) (seq_word k) ∙ e) in
     let few = (begins numbers (Extra w)).within in absurd (omega (arith, same, few))
 
 pub no_extra : {W : Type 0} (numbers : W → List ℤ) (w : Witness W) (us : List Bytes) → (low_of w ≡ 0 → ⊥) → codes "EXTRA" ∷ us ≡ witness_words numbers w → ⊥

@@ -16,7 +16,7 @@ number-place-requires g c = some_number hier_kinds (hier_numbers c.args.w.now) (
 pub hier_word-requires : goal.hier_word-requires
 hier_word-requires g c =
     let there = kind_place hier_kinds (hier_numbers c.args.w.now) c.number-place.result (hier_placed c.args.w.now) c.number-place.ensures in
-    let fits : SFits w64 c.number-place.result = search rules in subst (λ z. nat_abs z < 3) (sym (to_z-of_z w64 c.number-place.result fits ∙ there.1)) there.2
+    let fits : SFits w64 c.number-place.result = search rules in subst (λ z. nat_abs z < 4) (sym (to_z-of_z w64 c.number-place.result fits ∙ there.1)) there.2
 
 pub returns : goal.returns
 returns g c =
