@@ -2,3 +2,5 @@ pub mod Making
 pub mod Asked
 pub mod Counting
 pub mod Members
+pub mod Presences
+pub mod Silence

@@ -1,16 +1,17 @@
-//! What is found of the constraint of a family.
+//! What is found of a constraint.
 ghost use Rattle.std.specs.Prelude.{◌≡◌, ◌∷◌, [], IfNone, IfSome, slice_get};
 ghost use Rattle.region.specs.Looks.{IsRegionOf};
 ghost use Rattle.findings.specs.Found.{IsFound, IsFinding};
 ghost use Rattle.findings.specs.Reads.{AreUnrefuted};
 ghost use Rattle.refute_hier.specs.Hier.{refutes};
-ghost use Rattle.refute_hier.specs.Listed.{family_of};
 ghost use Rattle.prop_hier.specs.Rows.{refutes_under};
 ghost use Rattle.prop_hier.specs.Ready.{AreParts};
+ghost use Rattle.prop_hier.specs.Tables.{intervals_of};
 ghost use Rattle.prop_hier.specs.Tasks.{quiet};
 
 use crate::counts::count_parts;
 use crate::member_test::MemberTest;
+use crate::relations::ask_relation;
 use findings::{Finding, ask_by};
 use refute_hier::{Family, HierWitness, as_family, find_witness};
 use region::{Guess, Region};
@@ -47,8 +48,8 @@ pub fn ask_family<'a>(
     None
 }
 
-/// What the witnesses of a constraint find; nothing where it is none on an interval and its parts,
-/// which are listed together.
+/// What the witnesses of a constraint find; nothing where it is neither one on an interval and its
+/// parts, which are listed together, nor a relation of the members of a sequence, which are listed.
 pub fn ask_constraint(
     model: &Model,
     region: &Region,
@@ -57,13 +58,15 @@ pub fn ask_constraint(
     members: &[Itv],
 ) -> Option<Finding<HierWitness>>
     requires of { IsRegionOf model.now region.now.region }
-    requires members { members.now ≡ family_of (slice_get model.now.constraints c) }
+    requires members { members.now ≡ intervals_of model.now (slice_get model.now.constraints c) }
     ensures none { IfNone result (quiet model.now c region.now.region best) }
     ensures some { IfSome result (IsFinding refutes model.now region.now.region best) }
     ensures busy { IfSome result (λ f. quiet model.now c region.now.region best → ⊥) }
 {
     let constraint = at(model.constraints(), c as usize)?;
-    let family = as_family(constraint)?;
+    let Some(family) = as_family(constraint) else {
+        return ask_relation(model, region, best, constraint, c, members);
+    };
     let guess = ask_family(region, &family, members)?;
     let witness = find_witness(&region.look(guess, best), &family, c)?;
     Some(Finding { guess, witness })

@@ -1,10 +1,14 @@
 //! Propagators of spans, alternatives and synchronizations: one for each constraint on an interval
-//! and its parts.
+//! and its parts; and one for each relation of the members of a sequence.
 #![tactic(auto)]
 
 mod asking;
 mod counts;
 mod member_test;
+mod possible;
+mod relations;
 mod table;
+mod watch;
 
 pub use table::PropHier;
+pub use watch::Watch;

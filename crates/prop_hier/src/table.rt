@@ -1,28 +1,32 @@
 //! The propagators of a model.
-ghost use Rattle.std.specs.Prelude.{◌≡◌, ◌<◌, length, Some, slice_get, IsTrue, IfOk, IfNone, IfSome};
+ghost use Rattle.std.specs.Prelude.{◌≡◌, ◌<◌, true, length, Some, slice_get, nat_eq, IsTrue, IfOk, IfNone, IfSome};
+ghost use Rattle.std.specs.List.{list_any};
+ghost use Rattle.sched_base.specs.declared.ids.Itv.{Itv as Itvs};
+ghost use Rattle.sched_base.specs.declared.ids.Seq.{Seq as Seqs};
 ghost use Rattle.sched_model.specs.Data.{Data, has};
 ghost use Rattle.region.specs.declared.types.CellName.{CellName as CellNames};
+ghost use Rattle.region.specs.declared.types.CellName.TheVariants as cell;
 ghost use Rattle.region.specs.Looks.{IsRegionOf};
 ghost use Rattle.findings.specs.Found.{IsFinding};
 ghost use Rattle.refute_hier.specs.Hier.{refutes};
-ghost use Rattle.refute_hier.specs.Listed.{family_of};
-ghost use Rattle.prop_hier.specs.Tables.{IsFor, ListEach};
-ghost use Rattle.prop_hier.specs.Tasks.{size_of, quiet, watching, watching_best, is_cell_of};
+ghost use Rattle.prop_hier.specs.Tables.{IsFor, watch_of};
+ghost use Rattle.prop_hier.specs.Tasks.{size_of, quiet, watching, watching_best, is_bound, is_cell_of};
 
 use crate::asking::ask_constraint;
+use crate::watch::{Watch, watch_each};
 use findings::Finding;
-use refute_hier::{HierWitness, as_family};
+use refute_hier::HierWitness;
 use region::{CellName, Region};
-use sched_base::{Itv, List, NoMemory};
-use sched_model::{Constraint, Model};
+use sched_base::{Itv, NoMemory, Seq};
+use sched_model::Model;
 use std::alloc::Global;
 
 /// One propagator for each constraint, which is quiet where the constraint is no span, alternative or
-/// synchronization.
+/// synchronization, and no relation of the members of a sequence.
 #[derive(Debug, Drop)]
 pub struct PropHier {
-    /// The interval of each constraint and its parts.
-    members: Vec<List<Itv>>,
+    /// What each watches.
+    watches: Vec<Watch>,
 }
 
 impl std::marker::Model for PropHier {
@@ -31,71 +35,26 @@ impl std::marker::Model for PropHier {
 
     ghost Value = { Table };
 
-    ghost view = { λ p. p.members.items };
+    ghost view = { λ p. p.watches.items };
 
-    ghost invariant = { λ p. length p.members.items < 2 ^ 32 };
-}
-
-/// The interval of a constraint and its parts.
-#[tactic(auto, using(crate::proofs::Making::none_of, crate::proofs::Making::all_of))]
-fn members_of(alloc: Global, constraint: &Constraint) -> Result<List<Itv>, NoMemory>
-    ensures { IfOk result (λ v. v ≡ family_of (Some constraint.now)) }
-{
-    let Some(family) = as_family(constraint) else {
-        return Ok(List::new(alloc));
-    };
-    let mut list = Vec::new(alloc);
-    list.push(family.a)?;
-    list.extend_from_slice(family.parts)?;
-    Ok(List::from_vec(list))
-}
-
-#[tactic(auto, using(crate::proofs::Making::list_none, crate::proofs::Making::list_more, crate::proofs::Making::list_all))]
-fn members_each(alloc: Global, constraints: &[Constraint]) -> Result<Vec<List<Itv>>, NoMemory>
-    ensures { IfOk result (λ v. ListEach constraints.now v.items) }
-{
-    let mut lists = Vec::new(alloc);
-    for constraint in constraints {
-        lists.push(members_of(alloc, constraint)?)?;
-    }
-    Ok(lists)
-}
-
-fn has(intervals: &[Itv], x: Itv) -> bool
-    ensures { result ≡ has intervals.now x }
-{
-    intervals.iter().any(|y| x.0 == y.0)
-}
-
-/// Whether the cell is one of these intervals.
-fn is_cell_of(intervals: &[Itv], cell: CellName) -> bool
-    ensures { result ≡ is_cell_of intervals.now cell }
-{
-    match cell {
-        CellName::Presence(x) => has(intervals, x),
-        CellName::StartMin(x) => has(intervals, x),
-        CellName::StartMax(x) => has(intervals, x),
-        CellName::EndMin(x) => has(intervals, x),
-        CellName::EndMax(x) => has(intervals, x),
-        CellName::Order(..) => false,
-    }
+    ghost invariant = { λ p. length p.watches.items < 2 ^ 32 };
 }
 
 impl PropHier {
     /// The propagators of a model. Only this call asks for memory, as much as the model's constraints
-    /// have parts.
+    /// have parts, or their sequences members.
     pub fn new(alloc: Global, model: &Model) -> Result<PropHier, NoMemory>
         ensures { IfOk result (λ p. IsFor p model.now) }
     {
-        let members = members_each(alloc, model.constraints())?;
-        Ok(PropHier { members })
+        let watches = watch_each(alloc, model, model.constraints())?;
+        Ok(PropHier { watches })
     }
 
     /// How many there are.
     pub fn count(&self) -> u32
         ensures { (m : Data) → IsFor self.now m → result ≡ size_of m }
     {
-        self.members.len() as u32
+        self.watches.len() as u32
     }
 
     /// What one of them finds; nothing exactly where it is quiet.
@@ -114,16 +73,43 @@ impl PropHier {
         ensures some { IfSome result (IsFinding refutes model.now region.now.region best) }
         ensures busy { IfSome result (λ f. quiet model.now k region.now.region best → ⊥) }
     {
-        ask_constraint(model, region, best, k, self.watched(k))
+        ask_constraint(model, region, best, k, self.watch(k).intervals.as_slice())
     }
 
-    /// The intervals that have a cell which it watches.
-    pub fn watched(&self, k: u32) -> &[Itv]
+    /// What it watches.
+    fn watch(&self, k: u32) -> &Watch
         requires { (m : Data) × IsFor self.now m × (k < size_of m) }
-        ensures list { (m : Data) → IsFor self.now m → result.now ≡ family_of (slice_get m.constraints k) }
-        ensures cells { (m : Data) → IsFor self.now m → (cell : CellNames) → IsTrue (watching m k cell) → IsTrue (is_cell_of result.now cell) }
+        ensures { (m : Data) → IsFor self.now m → result.now ≡ watch_of m (slice_get m.constraints k) }
     {
-        self.members[k as usize].as_slice()
+        &self.watches[k as usize]
+    }
+
+    /// The intervals whose presence it watches.
+    pub fn watched_presences(&self, k: u32) -> &[Itv]
+        requires { (m : Data) × IsFor self.now m × (k < size_of m) }
+        ensures { (m : Data) → IsFor self.now m → (x : Itvs) → watching m k (cell.Presence x) ≡ has result.now x }
+    {
+        self.watch(k).intervals.as_slice()
+    }
+
+    /// The intervals that have a bound which it watches.
+    pub fn watched_bounds(&self, k: u32) -> &[Itv]
+        requires { (m : Data) × IsFor self.now m × (k < size_of m) }
+        ensures { (m : Data) → IsFor self.now m → (c : CellNames) → is_bound c ≡ true → watching m k c ≡ is_cell_of result.now c }
+    {
+        let watch = self.watch(k);
+        if !watch.sequences.as_slice().is_empty() {
+            return &[];
+        }
+        watch.intervals.as_slice()
+    }
+
+    /// The sequences that have an order which it watches.
+    pub fn watched_orders(&self, k: u32) -> &[Seq]
+        requires { (m : Data) × IsFor self.now m × (k < size_of m) }
+        ensures { (m : Data) → IsFor self.now m → (p : Seqs) (x y : Itvs) → watching m k (cell.Order p x y) ≡ list_any (λ q. nat_eq p.0 q.0) result.now }
+    {
+        self.watch(k).sequences.as_slice()
     }
 
     /// Whether it watches a cell.
@@ -131,7 +117,7 @@ impl PropHier {
         requires { (m : Data) × IsFor self.now m × (k < size_of m) }
         ensures { (m : Data) → IsFor self.now m → result ≡ watching m k cell }
     {
-        is_cell_of(self.watched(k), cell)
+        self.watch(k).watches(cell)
     }
 
     /// Whether it watches the best value.

@@ -1,19 +1,22 @@
 -- The parts of a table, one after the other.
-use Rattle.std.specs.Prelude.{◌≡◌, ℕ, ◌+◌, ◌<◌, Bool, true, false, ◌&&◌, ◌||◌, nat_lt, nat_eq, List, [], ◌∷◌, ◌++◌, length, Some, slice_get}
-use Rattle.std.proofs.Common.{◌≢◌, refl, sym, ap, subst, ◌∙◌, arith, get_or, inl, inr}
+use Rattle.std.specs.Prelude.{◌≡◌, ℕ, ◌+◌, ◌<◌, ◌≤◌, Bool, true, false, ◌&&◌, ◌||◌, nat_lt, nat_eq, List, [], ◌∷◌, ◌++◌, length, Some, slice_get}
+use Rattle.std.specs.List.{list_any}
+use Rattle.std.proofs.Common.{◌≢◌, refl, sym, ap, subst, ◌∙◌, arith, get_or, inl, inr, take}
 use Rattle.std.proofs.lemmas.Bool.{cases_eq}
 use Rattle.std.proofs.lemmas.Bool.Decides.{nat_tests}
-use Rattle.std.proofs.lemmas.List.{get_or_append_left, length_push}
+use Rattle.std.proofs.lemmas.List.{get_or_append_left, length_push, take_all}
 use Rattle.std.proofs.lemmas.Option.{slice_get_read}
-use Rattle.std.proofs.lemmas.List.Folds.{list_any-append}
+use Rattle.std.proofs.lemmas.List.Folds.{list_any-append, list_any_more}
 use Rattle.sched_base.specs.declared.ids.Itv.{Itv}
+use Rattle.sched_base.specs.declared.ids.Seq.{Seq}
 use Rattle.sched_model.specs.declared.types.IntervalDef.{IntervalDef}
 use Rattle.sched_model.specs.declared.types.Constraint.{Constraint}
 use Rattle.sched_model.specs.Words.{passes}
 use Rattle.sched_model.specs.Data.{same, has}
 use Rattle.refute_basic.specs.laws.Arc.{ends_of}
-use Rattle.prop_temporal.specs.Tables.{FitEach, AreOptional, ends_at}
-use Rattle.prop_temporal.specs.Tasks.{is_optional}
+use Rattle.refute_basic.specs.Standing.{is_no_overlap}
+use Rattle.prop_temporal.specs.Tables.{FitEach, AreOptional, AreDisjunctive, ends_at}
+use Rattle.prop_temporal.specs.Tasks.{is_optional, has_sequence}
 use Rattle.base_laws.specs.laws.Places.{newest, there}
 
 -- the optional intervals among the first
@@ -122,3 +125,40 @@ fit_more n cs es c e so_far within at fits = record {
 
 pub fit_all : (n : ℕ) (cs : List Constraint) (es : List (List Itv)) → n ≡ length cs → FitBelow n cs es → FitEach cs es
 fit_all n cs es all so_far = record { size = so_far.size ∙ all; each = λ c within. so_far.each c (omega (arith, within, all)) }
+
+-- the sequences without overlap of the first constraints
+pub disjunctive_none : (cs : List Constraint) → AreDisjunctive (take 0 cs) []
+disjunctive_none cs = record { each = λ p. refl }
+
+pub disjunctive_more : (cs : List Constraint) (n : ℕ) (c : Constraint) (ps qs : List Seq) → n < length cs → c ≡ get_or cs n c → AreDisjunctive (take n cs) ps → ((p : Seq) → has_sequence qs p ≡ (has_sequence ps p || is_no_overlap p c)) → AreDisjunctive (take (n + 1) cs) qs
+disjunctive_more cs n c ps qs within at so_far noted = record {
+  each = λ p. noted p ∙ ap (λ b. b || is_no_overlap p c) (so_far.each p) ∙ ap (λ d. list_any (is_no_overlap p) (take n cs) || is_no_overlap p d) at ∙ sym (list_any_more (is_no_overlap p) cs n c within);
+}
+
+pub disjunctive_all : (cs : List Constraint) (n : ℕ) (ps : List Seq) → length cs ≤ n → AreDisjunctive (take n cs) ps → AreDisjunctive cs ps
+disjunctive_all cs n ps past so_far = subst (λ ds. AreDisjunctive ds ps) (take_all n cs past) so_far
+
+-- one constraint adds its sequence, if it isn't there yet
+or_none : (b : Bool) → b ≡ (b || false)
+or_none true = refl
+or_none false = refl
+
+pub noted_there : (ps : List Seq) (q p : Seq) → has_sequence ps q ≡ true → has_sequence ps p ≡ (has_sequence ps p || nat_eq p.0 q.0)
+noted_there ps q p there = by_case (nat_eq p.0 q.0) refl
+  where
+    same : (i j : ℕ) → nat_eq i j ≡ true → i ≡ j
+    same i j h = grind (arith, nat_tests)
+
+    absorbed : (b : Bool) → b ≡ true → b ≡ (b || true)
+    absorbed true h = refl
+    absorbed false h = cc
+
+    by_case : (b : Bool) → nat_eq p.0 q.0 ≡ b → has_sequence ps p ≡ (has_sequence ps p || b)
+    by_case true is = absorbed (has_sequence ps p) (ap (λ n. list_any (λ z. nat_eq n z.0) ps) (same p.0 q.0 is) ∙ there)
+    by_case false is = or_none (has_sequence ps p)
+
+pub noted_last : (ps : List Seq) (q p : Seq) → has_sequence (ps ++ q ∷ []) p ≡ (has_sequence ps p || nat_eq p.0 q.0)
+noted_last ps q p = list_any-append (λ z. nat_eq p.0 z.0) ps (q ∷ []) ∙ ap (λ b. has_sequence ps p || b) (sym (or_none (nat_eq p.0 q.0)))
+
+pub noted_none : (ps : List Seq) (p : Seq) → has_sequence ps p ≡ (has_sequence ps p || false)
+noted_none ps p = or_none (has_sequence ps p)

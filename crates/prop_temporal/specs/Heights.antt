@@ -8,8 +8,8 @@ use Rattle.cycles.specs.Walks.{arc_at}
 use Rattle.refute_basic.specs.declared.edge.Arc.{Arc as Edge}
 use Rattle.refute_basic.specs.declared.arc_name.ArcName.{ArcName}
 use Rattle.refute_basic.specs.Cycle.{edge_of}
-use Rattle.refute_basic.specs.laws.Arc.{ends_of}
-use Rattle.prop_temporal.specs.Shown.{Shown, HasTried}
+use Rattle.prop_temporal.specs.Members.{touched_by}
+use Rattle.prop_temporal.specs.Shown.{Shown, HasTried, OfConstraint, OfOne}
 
 abbrev pub height_in : List ℤ → ℕ → ℤ
 height_in hs p = get_or hs p (pos 0)
@@ -21,17 +21,17 @@ height_with hs x start end p = if nat_eq p (2 * x) then start else if nat_eq p (
 abbrev pub AllKeep : (ℕ → ℤ) → List Edge → Type 0
 AllKeep h arcs = (k : ℕ) → k < length arcs → ((arc_at arcs k).weight +ℤ h (arc_at arcs k).head) ≤ℤ h (arc_at arcs k).tail
 
--- the constraints that name each interval
+-- the constraints between whose intervals each interval is
 abbrev pub is_touched : List (List ℕ) → ℕ → ℕ → Bool
 is_touched ts x c = list_any (λ k. nat_eq c k) (get_or ts x [])
 
 pub record AreTouched (m : Data) (ts : List (List ℕ)) : Type 0 where
   pub size : length ts ≡ length m.intervals
-  pub each : (x : Itv) (c : ℕ) → x.0 < length m.intervals → has (ends_of (slice_get m.constraints c)) x ≡ true → is_touched ts x.0 c ≡ true
+  pub each : (x : Itv) (c : ℕ) → x.0 < length m.intervals → has (touched_by m (slice_get m.constraints c)) x ≡ true → is_touched ts x.0 c ≡ true
 
 -- the names of the arcs of one interval
 abbrev pub IsOwn : ℕ → List ℕ → ArcName → Type 0
-IsOwn x cs i = ((i.kind ≡ 0) × (list_any (λ k. nat_eq i.x k) cs ≡ true)) ⊎ ((i.kind ≡ 0 → ⊥) × (i.x ≡ x))
+IsOwn x cs i = (OfOne x i × (list_any (λ k. nat_eq i.x k) cs ≡ true)) ⊎ ((OfConstraint i → ⊥) × (i.x ≡ x))
 
 -- along each of them the height falls
 pub record OwnKeep (m : Data) (r : Region) (x : ℕ) (cs : List ℕ) (hs : List ℤ) : Type 0 where

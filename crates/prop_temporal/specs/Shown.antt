@@ -1,13 +1,14 @@
 -- The names of arcs that a propagator tries, and the arcs that a look shows of them.
-use Rattle.std.specs.Prelude.{◌≡◌, ◌⊎◌, ℕ, ◌*◌, ◌<◌, true, List, length, get_or, Some}
-use Rattle.sched_model.specs.Data.{Data}
+use Rattle.std.specs.Prelude.{◌≡◌, ◌⊎◌, ℕ, ◌*◌, ◌<◌, Bool, true, List, length, get_or, Some, if◌then◌else◌}
+use Rattle.sched_base.specs.declared.ids.Itv.{Itv}
+use Rattle.sched_model.specs.Data.{Data, has}
 use Rattle.region.specs.Cells.{Region}
 use Rattle.cycles.specs.Walks.{arc_at}
 use Rattle.cycles.specs.Search.{IsOn}
 use Rattle.refute_basic.specs.declared.edge.Arc.{Arc as Edge}
 use Rattle.refute_basic.specs.declared.arc_name.ArcName.{ArcName}
 use Rattle.refute_basic.specs.Witness.{is_name}
-use Rattle.refute_basic.specs.Cycle.{edge_of}
+use Rattle.refute_basic.specs.Cycle.{itv, edge_of}
 
 -- arcs with their names
 pub record Shown : Type 0 where
@@ -19,6 +20,16 @@ no_name = record { kind = 0; x = 0; y = 0; z = 0 }
 
 abbrev pub name : ℕ → ℕ → ℕ → ArcName
 name kind x y = record { kind = kind; x = x; y = y; z = 0 }
+
+-- of two members of a sequence the one is this, which stands before the other, or behind it
+abbrev pub this_of : Bool → ArcName → ℕ
+this_of behind i = if behind then i.z else i.y
+
+abbrev pub other_of : Bool → ArcName → ℕ
+other_of behind i = if behind then i.y else i.z
+
+abbrev pub member_name : Bool → ℕ → ℕ → ℕ → ArcName
+member_name behind u x y = record { kind = 3; x = u; y = if behind then y else x; z = if behind then x else y }
 
 abbrev pub name_at : List ArcName → ℕ → ArcName
 name_at names k = get_or names k no_name
@@ -36,9 +47,13 @@ pub record AreShown (m : Data) (r : Region) (s : Shown) : Type 0 where
   pub valid : (k : ℕ) → k < length s.arcs → is_name (name_at s.names k) ≡ true
   pub on : (k : ℕ) → k < length s.arcs → IsOn (2 * length r.bounds) (arc_at s.arcs k)
 
+-- an arc of a constraint; the others are of the sizes of an interval
+abbrev pub OfConstraint : ArcName → Type 0
+OfConstraint i = (i.kind ≡ 0) ⊎ (i.kind ≡ 3)
+
 -- the names of the first u constraints, and of the first x intervals
 abbrev pub IsTried : ℕ → ℕ → ArcName → Type 0
-IsTried u x i = ((i.kind ≡ 0) × (i.x < u)) ⊎ ((i.kind ≡ 0 → ⊥) × (i.x < x))
+IsTried u x i = (OfConstraint i × (i.x < u)) ⊎ ((OfConstraint i → ⊥) × (i.x < x))
 
 -- of these names none is missing
 abbrev pub HasTried : Data → Region → ℕ → ℕ → Shown → Type 0
@@ -57,7 +72,30 @@ pub record TriesAll (m : Data) (r : Region) (kind : ArcName → Type 0) (old new
   pub has : (i : ArcName) (e : Edge) → kind i → edge_of m r i ≡ Some e → IsAmong new.arcs e
 
 abbrev pub IsOfConstraint : ℕ → ArcName → Type 0
-IsOfConstraint u i = (i.kind ≡ 0) × (i.x ≡ u)
+IsOfConstraint u i = OfConstraint i × (i.x ≡ u)
 
 abbrev pub IsOfInterval : ℕ → ArcName → Type 0
-IsOfInterval x i = (i.kind ≡ 0 → ⊥) × (i.x ≡ x)
+IsOfInterval x i = (OfConstraint i → ⊥) × (i.x ≡ x)
+
+-- of a constraint the two of a precedence, those of two members, and of these the ones of one member on one side of others
+abbrev pub IsOfPrecedence : ℕ → ArcName → Type 0
+IsOfPrecedence u i = (i.kind ≡ 0) × (i.x ≡ u)
+
+abbrev pub IsOfOrder : ℕ → ArcName → Type 0
+IsOfOrder u i = (i.kind ≡ 3) × (i.x ≡ u)
+
+abbrev pub IsOfOrderFrom : ℕ → List Itv → ArcName → Type 0
+IsOfOrderFrom u xs i = (i.kind ≡ 3) × (i.x ≡ u) × (has xs (itv i.y) ≡ true)
+
+abbrev pub IsOfSide : Bool → ℕ → ℕ → ArcName → Type 0
+IsOfSide behind u x i = (i.kind ≡ 3) × (i.x ≡ u) × (this_of behind i ≡ x)
+
+abbrev pub IsOfSideOf : Bool → ℕ → ℕ → List Itv → ArcName → Type 0
+IsOfSideOf behind u x ys i = (i.kind ≡ 3) × (i.x ≡ u) × (this_of behind i ≡ x) × (has ys (itv (other_of behind i)) ≡ true)
+
+-- of a constraint those of a precedence, and those of one member
+abbrev pub OfOne : ℕ → ArcName → Type 0
+OfOne x i = (i.kind ≡ 0) ⊎ ((i.kind ≡ 3) × ((i.y ≡ x) ⊎ (i.z ≡ x)))
+
+abbrev pub IsOfMember : ℕ → ℕ → ArcName → Type 0
+IsOfMember u x i = OfOne x i × (i.x ≡ u)

@@ -1,6 +1,8 @@
 -- Which witnesses each propagator looks after, what it watches, and when it is quiet.
 use Rattle.std.specs.Prelude.{◌≡◌, ℕ, zero, suc, ◌+◌, ℤ, Bool, true, false, ◌&&◌, List, [], length, Option, IsTrue, slice_get, nat_eq, nat_lt}
 use Rattle.sched_base.specs.declared.ids.Itv.{Itv}
+use Rattle.sched_base.specs.declared.ids.Seq.{Seq}
+use Rattle.std.specs.List.{list_any}
 use Rattle.sched_model.specs.declared.types.IntervalDef.{IntervalDef}
 use Rattle.sched_model.specs.Words.{passes}
 use Rattle.sched_model.specs.Data.{Data}
@@ -14,6 +16,7 @@ use Rattle.findings.specs.Found.{IsQuiet}
 use Rattle.findings.specs.Reads.{Reads, reads_cell}
 use Rattle.refute_basic.specs.declared.witness.BasicWitness.{BasicWitness}
 use Rattle.refute_basic.specs.declared.witness.BasicWitness.TheVariants.{Arc, Cycle}
+use Rattle.refute_basic.specs.Standing.{is_disjunctive}
 use Rattle.refute_basic.specs.Basic.{refutes}
 use Rattle.refute_basic.specs.Listed.{lists}
 use Rattle.refute_basic.specs.laws.Arc.{ends_of}
@@ -42,9 +45,11 @@ reads_of m c = record { intervals = ends_of (slice_get m.constraints c); pairs =
 abbrev pub is_optional : List IntervalDef → Itv → Bool
 is_optional ds x = passes (λ d. d.optional) (slice_get ds x.0)
 
-abbrev pub is_presence : Data → CellName → Bool
-is_presence m (cell.Presence x) = nat_lt x.0 (length m.intervals) && is_optional m.intervals x
-is_presence m _ = false
+-- what walks hang on: these presences, and the orders of the sequences without overlap
+abbrev pub is_of_walks : Data → CellName → Bool
+is_of_walks m (cell.Presence x) = nat_lt x.0 (length m.intervals) && is_optional m.intervals x
+is_of_walks m (cell.Order p x y) = is_disjunctive m p
+is_of_walks m _ = false
 
 -- a bound of an interval
 abbrev pub is_bound : CellName → Bool
@@ -52,9 +57,9 @@ is_bound (cell.Presence x) = false
 is_bound (cell.Order p x y) = false
 is_bound _ = true
 
--- what a propagator watches: 0 presences that are open at the root
+-- what a propagator watches
 abbrev pub watching : Data → ℕ → CellName → Bool
-watching m zero cell = is_presence m cell
+watching m zero cell = is_of_walks m cell
 watching m (suc c) cell = reads_cell (reads_of m c) cell
 
 abbrev pub watching_best : Data → ℕ → Bool
@@ -70,3 +75,7 @@ IsSilent m r best w = (guess : Option Guess) → IsTrue (is_asked (lists m w) r 
 -- a cell of one of these intervals
 abbrev pub is_cell_of : List Itv → CellName → Bool
 is_cell_of xs cell = reads_cell (record { intervals = xs; pairs = []; best = false }) cell
+
+-- the sequence is one of these
+abbrev pub has_sequence : List Seq → Seq → Bool
+has_sequence ps p = list_any (λ q. nat_eq p.0 q.0) ps

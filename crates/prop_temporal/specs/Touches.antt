@@ -2,7 +2,7 @@
 use Rattle.std.specs.Prelude.{◌≡◌, ℕ, ◌<◌, true, List, length, slice_get}
 use Rattle.sched_base.specs.declared.ids.Itv.{Itv}
 use Rattle.sched_model.specs.Data.{Data, has}
-use Rattle.refute_basic.specs.laws.Arc.{ends_of}
+use Rattle.prop_temporal.specs.Members.{touched_by}
 use Rattle.prop_temporal.specs.Heights.{is_touched}
 
 pub record Touches (old new : List (List ℕ)) (ends : List Itv) (c : ℕ) : Type 0 where
@@ -13,4 +13,4 @@ pub record Touches (old new : List (List ℕ)) (ends : List Itv) (c : ℕ) : Typ
 -- the first n constraints have been looked at
 pub record AreTouchedBy (m : Data) (n : ℕ) (ts : List (List ℕ)) : Type 0 where
   pub size : length ts ≡ length m.intervals
-  pub each : (x : Itv) (c : ℕ) → c < n → x.0 < length m.intervals → has (ends_of (slice_get m.constraints c)) x ≡ true → is_touched ts x.0 c ≡ true
+  pub each : (x : Itv) (c : ℕ) → c < n → x.0 < length m.intervals → has (touched_by m (slice_get m.constraints c)) x ≡ true → is_touched ts x.0 c ≡ true

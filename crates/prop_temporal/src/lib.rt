@@ -3,6 +3,7 @@
 
 mod ends;
 mod heights;
+mod members;
 mod shown;
 mod silence;
 mod sources;

@@ -1,13 +1,17 @@
 //! The propagators of a model.
-ghost use Rattle.std.specs.Prelude.{◌≡◌, ◌<◌, ◌^◌, ◌∷◌, [], ℕ, length, map, true, false, Some, IfOk, IfNone, IfSome};
+ghost use Rattle.std.specs.Prelude.{◌≡◌, ◌<◌, ◌^◌, ◌∷◌, [], ℕ, length, map, ◌||◌, true, false, Some, IfOk, IfNone, IfSome, OnOk};
+ghost use Rattle.sched_base.specs.declared.ids.Itv.{Itv as Interval};
+ghost use Rattle.sched_base.specs.declared.ids.Seq.{Seq as Ordered};
 ghost use Rattle.sched_model.specs.Data.{Data, has};
 ghost use Rattle.region.specs.declared.types.CellName.{CellName as CellNames};
+ghost use Rattle.region.specs.declared.types.CellName.TheVariants as cell_of;
 ghost use Rattle.region.specs.Looks.{IsRegionOf};
 ghost use Rattle.findings.specs.Found.{IsFinding};
 ghost use Rattle.refute_basic.specs.Basic.{refutes};
 ghost use Rattle.refute_basic.specs.laws.Arc.{ends_of};
-ghost use Rattle.prop_temporal.specs.Tasks.{size_of, quiet, watching, watching_best, is_cell_of, is_bound, is_presence};
-ghost use Rattle.prop_temporal.specs.Tables.{FitEach, AreOptional, IsFor};
+ghost use Rattle.refute_basic.specs.Standing.{is_no_overlap};
+ghost use Rattle.prop_temporal.specs.Tasks.{size_of, quiet, watching, watching_best, is_cell_of, is_bound, is_of_walks, has_sequence};
+ghost use Rattle.prop_temporal.specs.Tables.{FitEach, AreOptional, AreDisjunctive, IsFor};
 
 use crate::ends::ask_constraint;
 use crate::sources::Sources;
@@ -16,7 +20,7 @@ use crate::walks::Walks;
 use findings::Finding;
 use refute_basic::BasicWitness;
 use region::{CellName, Region};
-use sched_base::{Itv, List, NoMemory};
+use sched_base::{Itv, List, NoMemory, Seq};
 use sched_model::{Constraint, IntervalDef, Model};
 use std::alloc::Global;
 
@@ -25,6 +29,7 @@ use std::alloc::Global;
 #[derive(Drop)]
 pub struct PropTemporal {
     optionals: Vec<Itv>,
+    sequences: Vec<Seq>,
     ends: Vec<List<Itv>>,
     touching: Vec<List<u32>>,
     sources: Sources,
@@ -37,7 +42,7 @@ impl std::marker::Model for PropTemporal {
 
     ghost Value = { Table };
 
-    ghost view = { λ p. record { optionals = p.optionals.items; ends = p.ends.items; touching = p.touching.items } };
+    ghost view = { λ p. record { optionals = p.optionals.items; sequences = p.sequences.items; ends = p.ends.items; touching = p.touching.items } };
 
     ghost invariant = { λ p. length p.ends.items < 2 ^ 31 };
 }
@@ -53,6 +58,36 @@ fn optional_intervals(alloc: Global, intervals: &[IntervalDef]) -> Result<Vec<It
         if intervals[x as usize].optional {
             list.push(Itv(x))?;
         }
+    }
+    Ok(list)
+}
+
+fn has_sequence(sequences: &[Seq], p: Seq) -> bool
+    ensures { result ≡ has_sequence sequences.now p }
+{
+    sequences.iter().any(|q| p.0 == q.0)
+}
+
+/// Adds the sequence that a constraint keeps from overlapping, if there is one that isn't listed yet.
+fn note_sequence(list: &mut Vec<Seq>, constraint: &Constraint) -> Result<(), NoMemory>
+    ensures { OnOk result ((p : Ordered) → has_sequence list.new.items p ≡ (has_sequence list.old.items p || is_no_overlap p constraint.now)) }
+{
+    if let Constraint::NoOverlap { p, .. } = constraint {
+        if !has_sequence(list, *p) {
+            list.push(*p)?;
+        }
+    }
+    Ok(())
+}
+
+/// The sequences without overlap.
+#[tactic(auto, using(crate::proofs::Making::disjunctive_none, crate::proofs::Making::disjunctive_more, crate::proofs::Making::disjunctive_all))]
+fn disjunctive_sequences(alloc: Global, constraints: &[Constraint]) -> Result<Vec<Seq>, NoMemory>
+    ensures { IfOk result (λ v. AreDisjunctive constraints.now v.items) }
+{
+    let mut list = Vec::new(alloc);
+    for constraint in constraints {
+        note_sequence(&mut list, constraint)?;
     }
     Ok(list)
 }
@@ -94,12 +129,13 @@ fn is_cell_of(intervals: &[Itv], cell: CellName) -> bool
     }
 }
 
-/// Whether the cell is the presence of one of these intervals.
-fn is_presence(cell: CellName, optionals: &[Itv]) -> bool
-    ensures { (m : Data) → AreOptional m.intervals (length m.intervals) optionals.now → result ≡ is_presence m cell }
+/// Whether walks hang on the cell, by the optional intervals and the sequences without overlap.
+fn is_of_walks(cell: CellName, optionals: &[Itv], sequences: &[Seq]) -> bool
+    ensures { (m : Data) → AreOptional m.intervals (length m.intervals) optionals.now → AreDisjunctive m.constraints sequences.now → result ≡ is_of_walks m cell }
 {
     match cell {
         CellName::Presence(x) => has(optionals, x),
+        CellName::Order(p, _, _) => has_sequence(sequences, p),
         _ => false,
     }
 }
@@ -116,11 +152,13 @@ impl PropTemporal {
         ensures { IfOk result (λ p. IsFor p model.now) }
     {
         let optionals = optional_intervals(alloc, model.intervals())?;
+        let sequences = disjunctive_sequences(alloc, model.constraints())?;
         let ends = ends_of_all(alloc, model.constraints())?;
         let touching = touching_of(alloc, model, &ends)?;
         let sources = Sources::new(alloc, model)?;
         Ok(PropTemporal {
             optionals,
+            sequences,
             ends,
             touching,
             sources,
@@ -166,7 +204,7 @@ impl PropTemporal {
     /// The intervals whose presence it watches.
     pub fn watched_presences(&self, k: u32) -> &[Itv]
         requires { (m : Data) × IsFor self.now m × (k < size_of m) }
-        ensures { (m : Data) → IsFor self.now m → (cell : CellNames) → is_bound cell ≡ false → watching m k cell ≡ is_cell_of result.now cell }
+        ensures { (m : Data) → IsFor self.now m → (x : Interval) → watching m k (cell_of.Presence x) ≡ is_cell_of result.now (cell_of.Presence x) }
     {
         if k == 0 {
             return &self.optionals;
@@ -185,13 +223,24 @@ impl PropTemporal {
         self.ends[k as usize - 1].as_slice()
     }
 
+    /// The sequences whose orders it watches.
+    pub fn watched_orders(&self, k: u32) -> &[Seq]
+        requires { (m : Data) × IsFor self.now m × (k < size_of m) }
+        ensures { (m : Data) → IsFor self.now m → (p : Ordered) (x y : Interval) → watching m k (cell_of.Order p x y) ≡ has_sequence result.now p }
+    {
+        if k == 0 {
+            return &self.sequences;
+        }
+        &[]
+    }
+
     /// Whether it watches a cell.
     pub fn watches(&self, k: u32, cell: CellName) -> bool
         requires { (m : Data) × IsFor self.now m × (k < size_of m) }
         ensures { (m : Data) → IsFor self.now m → result ≡ watching m k cell }
     {
         if k == 0 {
-            return is_presence(cell, &self.optionals);
+            return is_of_walks(cell, &self.optionals, &self.sequences);
         }
         is_cell_of(self.ends[k as usize - 1].as_slice(), cell)
     }

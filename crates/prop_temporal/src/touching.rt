@@ -1,10 +1,11 @@
-//! Which constraints name each interval.
+//! Which constraints name each interval, or a sequence of which it is a member.
 ghost use Rattle.std.specs.Prelude.{◌≡◌, ◌<◌, ◌++◌, ◌∷◌, [], length, get_or, slice_set, IfOk, OnOk};
 ghost use Rattle.sched_model.specs.Data.{Data};
 ghost use Rattle.prop_temporal.specs.Heights.{AreTouched};
 ghost use Rattle.prop_temporal.specs.Tables.{FitEach};
 ghost use Rattle.prop_temporal.specs.Touches.{Touches, AreTouchedBy};
 
+use crate::members::members_at;
 use sched_base::{Itv, List, NoMemory};
 use sched_model::Model;
 use std::alloc::Global;
@@ -39,7 +40,7 @@ fn untouched(alloc: Global, n: usize) -> Result<Vec<List<u32>>, NoMemory>
     Ok(touching)
 }
 
-/// The constraints that name each interval, from the intervals of each constraint.
+/// The constraints of each interval, from the intervals of each precedence.
 pub fn touching_of(
     alloc: Global,
     model: &Model,
@@ -51,6 +52,7 @@ pub fn touching_of(
     let mut touching = untouched(alloc, model.intervals().len())?;
     for c in 0..model.constraints().len() as u32 {
         touch_all(&mut touching, ends[c as usize].as_slice(), c)?;
+        touch_all(&mut touching, members_at(model, c), c)?;
     }
     Ok(touching)
 }

@@ -106,6 +106,7 @@ fn is_calm_with(
     constraints: &[u32],
     heights: &[i64],
 ) -> Result<bool, NoMemory>
+    requires { IsRegionOf model.now look.now.region }
     ensures { IfOk result (λ b. b ≡ true → OwnKeep model.now look.now.region x constraints.now heights.now) }
 {
     own.fill_of(model, look, x, constraints)?;

@@ -5,7 +5,6 @@ use Rattle.std.proofs.lemmas.Bool.{true≢false, cases_eq}
 use Rattle.std.proofs.lemmas.Bool.Decides.{nat_tests}
 use Rattle.std.proofs.lemmas.List.{get_or_past}
 use Rattle.sched_base.specs.declared.ids.Itv.{Itv}
-use Rattle.sched_model.specs.declared.types.Constraint.{Constraint}
 use Rattle.sched_model.specs.Words.{passes_if_any}
 use Rattle.sched_model.specs.Data.{Data}
 use Rattle.region.specs.declared.types.Presence.{Presence}
@@ -34,14 +33,17 @@ use Rattle.refute_hier.specs.Listed.{family_of, asks_each, asks_present, lists}
 use Rattle.region.specs.laws.Found.{never}
 use Rattle.refute_hier.specs.declared.family.Kind.{Kind}
 use Rattle.refute_hier.specs.declared.family.Kind.TheVariants.{Span, Alternative, Synchronize}
-use Rattle.refute_hier.specs.Rows.{as_constraint, is_family, some_case, some_refutes, IsWitness}
-use Rattle.refute_hier.specs.laws.Families.{none_refutes, witness_refutes, other_refutes}
+use Rattle.refute_hier.specs.Rows.{as_constraint, some_case, some_refutes, IsWitness}
+use Rattle.refute_hier.specs.SeqRel.{related_in}
+use Rattle.refute_hier.specs.laws.Families.{none_refutes, witness_refutes}
+use Rattle.refute_hier.specs.laws.Relations.{unrelated}
 use Rattle.prop_hier.specs.Rows.{refutes_under}
 use Rattle.prop_hier.specs.Tasks.{looks_after, quiet}
 use Rattle.prop_hier.specs.laws.Owners.{owned, owner}
 use Rattle.refute_hier.specs.laws.Rows.{witness_from}
 use Rattle.refute_hier.specs.laws.Parts.{IsFamily}
-use Rattle.prop_hier.specs.laws.Unwatched.{lists_among}
+use Rattle.prop_hier.specs.laws.Related.{none_related}
+use Rattle.prop_hier.specs.laws.Unwatched.{is_of_parts, lists_among}
 use Rattle.base_laws.specs.laws.Items.{any_weaker}
 use Rattle.base_laws.specs.laws.Truth.{fails_before}
 use Rattle.findings.specs.laws.Kept.{asked_more}
@@ -58,20 +60,27 @@ members_of : (m : Data) (c : ℕ) (kind : Kind) (a : Itv) (bs : List Itv) → sl
 members_of m c kind a bs is = ap family_of is ∙ family_is kind a bs
 
 -- the propagator is quiet where no row refutes
-pub quiet_from : (m : Data) (c : ℕ) (r : Region) (best : Option ℤ) (kind : Kind) (a : Itv) (bs : List Itv) → slice_get m.constraints c ≡ Some (as_constraint kind a bs) → Unrefuted kind r a bs → quiet m c r best
-quiet_from m c r best kind a bs is none = record {
-  unrefuted = λ w guess mine asked.
-      let names = sym (owned m c w mine) in
-      let members : family_of (slice_get m.constraints (constraint_of w)) ≡ a ∷ bs = ap (λ n. family_of (slice_get m.constraints n)) names ∙ members_of m c kind a bs is in
-      none_refutes m (seen_at r best guess) kind a bs c w is names
-      (none guess (asked_more (lists m w) (λ g. is_among (a ∷ bs) [] (topic g)) r guess (λ g listed. subst (λ xs. is_among xs [] (topic g) ≡ true) members (lists_among m w g listed)) asked));
-}
+quiet_of_parts : (m : Data) (c : ℕ) (r : Region) (best : Option ℤ) (kind : Kind) (a : Itv) (bs : List Itv) (w : HierWitness) (guess : Option Guess) → slice_get m.constraints c ≡ Some (as_constraint kind a bs) → Unrefuted kind r a bs → is_of_parts w ≡ true → constraint_of w ≡ c
+    → is_asked (lists m w) r guess ≡ true → refutes m (seen_at r best guess) w ≡ false
+quiet_of_parts m c r best kind a bs w guess is none parts names asked =
+    let members : family_of (slice_get m.constraints (constraint_of w)) ≡ a ∷ bs = ap (λ n. family_of (slice_get m.constraints n)) names ∙ members_of m c kind a bs is in
+    none_refutes m (seen_at r best guess) kind a bs c w is names
+    (none guess (asked_more (lists m w) (λ g. is_among (a ∷ bs) [] (topic g)) r guess (λ g listed. subst (λ xs. is_among xs [] (topic g) ≡ true) members (lists_among m w g parts listed)) asked))
 
--- and a constraint that is none on an interval and its parts has no witness
-pub quiet_of_none : (m : Data) (c : ℕ) (r : Region) (best : Option ℤ) (d : Constraint) → slice_get m.constraints c ≡ Some d → is_family d ≡ false → quiet m c r best
-quiet_of_none m c r best d is none = record {
-  unrefuted = λ w guess mine asked. other_refutes m (seen_at r best guess) d w (ap (slice_get m.constraints) (sym (owned m c w mine)) ∙ is) none;
-}
+unrelated_kind : (kind : Kind) (a : Itv) (bs : List Itv) → None ≡ related_in (as_constraint kind a bs)
+unrelated_kind Span a bs = refl
+unrelated_kind Alternative a bs = refl
+unrelated_kind Synchronize a bs = refl
+
+pub quiet_from : (m : Data) (c : ℕ) (r : Region) (best : Option ℤ) (kind : Kind) (a : Itv) (bs : List Itv) → slice_get m.constraints c ≡ Some (as_constraint kind a bs) → Unrefuted kind r a bs → quiet m c r best
+quiet_from m c r best kind a bs is none = record { unrefuted = λ w guess mine asked. at w guess (sym (owned m c w mine)) asked }
+  where
+    at : (w : HierWitness) (guess : Option Guess) → constraint_of w ≡ c → is_asked (lists m w) r guess ≡ true → refutes m (seen_at r best guess) w ≡ false
+    at (witness.Span n k i) guess names asked = quiet_of_parts m c r best kind a bs (witness.Span n k i) guess is none refl names asked
+    at (witness.Alt n k i j) guess names asked = quiet_of_parts m c r best kind a bs (witness.Alt n k i j) guess is none refl names asked
+    at (witness.Sync n i) guess names asked = quiet_of_parts m c r best kind a bs (witness.Sync n i) guess is none refl names asked
+    at (witness.SeqRel n x) guess names asked =
+        none_related m (seen_at r best guess) n (record { 0 = x }) (as_constraint kind a bs) (ap (slice_get m.constraints) names ∙ is) (unrelated (looked_at guess r) (as_constraint kind a bs) (record { 0 = x }) (unrelated_kind kind a bs))
 
 -- guesses that a constraint of a kind lists
 abbrev pub asks_kind : Kind → List Itv → Topic → Bool
@@ -83,12 +92,15 @@ lists_is : (m : Data) (kind : Kind) (r : Region) (a : Itv) (bs : List Itv) (c : 
 lists_is m Span r a bs c (witness.Span n k i) g one is = ap (λ d. asks_each (family_of (slice_get m.constraints d)) (topic g)) one.constraint ∙ ap (λ xs. asks_each xs (topic g)) (members_of m c Span a bs is)
 lists_is m Span r a bs c (witness.Alt n k i j) g one is = never one.row
 lists_is m Span r a bs c (witness.Sync n i) g one is = never one.row
+lists_is m Span r a bs c (witness.SeqRel n x) g one is = never one.row
 lists_is m Alternative r a bs c (witness.Span n k i) g one is = never one.row
 lists_is m Alternative r a bs c (witness.Alt n k i j) g one is = ap (λ d. asks_each (family_of (slice_get m.constraints d)) (topic g)) one.constraint ∙ ap (λ xs. asks_each xs (topic g)) (members_of m c Alternative a bs is)
 lists_is m Alternative r a bs c (witness.Sync n i) g one is = never one.row
+lists_is m Alternative r a bs c (witness.SeqRel n x) g one is = never one.row
 lists_is m Synchronize r a bs c (witness.Span n k i) g one is = never one.row
 lists_is m Synchronize r a bs c (witness.Alt n k i j) g one is = never one.row
 lists_is m Synchronize r a bs c (witness.Sync n i) g one is = ap (λ d. asks_present (family_of (slice_get m.constraints d)) (topic g)) one.constraint ∙ ap (λ xs. asks_present xs (topic g)) (members_of m c Synchronize a bs is)
+lists_is m Synchronize r a bs c (witness.SeqRel n x) g one is = never one.row
 
 -- no row refutes under a guess that is listed, where the propagator is quiet
 unrefuted_at : (m : Data) (c : ℕ) (r : Region) (best : Option ℤ) (kind : Kind) (a : Itv) (bs : List Itv) (guess : Option Guess) → IsFamily m c kind a bs → quiet m c r best → is_asked (λ g. asks_kind kind (a ∷ bs) (topic g)) r guess ≡ true

@@ -13,22 +13,22 @@ use Rattle.refute_basic.specs.declared.edge.Arc.{Arc as Edge}
 use Rattle.refute_basic.specs.declared.arc_name.ArcName.{ArcName}
 use Rattle.refute_basic.specs.Cycle.{edge_of}
 use Rattle.findings.specs.laws.Members.{any_more}
-use Rattle.prop_temporal.specs.Shown.{Shown, IsAmong, TriesAll, IsOfConstraint, IsOfInterval}
+use Rattle.prop_temporal.specs.Shown.{Shown, IsAmong, TriesAll, OfOne, IsOfMember, IsOfInterval}
 use Rattle.prop_temporal.specs.Heights.{height_with, AllKeep, IsOwn, OwnKeep}
 use Rattle.base_laws.specs.laws.Numbers.{below_or_last}
 
--- the arcs of these constraints are among those that are collected
-abbrev pub HasOf : Data → Region → List ℕ → Shown → Type 0
-HasOf m r cs s = (i : ArcName) (e : Edge) → i.kind ≡ 0 → list_any (λ k. nat_eq i.x k) cs ≡ true → edge_of m r i ≡ Some e → IsAmong s.arcs e
+-- the arcs of an interval and of these constraints are among those that are collected
+abbrev pub HasOf : Data → Region → ℕ → List ℕ → Shown → Type 0
+HasOf m r x cs s = (i : ArcName) (e : Edge) → OfOne x i → list_any (λ k. nat_eq i.x k) cs ≡ true → edge_of m r i ≡ Some e → IsAmong s.arcs e
 
 abbrev pub HasOwn : Data → Region → ℕ → List ℕ → Shown → Type 0
 HasOwn m r x cs s = (i : ArcName) (e : Edge) → IsOwn x cs i → edge_of m r i ≡ Some e → IsAmong s.arcs e
 
-pub none_of : (m : Data) (r : Region) (s : Shown) → HasOf m r [] s
-none_of m r s i e kind among = absurd (true≢false (sym among))
+pub none_of : (m : Data) (r : Region) (x : ℕ) (s : Shown) → HasOf m r x [] s
+none_of m r x s i e kind among = absurd (true≢false (sym among))
 
-pub one_of : (m : Data) (r : Region) (cs : List ℕ) (k : ℕ) (s w : Shown) → k < length cs → TriesAll m r (IsOfConstraint (get_or cs k 0)) s w → HasOf m r (take k cs) s → HasOf m r (take (k + 1) cs) w
-one_of m r cs k s w within tries before i e kind among h = elim (any_more (λ j. nat_eq i.x j) cs k (get_or cs k 0) within (get_or_default cs k 0 (get_or cs k 0) within) (subst (λ n. list_any (λ j. nat_eq i.x j) (take n cs) ≡ true) (one_more k) among)) [
+pub one_of : (m : Data) (r : Region) (x : ℕ) (cs : List ℕ) (k : ℕ) (s w : Shown) → k < length cs → TriesAll m r (IsOfMember (get_or cs k 0) x) s w → HasOf m r x (take k cs) s → HasOf m r x (take (k + 1) cs) w
+one_of m r x cs k s w within tries before i e kind among h = elim (any_more (λ j. nat_eq i.x j) cs k (get_or cs k 0) within (get_or_default cs k 0 (get_or cs k 0) within) (subst (λ n. list_any (λ j. nat_eq i.x j) (take n cs) ≡ true) (one_more k) among)) [
   | inl here ↦ tries.has i e (kind, same_number i.x (get_or cs k 0) here) h
   | inr earlier ↦ tries.grows e (before i e kind earlier h)
 ]
@@ -39,7 +39,7 @@ one_of m r cs k s w within tries before i e kind among h = elim (any_more (λ j.
     one_more : (k : ℕ) → k + 1 ≡ suc k
     one_more k = omega arith
 
-pub own_all : (m : Data) (r : Region) (x : ℕ) (cs : List ℕ) (s w : Shown) → TriesAll m r (IsOfInterval x) s w → HasOf m r cs s → HasOwn m r x cs w
+pub own_all : (m : Data) (r : Region) (x : ℕ) (cs : List ℕ) (s w : Shown) → TriesAll m r (IsOfInterval x) s w → HasOf m r x cs s → HasOwn m r x cs w
 own_all m r x cs s w tries before i e own h = elim own [
   | inl of ↦ tries.grows e (before i e of.0 of.1 h)
   | inr of ↦ tries.has i e of h
@@ -54,8 +54,8 @@ own_keep m r x cs hs s start end has keep = record {
       subst (λ (d : Edge). (d.weight +ℤ height_with hs x start end d.head) ≤ℤ height_with hs x start end d.tail) among.is (keep among.at among.within);
 }
 
-pub of_all : (m : Data) (r : Region) (cs : List ℕ) (k : ℕ) (s : Shown) → length cs ≤ k → HasOf m r (take k cs) s → HasOf m r cs s
-of_all m r cs k s past has = subst (λ (xs : List ℕ). HasOf m r xs s) (take_all k cs past) has
+pub of_all : (m : Data) (r : Region) (x : ℕ) (cs : List ℕ) (k : ℕ) (s : Shown) → length cs ≤ k → HasOf m r x (take k cs) s → HasOf m r x cs s
+of_all m r x cs k s past has = subst (λ (xs : List ℕ). HasOf m r x xs s) (take_all k cs past) has
 
 -- one arc more along which the height falls
 pub keep_next : (h : ℕ → ℤ) (arcs : List Edge) (k : ℕ) → ((j : ℕ) → j < k → ((arc_at arcs j).weight +ℤ h (arc_at arcs j).head) ≤ℤ h (arc_at arcs j).tail)

@@ -9,7 +9,9 @@ use Rattle.sched_base.specs.declared.ids.Itv.{Itv}
 use Rattle.sched_model.specs.Data.{Data, has, same}
 use Rattle.region.specs.laws.OneSequence.{same_is, has_cases}
 use Rattle.findings.specs.laws.Members.{any_more}
+use Rattle.std.proofs.lemmas.List.Folds.{list_any-append}
 use Rattle.refute_basic.specs.laws.Arc.{ends_of}
+use Rattle.prop_temporal.specs.Members.{members_at, touched_by}
 use Rattle.prop_temporal.specs.Heights.{is_touched, AreTouched}
 use Rattle.prop_temporal.specs.Touches.{Touches, AreTouchedBy}
 use Rattle.base_laws.specs.laws.Numbers.{below_or_last}
@@ -75,19 +77,36 @@ touches_past old ts ends k x c within at outside t = record {
 pub touched_none : (m : Data) (ts : List (List ℕ)) → length ts ≡ length m.intervals → AreTouchedBy m 0 ts
 touched_none m ts size = record { size = size; each = λ x c below. absurd (omega (arith, below)) }
 
-pub touched_more : (m : Data) (n : ℕ) (old new : List (List ℕ)) (ends : List Itv) → ends ≡ ends_of (slice_get m.constraints n) → Touches old new ends n → AreTouchedBy m n old → AreTouchedBy m (n + 1) new
-touched_more m n old new ends is t before = record {
+touches_both : (old mid new : List (List ℕ)) (xs ys : List Itv) (c : ℕ) → Touches old mid xs c → Touches mid new ys c → Touches old new (xs ++ ys) c
+touches_both old mid new xs ys c first second = record {
+  size = second.size ∙ first.size;
+  grows = λ x d h. second.grows x d (first.grows x d h);
+  has = λ x below h. elim (has_cases (has xs x) (has ys x) (sym (list_any-append (same x) xs ys) ∙ h)) [
+    | inl here ↦ second.grows x.0 c (first.has x below here)
+    | inr there ↦ second.has x (omega (arith, below, first.size)) there
+  ];
+}
+
+pub touched_more : (m : Data) (n : ℕ) (old mid new : List (List ℕ)) (ends members : List Itv) → ends ≡ ends_of (slice_get m.constraints n) → members ≡ members_at m (slice_get m.constraints n) → Touches old mid ends n → Touches mid new members n
+    → AreTouchedBy m n old → AreTouchedBy m (n + 1) new
+touched_more m n old mid new ends members is are first second before = record {
   size = t.size ∙ before.size;
   each = λ x c below within h. elim (below_or_last c n below) [
     | inl less ↦ t.grows x.0 c (before.each x c less within h)
     | inr last ↦ subst (λ (k : ℕ). is_touched new x.0 k ≡ true) (sym last)
-        (t.has x (omega (arith, within, before.size)) (subst (λ (xs : List Itv). has xs x ≡ true) (ap (λ k. ends_of (slice_get m.constraints k)) last ∙ sym is) h))
+        (t.has x (omega (arith, within, before.size)) (subst (λ (xs : List Itv). has xs x ≡ true) (ap (λ k. touched_by m (slice_get m.constraints k)) last ∙ sym both) h))
   ];
 }
+  where
+    t : Touches old new (ends ++ members) n
+    t = touches_both old mid new ends members n first second
+
+    both : ends ++ members ≡ touched_by m (slice_get m.constraints n)
+    both = rw (is, are) refl
 
 -- beyond the last constraint none names anything
-none_names : (m : Data) (c : ℕ) (x : Itv) → length m.constraints ≤ c → has (ends_of (slice_get m.constraints c)) x ≡ true → ⊥
-none_names m c x past h = true≢false (sym h ∙ ap (λ o. has (ends_of o) x) (nothing m.constraints c past))
+none_names : (m : Data) (c : ℕ) (x : Itv) → length m.constraints ≤ c → has (touched_by m (slice_get m.constraints c)) x ≡ true → ⊥
+none_names m c x past h = true≢false (sym h ∙ ap (λ o. has (touched_by m o) x) (nothing m.constraints c past))
   where
     nothing : {X : Type 0} (xs : List X) (i : ℕ) → length xs ≤ i → slice_get xs i ≡ None
     nothing [] i h = refl
@@ -106,6 +125,6 @@ touched_all m n ts past before = record {
     more : (c : ℕ) → nat_lt c n ≡ false → n ≤ c
     more c h = grind (arith, nat_tests)
 
-    by_case : (x : Itv) (c : ℕ) (b : Bool) → nat_lt c n ≡ b → x.0 < length m.intervals → has (ends_of (slice_get m.constraints c)) x ≡ true → is_touched ts x.0 c ≡ true
+    by_case : (x : Itv) (c : ℕ) (b : Bool) → nat_lt c n ≡ b → x.0 < length m.intervals → has (touched_by m (slice_get m.constraints c)) x ≡ true → is_touched ts x.0 c ≡ true
     by_case x c true is within h = before.each x c (less c is) within h
     by_case x c false is within h = absurd (none_names m c x (let over = more c is in omega (arith, over, past)) h)

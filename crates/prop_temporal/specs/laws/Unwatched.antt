@@ -29,8 +29,8 @@ use Rattle.refute_basic.specs.declared.witness.BasicWitness.TheVariants.{Cycle}
 use Rattle.refute_basic.specs.Witness.{is_valid}
 use Rattle.refute_basic.specs.Basic.{refutes}
 use Rattle.refute_basic.specs.Listed.{lists}
-use Rattle.refute_basic.specs.laws.Presences.{cycle_alike}
-use Rattle.prop_temporal.specs.Tasks.{reads_of, looks_after, is_optional, is_presence, watching, watching_best, quiet}
+use Rattle.refute_basic.specs.laws.Presences.{SameOrders, cycle_alike}
+use Rattle.prop_temporal.specs.Tasks.{reads_of, looks_after, is_optional, is_of_walks, watching, watching_best, quiet}
 use Rattle.prop_temporal.specs.laws.Arcs.{arc_looks, asks_among}
 use Rattle.prop_temporal.specs.laws.Owners.{owned}
 use Rattle.prop_temporal.specs.laws.Quieting.{NoWalk, quiet_walks, walks_of}
@@ -76,7 +76,7 @@ mandatory_there m s x of within none =
     ready_present (bounds_of s x) (is_there def (bounds_of s x) (placewise-at is_narrowed m.intervals s.bounds x.0 no_def unknown of.bounds within) optional)
 
 -- so the same are, where they are so of the optional intervals
-presences_same : (m : Data) (r q : Region) → IsRegionOf m r → IsRegionOf m q → ((x : Itv) → is_presence m (cell.Presence x) ≡ true → (bounds_of r x).presence ≡ (bounds_of q x).presence) → SamePresences r q
+presences_same : (m : Data) (r q : Region) → IsRegionOf m r → IsRegionOf m q → ((x : Itv) → is_of_walks m (cell.Presence x) ≡ true → (bounds_of r x).presence ≡ (bounds_of q x).presence) → SamePresences r q
 presences_same m r q of also same x = by_case (nat_lt x.0 (length m.intervals)) refl
   where
     within : (n : ℕ) → nat_lt x.0 n ≡ true → x.0 < n
@@ -110,11 +110,11 @@ below i n h = grind (arith, nat_tests)
 above : (i n : ℕ) → i < n → nat_lt i n ≡ true
 above i n h = grind (arith, nat_tests)
 
-pub walks_kept : (m : Data) (r q : Region) (b c : Option ℤ) → IsRegionOf m r → IsRegionOf m q → SamePresences r q → quiet m 0 r b → quiet m 0 q c
-walks_kept m r q b c of also same still = quiet_walks m q c plain each
+pub walks_kept : (m : Data) (r q : Region) (b c : Option ℤ) → IsRegionOf m r → IsRegionOf m q → SamePresences r q → SameOrders m r q → quiet m 0 r b → quiet m 0 q c
+walks_kept m r q b c of also same orders still = quiet_walks m q c plain each
   where
     plain : NoWalk m q c None
-    plain is = ap (λ b. is_valid (Cycle is) && b) (sym (cycle_alike m (seen_at r b None) (seen_at q c None) is of also same)) ∙ walks_of m r b still None refl is
+    plain is = ap (λ b. is_valid (Cycle is) && b) (sym (cycle_alike m (seen_at r b None) (seen_at q c None) is of also same orders)) ∙ walks_of m r b still None refl is
 
     size : length r.bounds ≡ length q.bounds
     size = sym (as_many_bounds m r of) ∙ as_many_bounds m q also
@@ -126,7 +126,7 @@ walks_kept m r q b c of also same still = quiet_walks m q c plain each
         let here : x.0 < length r.bounds = omega (arith, there, size) in
         let before : admits r (Present x) ≡ true = true_both (nat_lt x.0 (length r.bounds)) (says_maybe (bounds_of r x).presence) (above x.0 (length r.bounds) here) (ap says_maybe (same x) ∙ two.1) in
         ap (λ b. is_valid (Cycle is) && b)
-        (sym (cycle_alike m (seen_at r b (Some (Present x))) (seen_at q c (Some (Present x))) is (guess_stays (Present x) m r before of) (guess_stays (Present x) m q free also) (same_under r q x here there same)))
+        (sym (cycle_alike m (seen_at r b (Some (Present x))) (seen_at q c (Some (Present x))) is (guess_stays (Present x) m r before of) (guess_stays (Present x) m q free also) (same_under r q x here there same) orders))
         ∙ walks_of m r b still (Some (Present x)) (true_both (admits r (Present x)) true before refl) is
 
 -- a constraint's propagator
@@ -140,5 +140,5 @@ arcs_kept m k r q b c of also cells still = quiet_kept refutes lists (λ n w. lo
     among w g mine listed = let o = owned m k w mine in asks_among m k o.way g (subst (λ (v : BasicWitness). lists m v g ≡ true) o.is listed)
 
 pub unwatched : (m : Data) (k : ℕ) (r q : Region) (b c : Option ℤ) → IsRegionOf m r → IsRegionOf m q → ((cell : CellName) → IsTrue (watching m k cell) → SameCell cell r q) → (IsTrue (watching_best m k) → b ≡ c) → quiet m k r b → quiet m k q c
-unwatched m zero r q b c of also cells best still = walks_kept m r q b c of also (presences_same m r q of also (λ x here. cells (cell.Presence x) here)) still
+unwatched m zero r q b c of also cells best still = walks_kept m r q b c of also (presences_same m r q of also (λ x here. cells (cell.Presence x) here)) (λ p listed x y. cells (cell.Order p x y) listed) still
 unwatched m (suc k) r q b c of also cells best still = arcs_kept m k r q b c of also cells still

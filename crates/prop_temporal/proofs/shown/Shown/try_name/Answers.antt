@@ -10,5 +10,5 @@ returns c =
     let w = named c.args.model.now r c.args.i c.in-Some.e (sym c.in-Some.ensures) in
     rw (c.in_ok-push.ensures.items, c.in_ok-push-2.ensures.items, c.weighed.ensures.same)
     (subst (λ (s : Shown). Tries c.args.model.now r c.args.i s (record { names = c.self.inside.names.items ++ c.args.i ∷ []; arcs = c.self.inside.arcs.items ++ c.in-Some.e ∷ [] })) c.self.view_is
-    (one_shown c.args.model.now r c.args.i (record { names = c.self.inside.names.items; arcs = c.self.inside.arcs.items }) c.in-Some.e c.in-Some.ensures c.requires
+    (one_shown c.args.model.now r c.args.i (record { names = c.self.inside.names.items; arcs = c.self.inside.arcs.items }) c.in-Some.e c.in-Some.ensures c.requires.valid
     (record { tail = point_within r c.in-Some.e.tail w.ends.tail; head = point_within r c.in-Some.e.head w.ends.head; lower = c.weighed.ensures.lower; upper = c.weighed.ensures.upper })))

@@ -1,10 +1,10 @@
 use Rattle.std.proofs.Common.{subst}
 use Rattle.refute_basic.specs.declared.arc_name.ArcName.{ArcName}
 use Rattle.prop_temporal.specs.Shown.{Tries}
-use Rattle.prop_temporal.specs.laws.Collecting.{of_constraint}
-use Rattle.prop_temporal.proofs.shown.Shown.try_constraint.Goals as goal
+use Rattle.prop_temporal.specs.laws.Collecting.{of_precedence}
+use Rattle.prop_temporal.proofs.shown.Shown.try_precedence.Goals as goal
 
 pub returns : goal.returns
-returns c = of_constraint c.args.model.now c.args.look.now.region c.args.u c.args.self.now c.try_name.new.self c.try_name-2.new.self
+returns c = of_precedence c.args.model.now c.args.look.now.region c.args.u c.args.self.now c.try_name.new.self c.try_name-2.new.self
     (subst (λ (i : ArcName). Tries c.args.model.now c.args.look.now.region i c.args.self.now c.try_name.new.self) c.named.ensures.value c.in_ok-try_name.ensures)
     (subst (λ (i : ArcName). Tries c.args.model.now c.args.look.now.region i c.try_name.new.self c.try_name-2.new.self) c.named-2.ensures.value c.in_ok-try_name-2.ensures)

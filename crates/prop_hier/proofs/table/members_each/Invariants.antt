@@ -1,5 +1,0 @@
-use Rattle.prop_hier.proofs.Making.{ListBelow}
-use Rattle.prop_hier.proofs.table.members_each.Given as goal
-
-abbrev pub invariant-loop-constraint : goal.invariant-loop-constraint
-invariant-loop-constraint l = ListBelow l.constraint-index l.constraints l.lists.items

@@ -1,0 +1,4 @@
+pub mod Walks
+pub mod Asked
+pub mod Making
+pub mod Watching

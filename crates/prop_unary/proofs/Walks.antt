@@ -1,0 +1,32 @@
+-- A walk through a list, one after the other.
+use Rattle.std.specs.Prelude.{◌≡◌, ℕ, zero, suc, ◌+◌, ◌<◌, ◌≤◌, List, [], ◌∷◌, length, take}
+use Rattle.std.proofs.Common.{inl, inr, sym, subst, ◌∙◌, arith, get_or}
+use Rattle.std.proofs.lemmas.List.{take_all}
+use Rattle.std.proofs.lemmas.Bool.{or_left, or_right}
+use Rattle.sched_base.specs.declared.ids.Itv.{Itv}
+use Rattle.sched_model.specs.Data.{same, has}
+use Rattle.region.specs.laws.OneSequence.{same_is, has_cases}
+use Rattle.prop_unary.specs.Circles.{EachOf}
+
+pub each_none : (P : Itv → Type 0) (xs : List Itv) → EachOf P (take 0 xs)
+each_none P xs x here = cc
+
+each_next : (P : Itv → Type 0) (xs : List Itv) (n : ℕ) (x d : Itv) → n < length xs → x ≡ get_or xs n d → EachOf P (take n xs) → P x → EachOf P (take (suc n) xs)
+each_next P [] n x d within is before here z h = absurd (omega (arith, within))
+each_next P (y ∷ ys) zero x d within is before here z h = elim (has_cases (same z y) (has [] z) h) [
+  | inl e ↦ subst P (is ∙ sym (same_is z y e)) here
+  | inr none ↦ cc
+]
+each_next P (y ∷ ys) (suc n) x d within is before here z h = elim (has_cases (same z y) (has (take (suc n) ys) z) h) [
+  | inl e ↦ before z (or_left (same z y) (has (take n ys) z) e)
+  | inr e ↦ each_next P ys n x d (omega (arith, within)) is (λ w k. before w (or_right (same w y) (has (take n ys) w) k)) here z e
+]
+
+pub each_more : (P : Itv → Type 0) (xs : List Itv) (n : ℕ) (x d : Itv) → n < length xs → x ≡ get_or xs n d → EachOf P (take n xs) → P x → EachOf P (take (n + 1) xs)
+each_more P xs n x d within is before here = subst (λ (k : ℕ). EachOf P (take k xs)) (one_on n) (each_next P xs n x d within is before here)
+  where
+    one_on : (n : ℕ) → suc n ≡ n + 1
+    one_on n = omega arith
+
+pub each_all : (P : Itv → Type 0) (xs : List Itv) (n : ℕ) → length xs ≤ n → EachOf P (take n xs) → EachOf P xs
+each_all P xs n all each = subst (EachOf P) (take_all n xs all) each

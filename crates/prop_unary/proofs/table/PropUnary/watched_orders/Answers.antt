@@ -1,0 +1,17 @@
+use Rattle.std.proofs.Common.{◌≡◌, ◌∙◌, ◌<◌, [], length, slice_index_or, ap, arith, rules}
+use Rattle.std.proofs.lemmas.List.{get_or_default}
+use Rattle.prop_unary.specs.Tasks.{size_of}
+use Rattle.prop_unary.proofs.Watching.{order_watched}
+use Rattle.prop_unary.proofs.table.PropUnary.watched_orders.Goals as goal
+
+pub returns : goal.returns
+returns c = λ m of.
+    let one = c.requires.1.sequences.size in
+    let other = of.sequences.size in
+    let below = c.requires.2 in
+    let within : c.args.k < size_of m = omega (arith, one, other, below) in
+    let size : length c.self.inside.sequences.items ≡ length c.args.self.now.sequences = ap (λ t. length t.sequences) c.self.view_is in
+    let at : c.index.result.now ≡ slice_index_or c.args.self.now.sequences c.args.k [] =
+    c.index.ensures ∙ get_or_default c.self.inside.sequences.items c.args.k c.index.result.now [] (omega (arith, size, within, other)) ∙ ap (λ t. slice_index_or t.sequences c.args.k []) c.self.view_is in
+    let read : c.as_slice.result.now ≡ c.index.result.now = search rules in
+    order_watched m c.args.k c.as_slice.result.now (read ∙ at ∙ of.sequences.each c.args.k within)

@@ -1,0 +1,9 @@
+pub mod Pairs
+pub mod Members
+pub mod Under
+pub mod Owners
+pub mod Silence
+pub mod Quieting
+pub mod Circles
+pub mod Looking
+pub mod Unwatched

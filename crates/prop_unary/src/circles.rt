@@ -1,0 +1,218 @@
+//! What TRIPLE of a sequence finds.
+ghost use Rattle.std.specs.Prelude.{◌≡◌, ◌+◌, ◌<◌, ◌&&◌, true, length, Some, IfNone, IfSome};
+ghost use Rattle.sched_model.specs.Data.{members_of};
+ghost use Rattle.region.specs.declared.types.OrderCell.TheVariants as order;
+ghost use Rattle.region.specs.Orders.{order_in};
+ghost use Rattle.region.specs.Cells.{cells_of, is_there};
+ghost use Rattle.region.specs.Guesses.{admits};
+ghost use Rattle.region.specs.Looks.{IsRegionOf, seen_at};
+ghost use Rattle.findings.specs.Found.{IsFinding};
+ghost use Rattle.refute_seq.specs.declared.witness.SeqWitness.TheVariants as witness;
+ghost use Rattle.refute_seq.specs.Standing.{precedes};
+ghost use Rattle.refute_seq.specs.OnSequence.{refutes};
+ghost use Rattle.prop_unary.specs.Tasks.{IsSilent, quiet};
+ghost use Rattle.prop_unary.specs.Circles.{EachOf, IsMet, SilentBehind, SilentAround, SilentAt};
+
+use findings::Finding;
+use refute_seq::{OnSequence, SeqWitness, is_there, precedes};
+use region::{Guess, OrderCell, Refuter, Region};
+use sched_base::{Itv, Seq};
+use sched_model::Model;
+
+/// Whether the guess is open, and the witness refutes the region under it.
+fn refutes_open(model: &Model, region: &Region, best: Option<i64>, w: SeqWitness, g: Guess) -> bool
+    requires { IsRegionOf model.now region.now.region }
+    ensures { result ≡ (admits region.now.region g && refutes model.now (seen_at region.now.region best (Some g)) w) }
+{
+    region.admits(g) && OnSequence::refutes(model, &region.look(Some(g), best), &w)
+}
+
+/// The same where the third may stand before the first: only under the guess that it does can the
+/// three stand in a circle.
+fn ask_open(
+    model: &Model,
+    region: &Region,
+    best: Option<i64>,
+    p: Seq,
+    x: Itv,
+    y: Itv,
+    z: Itv,
+) -> Option<Finding<SeqWitness>>
+    requires of { IsRegionOf model.now region.now.region }
+    requires order { order_in (cells_of region.now.region p) z x ≡ order.Unknown }
+    ensures none { IfNone result (IsSilent model.now region.now.region best (witness.Triple p.0 x.0 y.0 z.0)) }
+    ensures some { IfSome result (IsFinding refutes model.now region.now.region best) }
+    ensures busy { IfSome result (λ f. IsSilent model.now region.now.region best (witness.Triple p.0 x.0 y.0 z.0) → ⊥) }
+{
+    let witness = SeqWitness::Triple {
+        p: p.0,
+        x: x.0,
+        y: y.0,
+        z: z.0,
+    };
+    let guess = Guess::Before(p, z, x);
+    if refutes_open(model, region, best, witness, guess) {
+        return Some(Finding {
+            guess: Some(guess),
+            witness,
+        });
+    }
+    None
+}
+
+/// The same where the third is told to stand before the first: at most the presence of one of the two
+/// is open.
+fn ask_told(
+    model: &Model,
+    region: &Region,
+    best: Option<i64>,
+    p: Seq,
+    x: Itv,
+    y: Itv,
+    z: Itv,
+) -> Option<Finding<SeqWitness>>
+    requires of { IsRegionOf model.now region.now.region }
+    requires met { IsMet region.now.region p x y z }
+    requires order { order_in (cells_of region.now.region p) z x ≡ order.Forward }
+    ensures none { IfNone result (IsSilent model.now region.now.region best (witness.Triple p.0 x.0 y.0 z.0)) }
+    ensures some { IfSome result (IsFinding refutes model.now region.now.region best) }
+    ensures busy { IfSome result (λ f. IsSilent model.now region.now.region best (witness.Triple p.0 x.0 y.0 z.0) → ⊥) }
+{
+    let witness = SeqWitness::Triple {
+        p: p.0,
+        x: x.0,
+        y: y.0,
+        z: z.0,
+    };
+    if OnSequence::refutes(model, &region.look(None, best), &witness) {
+        return Some(Finding {
+            guess: None,
+            witness,
+        });
+    }
+    if refutes_open(model, region, best, witness, Guess::Present(x)) {
+        return Some(Finding {
+            guess: Some(Guess::Present(x)),
+            witness,
+        });
+    }
+    if refutes_open(model, region, best, witness, Guess::Present(z)) {
+        return Some(Finding {
+            guess: Some(Guess::Present(z)),
+            witness,
+        });
+    }
+    None
+}
+
+/// What TRIPLE of three members finds, where the first is told to stand before the second, who is
+/// present, and the second before the third. In constant time.
+fn ask_circle(
+    model: &Model,
+    region: &Region,
+    best: Option<i64>,
+    p: Seq,
+    x: Itv,
+    y: Itv,
+    z: Itv,
+) -> Option<Finding<SeqWitness>>
+    requires of { IsRegionOf model.now region.now.region }
+    requires met { IsMet region.now.region p x y z }
+    ensures none { IfNone result (IsSilent model.now region.now.region best (witness.Triple p.0 x.0 y.0 z.0)) }
+    ensures some { IfSome result (IsFinding refutes model.now region.now.region best) }
+    ensures busy { IfSome result (λ f. IsSilent model.now region.now.region best (witness.Triple p.0 x.0 y.0 z.0) → ⊥) }
+{
+    match region.look(None, None).order(p, z, x) {
+        OrderCell::Backward => None,
+        OrderCell::Unknown => ask_open(model, region, best, p, x, y, z),
+        OrderCell::Forward => ask_told(model, region, best, p, x, y, z),
+    }
+}
+
+/// What is found of two, of which the first is told to stand before the second, and those that the
+/// second stands before.
+fn ask_behind(
+    model: &Model,
+    region: &Region,
+    best: Option<i64>,
+    p: Seq,
+    x: Itv,
+    y: Itv,
+    members: &[Itv],
+) -> Option<Finding<SeqWitness>>
+    requires of { IsRegionOf model.now region.now.region }
+    requires within { p.0 < length model.now.sequences }
+    requires middle { is_there region.now.region y ≡ true }
+    requires first { precedes region.now.region p x y ≡ true }
+    ensures none { IfNone result (EachOf (SilentBehind model.now region.now.region best p x y) members.now) }
+    ensures some { IfSome result (IsFinding refutes model.now region.now.region best) }
+    ensures busy { IfSome result (λ f. quiet model.now (length model.now.constraints + p.0) region.now.region best → ⊥) }
+{
+    let look = region.look(None, None);
+    for z in members {
+        if !precedes(&look, p, y, *z) {
+            continue;
+        }
+        if let Some(found) = ask_circle(model, region, best, p, x, y, *z) {
+            return Some(found);
+        }
+    }
+    None
+}
+
+/// What is found of a member that is present, between those that it stands behind and those that it
+/// stands before.
+fn ask_around(
+    model: &Model,
+    region: &Region,
+    best: Option<i64>,
+    p: Seq,
+    y: Itv,
+    members: &[Itv],
+) -> Option<Finding<SeqWitness>>
+    requires of { IsRegionOf model.now region.now.region }
+    requires within { p.0 < length model.now.sequences }
+    requires middle { is_there region.now.region y ≡ true }
+    ensures none { IfNone result (EachOf (SilentAround model.now region.now.region best p members.now y) members.now) }
+    ensures some { IfSome result (IsFinding refutes model.now region.now.region best) }
+    ensures busy { IfSome result (λ f. quiet model.now (length model.now.constraints + p.0) region.now.region best → ⊥) }
+{
+    let look = region.look(None, None);
+    for x in members {
+        if !precedes(&look, p, *x, y) {
+            continue;
+        }
+        if let Some(found) = ask_behind(model, region, best, p, *x, y, members) {
+            return Some(found);
+        }
+    }
+    None
+}
+
+/// What TRIPLE finds of a sequence, whose members these are. A member that is told to stand behind no
+/// other costs one walk through them.
+pub fn ask_circles(
+    model: &Model,
+    region: &Region,
+    best: Option<i64>,
+    p: Seq,
+    members: &[Itv],
+) -> Option<Finding<SeqWitness>>
+    requires of { IsRegionOf model.now region.now.region }
+    requires within { p.0 < length model.now.sequences }
+    requires members { members.now ≡ members_of model.now p }
+    ensures none { IfNone result (quiet model.now (length model.now.constraints + p.0) region.now.region best) }
+    ensures some { IfSome result (IsFinding refutes model.now region.now.region best) }
+    ensures busy { IfSome result (λ f. quiet model.now (length model.now.constraints + p.0) region.now.region best → ⊥) }
+{
+    let look = region.look(None, None);
+    for y in members {
+        if !is_there(&look, *y) {
+            continue;
+        }
+        if let Some(found) = ask_around(model, region, best, p, *y, members) {
+            return Some(found);
+        }
+    }
+    None
+}

@@ -1,0 +1,12 @@
+//! Propagators of sequences: one for each constraint, which finds members that overlap or stand too
+//! near, and one for each sequence, which finds members that stand in a circle.
+#![tactic(auto)]
+
+mod circles;
+mod disjunctive;
+mod members;
+mod pairs;
+mod silence;
+mod table;
+
+pub use table::PropUnary;

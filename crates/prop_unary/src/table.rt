@@ -1,0 +1,209 @@
+//! The propagators of a model.
+ghost use Rattle.std.specs.Prelude.{◌≡◌, ◌<◌, ◌+◌, ◌^◌, ◌⊎◌, length, true, None, Some, IsTrue, IfOk, IfNone, IfSome, slice_get, nat_eq};
+ghost use Rattle.std.specs.List.{list_any};
+ghost use Rattle.sched_base.specs.declared.ids.Itv.{Itv as Itvs};
+ghost use Rattle.sched_base.specs.declared.ids.Seq.{Seq as Seqs};
+ghost use Rattle.sched_model.specs.Data.{Data, has};
+ghost use Rattle.region.specs.declared.types.CellName.{CellName as CellNames};
+ghost use Rattle.region.specs.declared.types.CellName.TheVariants as cell;
+ghost use Rattle.region.specs.Looks.{IsRegionOf};
+ghost use Rattle.findings.specs.Found.{IsFinding};
+ghost use Rattle.refute_seq.specs.OnSequence.{refutes};
+ghost use Rattle.prop_unary.specs.Tasks.{size_of, sequence_in, quiet, watching, watching_best, is_bound, is_bound_of};
+ghost use Rattle.prop_unary.specs.Tables.{IsFor, AreMembers, AreSequences, members_in, as_list};
+
+use crate::circles::ask_circles;
+use crate::disjunctive::Disjunctive;
+use crate::members::sequence_at;
+use crate::pairs::ask_pairs;
+use findings::Finding;
+use refute_seq::{SeqWitness, members_of};
+use region::Region;
+use sched_base::{Itv, List, NoMemory, Seq, at};
+use sched_model::{Constraint, Model};
+use std::alloc::Global;
+
+/// One propagator for each constraint, which is quiet where the constraint isn't one without overlap,
+/// and then one for each sequence.
+#[derive(Debug, Drop)]
+pub struct PropUnary {
+    /// How many constraints there are.
+    constraints: u32,
+    /// The members of each one's sequence.
+    members: Vec<List<Itv>>,
+    /// Each one's sequence.
+    sequences: Vec<List<Seq>>,
+}
+
+impl std::marker::Model for PropUnary {
+    ghost use Rattle.std.specs.Prelude.{◌<◌, ◌^◌, length};
+    ghost use Rattle.prop_unary.specs.Tables.{Table};
+
+    ghost Value = { Table };
+
+    ghost view = { λ p. record { constraints = p.constraints; members = p.members.items; sequences = p.sequences.items } };
+
+    ghost invariant = { λ p. length p.members.items < 2 ^ 32 };
+}
+
+/// The members of a sequence, where there is one.
+fn members_in(alloc: Global, model: &Model, p: Option<Seq>) -> Result<List<Itv>, NoMemory>
+    ensures { IfOk result (λ xs. xs ≡ members_in model.now p) }
+{
+    let mut list = Vec::new(alloc);
+    if let Some(p) = p {
+        list.extend_from_slice(members_of(model, p))?;
+    }
+    Ok(List::from_vec(list))
+}
+
+fn as_list(alloc: Global, p: Option<Seq>) -> Result<List<Seq>, NoMemory>
+    ensures { IfOk result (λ ps. ps ≡ as_list p) }
+{
+    let mut list = List::new(alloc);
+    if let Some(p) = p {
+        list.push(p)?;
+    }
+    Ok(list)
+}
+
+#[tactic(auto, using(crate::proofs::Making::no_members, crate::proofs::Making::more_members, crate::proofs::Making::all_members))]
+fn members_of_each(alloc: Global, model: &Model, n: u32) -> Result<Vec<List<Itv>>, NoMemory>
+    ensures { IfOk result (λ v. AreMembers model.now n v.items) }
+{
+    let mut lists = Vec::new(alloc);
+    for k in 0..n {
+        lists.push(members_in(alloc, model, sequence_at(model, k))?)?;
+    }
+    Ok(lists)
+}
+
+#[tactic(auto, using(crate::proofs::Making::no_sequences, crate::proofs::Making::more_sequences, crate::proofs::Making::all_sequences))]
+fn sequence_of_each(alloc: Global, model: &Model, n: u32) -> Result<Vec<List<Seq>>, NoMemory>
+    ensures { IfOk result (λ v. AreSequences model.now n v.items) }
+{
+    let mut lists = Vec::new(alloc);
+    for k in 0..n {
+        lists.push(as_list(alloc, sequence_at(model, k))?)?;
+    }
+    Ok(lists)
+}
+
+/// What is found of a constraint.
+fn ask_constraint(
+    model: &Model,
+    region: &Region,
+    best: Option<i64>,
+    c: u32,
+) -> Option<Finding<SeqWitness>>
+    requires of { IsRegionOf model.now region.now.region }
+    requires within { c < length model.now.constraints }
+    ensures none { IfNone result (quiet model.now c region.now.region best) }
+    ensures some { IfSome result (IsFinding refutes model.now region.now.region best) }
+    ensures busy { IfSome result (λ f. quiet model.now c region.now.region best → ⊥) }
+{
+    match at(model.constraints(), c as usize) {
+        Some(Constraint::NoOverlap { p, matrix, direct }) => {
+            let d = Disjunctive {
+                c,
+                p: *p,
+                matrix: *matrix,
+                direct: *direct,
+            };
+            ask_pairs(model, region, best, &d, members_of(model, *p))
+        }
+        _ => None,
+    }
+}
+
+impl PropUnary {
+    /// The propagators of a model. Only this call asks for memory, as much as the sequences have
+    /// members, twice and once more for each constraint without overlap.
+    pub fn new(alloc: Global, model: &Model) -> Result<PropUnary, NoMemory>
+        ensures { IfOk result (λ p. IsFor p model.now) }
+    {
+        let constraints = model.constraints().len() as u32;
+        let n = constraints + model.sequences().len() as u32;
+        let members = members_of_each(alloc, model, n)?;
+        let sequences = sequence_of_each(alloc, model, n)?;
+        Ok(PropUnary {
+            constraints,
+            members,
+            sequences,
+        })
+    }
+
+    /// How many there are.
+    pub fn count(&self) -> u32
+        ensures { (m : Data) → IsFor self.now m → result ≡ size_of m }
+    {
+        self.members.len() as u32
+    }
+
+    /// What one of them finds; nothing exactly where it is quiet.
+    pub fn next(
+        &mut self,
+        k: u32,
+        model: &Model,
+        region: &Region,
+        best: Option<i64>,
+    ) -> Option<Finding<SeqWitness>>
+        requires of { IsFor self.old model.now }
+        requires below { k < size_of model.now }
+        requires region { IsRegionOf model.now region.now.region }
+        ensures kept { (m : Data) → IsFor self.old m → IsFor self.new m }
+        ensures none { IfNone result (quiet model.now k region.now.region best) }
+        ensures some { IfSome result (IsFinding refutes model.now region.now.region best) }
+        ensures busy { IfSome result (λ f. quiet model.now k region.now.region best → ⊥) }
+    {
+        if k < self.constraints {
+            return ask_constraint(model, region, best, k);
+        }
+        let p = Seq(k - self.constraints);
+        ask_circles(model, region, best, p, members_of(model, p))
+    }
+
+    /// The intervals whose presence it watches.
+    pub fn watched_presences(&self, k: u32) -> &[Itv]
+        requires { (m : Data) × IsFor self.now m × (k < size_of m) }
+        ensures { (m : Data) → IsFor self.now m → (x : Itvs) → IsTrue (watching m k (cell.Presence x)) → IsTrue (has result.now x) }
+    {
+        self.members[k as usize].as_slice()
+    }
+
+    /// The intervals whose bounds it watches.
+    pub fn watched_bounds(&self, k: u32) -> &[Itv]
+        requires { (m : Data) × IsFor self.now m × (k < size_of m) }
+        ensures { (m : Data) → IsFor self.now m → (c : CellNames) → is_bound c ≡ true → IsTrue (watching m k c) → IsTrue (is_bound_of result.now c) }
+    {
+        if k >= self.constraints {
+            return &[];
+        }
+        self.members[k as usize].as_slice()
+    }
+
+    /// The sequences whose orders it watches.
+    pub fn watched_orders(&self, k: u32) -> &[Seq]
+        requires { (m : Data) × IsFor self.now m × (k < size_of m) }
+        ensures { (m : Data) → IsFor self.now m → (p : Seqs) (x y : Itvs) → IsTrue (watching m k (cell.Order p x y)) → IsTrue (list_any (λ q. nat_eq p.0 q.0) result.now) }
+    {
+        self.sequences[k as usize].as_slice()
+    }
+
+    /// Whether it watches the best value.
+    pub fn watches_best(&self, k: u32) -> bool
+        ensures { (m : Data) → result ≡ watching_best m k }
+    {
+        let _ = k;
+        false
+    }
+
+    /// The level on which it is woken: a sequence on the last, since it looks at three members at a
+    /// time.
+    pub fn level(&self, k: u32) -> u8 {
+        if k < self.constraints {
+            return 0;
+        }
+        u8::MAX
+    }
+}
