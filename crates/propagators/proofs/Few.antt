@@ -1,5 +1,5 @@
 -- A valid model has few propagators.
-use Rattle.std.specs.Prelude.{◌+◌, ◌≤◌, ◌^◌}
+use Rattle.std.specs.Prelude.{ℕ, ◌+◌, ◌≤◌, ◌^◌}
 use Rattle.std.proofs.Common.{arith}
 use Rattle.sched_model.specs.Data.{Data}
 use Rattle.sched_model.specs.Valid.{IsValid}
@@ -7,10 +7,12 @@ use Rattle.sched_model.specs.laws.Limits.{limits_of}
 use Rattle.prop_basic.specs.Tasks.{size_of}
 use Rattle.prop_temporal.specs.Tasks.{size_of as size_of_temporal}
 use Rattle.prop_hier.specs.Tasks.{size_of as size_of_hier}
+use Rattle.prop_unary.specs.Tasks.{size_of as size_of_unary}
 
-pub not_too_many : (m : Data) → IsValid m → (2 ^ 32) ≤ (size_of m + (size_of_temporal m + size_of_hier m)) → ⊥
-not_too_many m valid many =
+pub not_too_many : (m : Data) → IsValid m → (n : ℕ) → n ≤ size_of m + (size_of_temporal m + (size_of_hier m + size_of_unary m)) → (2 ^ 32) ≤ n → ⊥
+not_too_many m valid n all many =
     let limits = limits_of m valid.limits in
     let intervals = limits.intervals in
     let constraints = limits.constraints in
-    omega (arith, many, intervals, constraints)
+    let sequences = limits.sequences in
+    omega (arith, all, many, intervals, constraints, sequences)

@@ -1,14 +1,18 @@
--- The lists of intervals name what is watched, and no order is.
-use Rattle.std.specs.Prelude.{◌≡◌, ℕ, zero, suc, ◌-◌, Bool, true, false, List, [], length, IsTrue, nat_lt, cond}
+-- The lists of intervals and of sequences name what is watched.
+use Rattle.std.specs.Prelude.{◌≡◌, ℕ, zero, suc, ◌-◌, Bool, true, false, List, [], length, IsTrue, nat_eq, nat_lt, cond}
+use Rattle.std.specs.List.{list_any}
 use Rattle.std.proofs.Common.{refl, sym, ◌∙◌}
 use Rattle.sched_base.specs.declared.ids.Itv.{Itv}
+use Rattle.sched_base.specs.declared.ids.Seq.{Seq}
 use Rattle.sched_model.specs.Data.{Data, has}
 use Rattle.region.specs.declared.types.CellName.{CellName}
 use Rattle.region.specs.declared.types.CellName.TheVariants as cell
 use Rattle.findings.specs.Reads.{reads_cell}
 use Rattle.refute_basic.specs.declared.witness.BasicWitness.TheVariants.{Size, Expr}
 use Rattle.prop_basic.specs.Tasks.{reads_of, watching, is_cell_of}
-use Rattle.prop_temporal.specs.Tasks.{watching as watching_walks, is_bound}
+use Rattle.prop_temporal.specs.Tasks.{watching as watching_walks, is_bound, has_sequence}
+use Rattle.prop_hier.specs.Tasks.{watching as watching_hier, is_bound as is_bound_hier, is_cell_of as is_cell_of_hier}
+use Rattle.prop_unary.specs.Tasks.{watching as watching_unary, is_bound as is_bound_unary, is_bound_of}
 use Rattle.engine.specs.Watched.{names_presence, names_bound, names_order}
 use Rattle.base_laws.specs.laws.Truth.{alone}
 
@@ -28,9 +32,9 @@ bound_named xs (cell.EndMin x) h = h
 bound_named xs (cell.EndMax x) h = h
 bound_named xs (cell.Order p x y) h = tt
 
--- the same where lists are told for bounds and for other cells apart
-pub presence_equal : (m : Data) (k : ℕ) (xs : List Itv) → ((c : CellName) → is_bound c ≡ false → watching_walks m k c ≡ is_cell_of xs c) → (c : CellName) → IsTrue (watching_walks m k c) → names_presence xs c
-presence_equal m k xs same (cell.Presence x) h = presence_named xs (cell.Presence x) (sym (same (cell.Presence x) refl) ∙ h)
+-- the same where lists are told for presences, for bounds and for orders apart
+pub presence_equal : (m : Data) (k : ℕ) (xs : List Itv) → ((x : Itv) → watching_walks m k (cell.Presence x) ≡ is_cell_of xs (cell.Presence x)) → (c : CellName) → IsTrue (watching_walks m k c) → names_presence xs c
+presence_equal m k xs same (cell.Presence x) h = presence_named xs (cell.Presence x) (sym (same x) ∙ h)
 presence_equal m k xs same (cell.StartMin x) h = tt
 presence_equal m k xs same (cell.StartMax x) h = tt
 presence_equal m k xs same (cell.EndMin x) h = tt
@@ -45,6 +49,39 @@ bound_equal m k xs same (cell.EndMin x) h = sym (same (cell.EndMin x) refl) ∙ 
 bound_equal m k xs same (cell.EndMax x) h = sym (same (cell.EndMax x) refl) ∙ h
 bound_equal m k xs same (cell.Order p x y) h = tt
 
+pub order_equal : (m : Data) (k : ℕ) (ps : List Seq) → ((p : Seq) (x y : Itv) → watching_walks m k (cell.Order p x y) ≡ has_sequence ps p) → (c : CellName) → IsTrue (watching_walks m k c) → names_order ps c
+order_equal m k ps same (cell.Presence x) h = tt
+order_equal m k ps same (cell.StartMin x) h = tt
+order_equal m k ps same (cell.StartMax x) h = tt
+order_equal m k ps same (cell.EndMin x) h = tt
+order_equal m k ps same (cell.EndMax x) h = tt
+order_equal m k ps same (cell.Order p x y) h = sym (same p x y) ∙ h
+
+-- and where they are told for each cell
+pub presence_each : (m : Data) (k : ℕ) (xs : List Itv) → ((x : Itv) → IsTrue (watching_unary m k (cell.Presence x)) → IsTrue (has xs x)) → (c : CellName) → IsTrue (watching_unary m k c) → names_presence xs c
+presence_each m k xs each (cell.Presence x) h = each x h
+presence_each m k xs each (cell.StartMin x) h = tt
+presence_each m k xs each (cell.StartMax x) h = tt
+presence_each m k xs each (cell.EndMin x) h = tt
+presence_each m k xs each (cell.EndMax x) h = tt
+presence_each m k xs each (cell.Order p x y) h = tt
+
+pub bound_each : (m : Data) (k : ℕ) (xs : List Itv) → ((c : CellName) → is_bound_unary c ≡ true → IsTrue (watching_unary m k c) → IsTrue (is_bound_of xs c)) → (c : CellName) → IsTrue (watching_unary m k c) → names_bound xs c
+bound_each m k xs each (cell.Presence x) h = tt
+bound_each m k xs each (cell.StartMin x) h = each (cell.StartMin x) refl h
+bound_each m k xs each (cell.StartMax x) h = each (cell.StartMax x) refl h
+bound_each m k xs each (cell.EndMin x) h = each (cell.EndMin x) refl h
+bound_each m k xs each (cell.EndMax x) h = each (cell.EndMax x) refl h
+bound_each m k xs each (cell.Order p x y) h = tt
+
+pub order_each : (m : Data) (k : ℕ) (ps : List Seq) → ((p : Seq) (x y : Itv) → IsTrue (watching_unary m k (cell.Order p x y)) → IsTrue (list_any (λ q. nat_eq p.0 q.0) ps)) → (c : CellName) → IsTrue (watching_unary m k c) → names_order ps c
+order_each m k ps each (cell.Presence x) h = tt
+order_each m k ps each (cell.StartMin x) h = tt
+order_each m k ps each (cell.StartMax x) h = tt
+order_each m k ps each (cell.EndMin x) h = tt
+order_each m k ps each (cell.EndMax x) h = tt
+order_each m k ps each (cell.Order p x y) h = each p x y h
+
 pub no_orders : (m : Data) (k : ℕ) (c : CellName) → IsTrue (watching m k c) → names_order [] c
 no_orders m k (cell.Presence x) h = tt
 no_orders m k (cell.StartMin x) h = tt
@@ -57,3 +94,28 @@ no_orders m (suc i) (cell.Order p x y) h = by_case (nat_lt i (length m.intervals
     by_case : (b : Bool) → IsTrue (reads_cell (reads_of m (cond b (Size i) (Expr (i - length m.intervals)))) (cell.Order p x y)) → names_order [] (cell.Order p x y)
     by_case true h = h
     by_case false h = h
+
+-- and where orders are watched too
+pub hier_presences : (m : Data) (k : ℕ) (xs : List Itv) → ((x : Itv) → watching_hier m k (cell.Presence x) ≡ has xs x) → (c : CellName) → IsTrue (watching_hier m k c) → names_presence xs c
+hier_presences m k xs same (cell.Presence x) h = sym (same x) ∙ h
+hier_presences m k xs same (cell.StartMin x) h = tt
+hier_presences m k xs same (cell.StartMax x) h = tt
+hier_presences m k xs same (cell.EndMin x) h = tt
+hier_presences m k xs same (cell.EndMax x) h = tt
+hier_presences m k xs same (cell.Order p x y) h = tt
+
+pub hier_bounds : (m : Data) (k : ℕ) (xs : List Itv) → ((c : CellName) → is_bound_hier c ≡ true → watching_hier m k c ≡ is_cell_of_hier xs c) → (c : CellName) → IsTrue (watching_hier m k c) → names_bound xs c
+hier_bounds m k xs same (cell.Presence x) h = tt
+hier_bounds m k xs same (cell.StartMin x) h = sym (same (cell.StartMin x) refl) ∙ h
+hier_bounds m k xs same (cell.StartMax x) h = sym (same (cell.StartMax x) refl) ∙ h
+hier_bounds m k xs same (cell.EndMin x) h = sym (same (cell.EndMin x) refl) ∙ h
+hier_bounds m k xs same (cell.EndMax x) h = sym (same (cell.EndMax x) refl) ∙ h
+hier_bounds m k xs same (cell.Order p x y) h = tt
+
+pub hier_orders : (m : Data) (k : ℕ) (ps : List Seq) → ((p : Seq) (x y : Itv) → watching_hier m k (cell.Order p x y) ≡ list_any (λ q. nat_eq p.0 q.0) ps) → (c : CellName) → IsTrue (watching_hier m k c) → names_order ps c
+hier_orders m k ps same (cell.Presence x) h = tt
+hier_orders m k ps same (cell.StartMin x) h = tt
+hier_orders m k ps same (cell.StartMax x) h = tt
+hier_orders m k ps same (cell.EndMin x) h = tt
+hier_orders m k ps same (cell.EndMax x) h = tt
+hier_orders m k ps same (cell.Order p x y) h = sym (same p x y) ∙ h

@@ -6,18 +6,17 @@ use Rattle.region.specs.Cells.{Region}
 use Rattle.findings.specs.Found.{IsQuiet}
 use Rattle.refute_basic.specs.Listed.{lists, is_derived as is_derived_basic}
 use Rattle.refute_hier.specs.Listed.{lists as lists_hier, is_derived as is_derived_hier}
-use Rattle.refute_seq.specs.Listed.{lists as lists_seq}
+use Rattle.refute_seq.specs.Listed.{lists as lists_seq, is_derived as is_derived_seq}
 use Rattle.kernel.specs.declared.types.Witness.{Witness}
 use Rattle.kernel.specs.declared.types.Witness.TheVariants.{Basic, Hier, Seq, Extra}
 use Rattle.kernel.specs.declared.no_extra.NoWitness.{NoWitness}
 use Rattle.engine.specs.Plain.{refutes_plain}
 
--- facts are derived by each kind but LEAF, and not yet by those of sequences; the extra witnesses of a plain log refute
--- nothing
+-- facts are derived by each kind but LEAF; the extra witnesses of a plain log refute nothing
 abbrev pub is_derived : Data → Witness NoWitness → Bool
 is_derived m (Basic w) = is_derived_basic w
 is_derived m (Hier w) = is_derived_hier w
-is_derived m (Seq w) = false
+is_derived m (Seq w) = is_derived_seq w
 is_derived m (Extra w) = false
 
 -- the guesses under which a witness is asked, as its row lists them

@@ -8,28 +8,34 @@ ghost use Rattle.propagators.specs.Quiet.{IsQuietRegion};
 use crate::basic::FromBasic;
 use crate::hier::FromHier;
 use crate::temporal::FromTemporal;
+use crate::unary::FromUnary;
 use engine::{Both, Engine, Propagator};
 use prop_basic::PropBasic;
 use prop_hier::PropHier;
 use prop_temporal::PropTemporal;
+use prop_unary::PropUnary;
 use sched_base::NoMemory;
 use sched_model::Model;
 use std::alloc::Global;
 
 /// All propagators. A further crate of propagators is joined to these by `engine::Both`.
-pub type All = Both<FromBasic, Both<FromTemporal, FromHier>>;
+pub type All = Both<FromBasic, Both<FromTemporal, Both<FromHier, FromUnary>>>;
 
 /// The engine over all propagators of a model, each of them awake.
 pub fn start(alloc: Global, model: &Model) -> Result<Engine<All>, NoMemory>
     ensures made { IfOk result (IsFor ⟦<All as Propagator>⟧ model.now) }
     ensures awake { IfOk result (AreAwake ⟦<All as Propagator>⟧ model.now) }
 {
-    // The model is valid by its type, so it has few intervals and constraints.
+    // The model is valid by its type, so it has few intervals, constraints and sequences.
     let _ = model.intervals();
     let basic = FromBasic(PropBasic::new(alloc, model)?);
     let temporal = FromTemporal(PropTemporal::new(alloc, model)?);
     let hier = FromHier(PropHier::new(alloc, model)?);
-    let Some(others) = Both::new(temporal, hier) else {
+    let unary = FromUnary(PropUnary::new(alloc, model)?);
+    let Some(last) = Both::new(hier, unary) else {
+        unreachable!();
+    };
+    let Some(others) = Both::new(temporal, last) else {
         unreachable!();
     };
     let Some(all) = Both::new(basic, others) else {

@@ -6,8 +6,8 @@ use region::Region;
 use sched_base::{Itv, NoMemory, Seq};
 use sched_model::Model;
 
-/// The propagators of spans, alternatives and synchronizations, with their witnesses as a log has
-/// them.
+/// The propagators of spans, alternatives and synchronizations, and of relations of the members of
+/// sequences, with their witnesses as a log has them.
 #[derive(Debug, Drop)]
 pub struct FromHier(pub PropHier);
 
@@ -46,19 +46,18 @@ impl Propagator for FromHier {
         }))
     }
 
-    #[tactic(auto, using(crate::proofs::Watching::presence_named))]
+    #[tactic(auto, using(crate::proofs::Watching::hier_presences))]
     fn watched_presences(&self, k: u32) -> &[Itv] {
-        self.0.watched(k)
+        self.0.watched_presences(k)
     }
 
-    #[tactic(auto, using(crate::proofs::Watching::bound_named))]
+    #[tactic(auto, using(crate::proofs::Watching::hier_bounds))]
     fn watched_bounds(&self, k: u32) -> &[Itv] {
-        self.0.watched(k)
+        self.0.watched_bounds(k)
     }
 
-    #[tactic(auto, using(crate::proofs::Watching::no_orders))]
-    fn watched_orders(&self, _: u32) -> &[Seq] {
-        &[]
+    fn watched_orders(&self, k: u32) -> &[Seq] {
+        self.0.watched_orders(k)
     }
 
     fn watches_best(&self, k: u32) -> bool {

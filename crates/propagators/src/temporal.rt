@@ -55,9 +55,9 @@ impl Propagator for FromTemporal {
         self.0.watched_bounds(k)
     }
 
-    #[tactic(auto, using(crate::proofs::Watching::no_orders))]
-    fn watched_orders(&self, _: u32) -> &[Seq] {
-        &[]
+    #[tactic(auto, using(crate::proofs::Watching::order_equal))]
+    fn watched_orders(&self, k: u32) -> &[Seq] {
+        self.0.watched_orders(k)
     }
 
     fn watches_best(&self, k: u32) -> bool {

@@ -19,15 +19,20 @@ use Rattle.kernel.specs.declared.types.Witness.TheVariants.{Basic, Hier, Seq, Ex
 use Rattle.kernel.specs.declared.no_extra.NoWitness.{NoWitness}
 use Rattle.engine.specs.Pairs.{chosen}
 use Rattle.engine.specs.Plain.{refutes_plain}
-use Rattle.refute_hier.specs.declared.witness.HierWitness.{HierWitness}
 use Rattle.refute_hier.specs.Hier.{refutes as refutes_hier}
-use Rattle.refute_hier.specs.Listed.{lists as lists_hier, is_derived as is_derived_hier}
+use Rattle.refute_hier.specs.Listed.{lists as lists_hier}
 use Rattle.prop_basic.specs.Tasks.{size_of, looks_after, quiet, is_own}
 use Rattle.prop_basic.specs.laws.Owners.{unowned}
 use Rattle.prop_temporal.specs.Tasks.{size_of as size_of_temporal, looks_after as looks_after_temporal, quiet as quiet_temporal, is_temporal}
 use Rattle.prop_temporal.specs.laws.Owners.{unowned as unowned_temporal}
 use Rattle.prop_hier.specs.Tasks.{size_of as size_of_hier, looks_after as looks_after_hier, quiet as quiet_hier}
 use Rattle.prop_hier.specs.laws.Owners.{unowned as unowned_hier}
+use Rattle.refute_seq.specs.declared.witness.SeqWitness.{SeqWitness}
+use Rattle.refute_seq.specs.declared.witness.SeqWitness.TheVariants.{Pair, Triple}
+use Rattle.refute_seq.specs.OnSequence.{refutes as refutes_seq}
+use Rattle.refute_seq.specs.Listed.{lists as lists_seq}
+use Rattle.prop_unary.specs.Tasks.{size_of as size_of_unary, looks_after as looks_after_unary, quiet as quiet_unary, is_own as is_unary}
+use Rattle.prop_unary.specs.laws.Owners.{unowned as unowned_unary}
 use Rattle.propagators.specs.Quiet.{is_derived, lists_all, IsQuietRegion}
 
 -- one of the first numbers passes a test, or none does
@@ -74,6 +79,7 @@ pub record AllQuiet (m : Data) (r : Region) (best : Option ℤ) : Type 0 where
   pub basic : (k : ℕ) → k < size_of m → quiet m k r best
   pub temporal : (k : ℕ) → k < size_of_temporal m → quiet_temporal m k r best
   pub hier : (k : ℕ) → k < size_of_hier m → quiet_hier m k r best
+  pub unary : (k : ℕ) → k < size_of_unary m → quiet_unary m k r best
 
 basic_unrefuted : (m : Data) (r : Region) (best : Option ℤ) → IsRegionOf m r → AllQuiet m r best
     → (w : BasicWitness) (guess : Option Guess) → is_derived_basic w ≡ true → IsTrue (is_asked (lists m w) r guess) → refutes m (seen_at r best guess) w ≡ false
@@ -82,12 +88,18 @@ basic_unrefuted m r best of all w guess derived asked = elim (own_or_temporal w 
   | inr also ↦ unrefuted_by refutes lists looks_after_temporal (size_of_temporal m) m r best of all.temporal w (λ l stays none. unowned_temporal m l w also none) guess asked
 ]
 
+-- a kind of `refute_seq` is asked by one crate
+unary_kind : (w : SeqWitness) → is_unary w ≡ true
+unary_kind (Pair c a b k) = refl
+unary_kind (Triple p x y z) = refl
+
 all_unrefuted : (m : Data) (r : Region) (best : Option ℤ) → IsRegionOf m r → AllQuiet m r best
     → (w : Witness NoWitness) (guess : Option Guess) → IsTrue (is_derived m w) → IsTrue (is_asked (lists_all m w) r guess) → refutes_plain m (seen_at r best guess) w ≡ false
 all_unrefuted m r best of all (Basic w) guess derived asked = basic_unrefuted m r best of all w guess derived asked
 all_unrefuted m r best of all (Hier w) guess derived asked =
     unrefuted_by refutes_hier lists_hier looks_after_hier (size_of_hier m) m r best of all.hier w (λ l stays none. unowned_hier m l w stays refl none) guess asked
-all_unrefuted m r best of all (Seq w) guess derived asked = cc
+all_unrefuted m r best of all (Seq w) guess derived asked =
+    unrefuted_by refutes_seq lists_seq looks_after_unary (size_of_unary m) m r best of all.unary w (λ l stays none. unowned_unary m l w stays (unary_kind w) none) guess asked
 all_unrefuted m r best of all (Extra w) guess derived asked = refl
 
 pub covered : (m : Data) (r : Region) (best : Option ℤ) → IsRegionOf m r → AllQuiet m r best → IsQuietRegion m r best
