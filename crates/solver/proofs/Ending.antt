@@ -26,7 +26,7 @@ use Rattle.solver.proofs.Fitting.{fail_line, split_line, sol_line}
 pub closes_line : (m : Data) (r : Region) (best : Option ℤ) (failed : Bool) (line : PlainLine) → IsValid m → IsRegionOf m r → Closes m r best failed line → IsLine numbers_of is_valid line
 closes_line m r best failed (Fail w) valid of h = fail_line m (seen_at r best None) w h
 closes_line m r best failed (Split g) valid of h = split_line m r g valid of h.0.splits_it
-closes_line m r best failed (Sol a) valid of h = subst (λ b. IsLine numbers_of is_valid (Sol b)) (sym h.1) (sol_line m r valid h.2.solution)
+closes_line m r best failed (Sol a) valid of h = subst (λ b. IsLine numbers_of is_valid (Sol b)) (sym h.1) (sol_line m r valid of h.2.solution)
 closes_line m r best failed (Derive g w) valid of h = absurd h
 
 pub closes_ends : (m : Data) (r : Region) (best : Option ℤ) (failed : Bool) (line : PlainLine) (n : ℕ) → Closes m r best failed line → derived_after line n ≡ 0

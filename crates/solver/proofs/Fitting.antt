@@ -1,6 +1,6 @@
 -- The lines of the search are lines that a log may hold.
-use Rattle.std.proofs.Common.{◌≡◌, ℕ, ◌+◌, ◌*◌, ◌<◌, ◌≤◌, ◌^◌, ℤ, pos, negsuc, Bool, true, List, [], ◌∷◌, ◌++◌, length, Option, Some, refl, sym, ap, subst, arith, length-append}
-use Rattle.std.specs.Prelude.{◌&&◌, flat_map, map, nat_le}
+use Rattle.std.proofs.Common.{◌≡◌, ℕ, ◌+◌, ◌*◌, ◌<◌, ◌≤◌, ◌^◌, ℤ, pos, negsuc, Bool, true, List, [], ◌∷◌, ◌++◌, length, Option, Some, refl, sym, ap, subst, ◌∙◌, arith, length-append}
+use Rattle.std.specs.Prelude.{◌&&◌, flat_map, map, nat_le, nat_lt}
 use Rattle.std.specs.Fmt.{decimal, signed_decimal}
 use Rattle.std.specs.Int.Signed.{mag}
 use Rattle.std.specs.List.{list_all}
@@ -8,20 +8,24 @@ use Rattle.std.proofs.lemmas.Int.{ints}
 use Rattle.std.proofs.lemmas.Bool.{ltb-true, leb-true}
 use Rattle.std.proofs.lemmas.Bool.Decides.{nat_tests}
 use Rattle.std.proofs.lemmas.Fmt.{length-decimal-le, length_signed_le}
+use Rattle.std.proofs.lemmas.List.{length-map}
 use Rattle.std.proofs.lemmas.List.Concat.{flat_map-cons}
 use Rattle.sched_model.specs.declared.types.IntervalDef.{IntervalDef}
 use Rattle.sched_model.specs.declared.types.Slot.{Slot}
 use Rattle.sched_model.specs.declared.types.Slot.TheVariants as slot
 use Rattle.sched_model.specs.Words.{placewise, is_between}
-use Rattle.sched_model.specs.Data.{Data}
+use Rattle.sched_model.specs.Data.{Data, has}
 use Rattle.sched_model.specs.Domain.{fits_def, is_in_domain}
 use Rattle.sched_model.specs.Sentences.{holds}
 use Rattle.sched_model.specs.Solution.{is_solution}
 use Rattle.sched_model.specs.laws.Small.{moments_small}
-use Rattle.sched_model.specs.Valid.{IsValid, is_small, is_interval_def, is_span_of_moments}
+use Rattle.sched_model.specs.declared.types.SequenceDef.{SequenceDef}
+use Rattle.sched_base.specs.declared.ids.Itv.{Itv}
+use Rattle.sched_model.specs.Valid.{IsValid, is_small, is_itv, are_parts, are_distinct, is_interval_def, is_sequence_def, is_span_of_moments}
 use Rattle.region.specs.declared.types.Guess.{Guess}
 use Rattle.region.specs.declared.types.Guess.TheVariants.{Present, Absent, StartLe, StartGe, EndLe, EndGe, Before}
-use Rattle.region.specs.Cells.{Region, settled_slots}
+use Rattle.region.specs.Orders.{SequenceCells, is_before}
+use Rattle.region.specs.Cells.{Region, is_there, settled_slots}
 use Rattle.region.specs.Guesses.{splits}
 use Rattle.region.specs.Looks.{Seen, IsRegionOf, seen_at}
 use Rattle.region.specs.laws.Lists.{both_true, true_both, placewise-length}
@@ -33,13 +37,17 @@ use Rattle.refute_basic.specs.Witness.{name_numbers, is_valid as is_valid_basic,
 use Rattle.refute_basic.specs.Basic.{refutes, row_of}
 use Rattle.refute_basic.specs.Cycle.{closes}
 use Rattle.refute_hier.specs.declared.witness.HierWitness.{HierWitness}
-use Rattle.refute_hier.specs.declared.witness.HierWitness.TheVariants.{Span, Alt, Sync}
+use Rattle.refute_hier.specs.declared.witness.HierWitness.TheVariants.{Span, Alt, Sync, SeqRel}
 use Rattle.refute_hier.specs.Witness.{is_valid as is_valid_hier}
 use Rattle.refute_hier.specs.laws.Spelling.{refuting_valid as hier_valid}
 use Rattle.refute_seq.specs.declared.witness.SeqWitness.{SeqWitness}
 use Rattle.refute_seq.specs.declared.witness.SeqWitness.TheVariants.{Pair, Triple}
 use Rattle.refute_seq.specs.Witness.{is_valid as is_valid_seq}
 use Rattle.refute_seq.specs.laws.Spelling.{refuting_valid as seq_valid}
+use Rattle.refute_seq.specs.Order.{settled_order, settled_orders}
+use Rattle.refute_seq.specs.laws.Placed.{ordered_few}
+use Rattle.refute_seq.specs.laws.Ordered.{has_settled_in}
+use Rattle.region.specs.laws.Orderly.{all_has, each_all}
 use Rattle.solver.specs.Leaves.{empty_for_each, settled_assignment}
 use Rattle.kernel.specs.declared.types.Line.TheVariants.{Derive, Fail, Split, Sol}
 use Rattle.kernel.specs.declared.types.Witness.{Witness}
@@ -51,7 +59,7 @@ use Rattle.kernel.specs.NoExtra.{numbers_of, is_valid}
 use Rattle.kernel.specs.laws.Fits.{few_intervals, few_lists, fit_admitted, fit_splitting}
 use Rattle.kernel.specs.Fit.{is_count, is_id, is_fit, is_fit_guess, is_fit_slot, is_fit_order, are_fit_segments}
 use Rattle.textline.specs.Lines.{Bytes, line}
-use Rattle.logtext.specs.Spelling.{line_words, guess_words, witness_words, slot_words, order_words, segments_words}
+use Rattle.logtext.specs.Spelling.{line_words, guess_words, witness_words, slot_words, order_words, member_word, segments_words}
 use Rattle.logtext.specs.Logs.{PlainLine, IsLine}
 use Rattle.sched_model.specs.Bounds.{is_number}
 
@@ -135,6 +143,9 @@ hier_short (Alt c r i j) h =
 hier_short (Sync c i) h =
     let two = both_true (is_number c) (is_number i) h in
     ((omega arith, (count_short c two.0, (count_short i two.1, tt))), omega arith)
+hier_short (SeqRel c x) h =
+    let two = both_true (is_number c) (is_number x) h in
+    ((omega arith, (count_short c two.0, (count_short x two.1, tt))), omega arith)
 
 four_short : (a b c d : ℕ) → (is_number a && is_number b && is_number c && is_number d) ≡ true → AreShort (decimal a ∷ decimal b ∷ decimal c ∷ decimal d ∷ [])
 four_short a b c d h =
@@ -147,7 +158,7 @@ seq_short (Pair c a b k) h = ((omega arith, four_short c a b k h), omega arith)
 seq_short (Triple p x y z) h = ((omega arith, four_short p x y z h), omega arith)
 
 -- a line of few short words
-line_is : (l : PlainLine) → is_fit is_valid l ≡ true → AreShort (line_words numbers_of l) → length (line_words numbers_of l) ≤ 20000 → IsLine numbers_of is_valid l
+line_is : (l : PlainLine) → is_fit is_valid l ≡ true → AreShort (line_words numbers_of l) → length (line_words numbers_of l) ≤ 200000 → IsLine numbers_of is_valid l
 line_is l fit short few = record { fit = fit; text_is = refl; short = omega (arith, line_length (line_words numbers_of l) short, few) }
 
 -- a guess that splits a region is fit
@@ -247,23 +258,79 @@ empty_short spell short few (x ∷ xs) =
       omega (arith, ap (λ (ws : List Bytes). length ws) (flat_map-cons spell [] (empty_for_each xs)), length-append (spell []) (flat_map spell (empty_for_each xs)), few, rest.1),
     )
 
-pub sol_line : (m : Data) (r : Region) → IsValid m → is_solution m (settled_assignment m r) ≡ true → IsLine numbers_of is_valid (Sol (settled_assignment m r))
-sol_line m r valid h =
+-- the orders of a solution are fit, and spelled by few short words
+id_fits : (m : Data) (x : Itv) → length m.intervals ≤ 2000 → is_itv m x ≡ true → is_id x ≡ true
+id_fits m x few is = number_fits x.0 (length m.intervals) few is
+  where
+    number_fits : (n k : ℕ) → k ≤ 2000 → nat_lt n k ≡ true → is_count n ≡ true
+    number_fits n k few below = grind (arith, nat_tests)
+
+count_fits : (n : ℕ) → n ≤ 500 → is_count n ≡ true
+count_fits n few = grind (arith, nat_tests)
+
+members_short : (xs : List Itv) → list_all is_id xs ≡ true → AreShort (map member_word xs)
+members_short [] h = tt
+members_short (x ∷ xs) h = let two = both_true (is_id x) (list_all is_id xs) h in (count_short x.0 two.0, members_short xs two.1)
+
+record IsFitOrder (xs : List Itv) : Type 0 where
+  fit : is_fit_order xs ≡ true
+  short : AreShort (order_words xs)
+  few : length (order_words xs) ≤ 502
+
+fit_order : (m : Data) (r : Region) (d : SequenceDef) (s : SequenceCells) → length m.intervals ≤ 2000 → s.members ≡ d.members → is_sequence_def m d ≡ true → IsFitOrder (settled_order r s)
+fit_order m r d s few same def =
+    let two = both_true (are_parts m d.members) (nat_le (length d.members) 500) (both_true _ _ def).0 in
+    let most : length (settled_order r s) ≤ 500 = omega (arith, ordered_few (is_before s) (is_there r) s.members, ap length same, leb-true (length d.members) 500 two.1) in
+    let ids = each_all is_id (settled_order r s) (λ x here. id_fits m x few (all_has (is_itv m) d.members x (both_true (list_all (is_itv m) d.members) (are_distinct d.members) two.0).0 (subst (λ ms. has ms x ≡ true) same (is_one x here)))) in
+    record {
+      fit = true_both (is_count (length (settled_order r s))) (list_all is_id (settled_order r s)) (count_fits _ most) ids;
+      short = (omega arith, (count_short (length (settled_order r s)) (count_fits _ most), members_short (settled_order r s) ids));
+      few = omega (arith, most, length-map (settled_order r s) member_word);
+    }
+  where
+    is_one : (x : Itv) → has (settled_order r s) x ≡ true → has s.members x ≡ true
+    is_one x here = (both_true (has s.members x) (is_there r x) (sym (has_settled_in r s x) ∙ here)).0
+
+record AreFitOrders (n : ℕ) (xss : List (List Itv)) : Type 0 where
+  fit : list_all is_fit_order xss ≡ true
+  short : AreShort (flat_map order_words xss)
+  few : length (flat_map order_words xss) ≤ 502 * n
+
+fit_orders : (m : Data) (r : Region) (ds : List SequenceDef) (ss : List SequenceCells) → length m.intervals ≤ 2000 → map (λ s. s.members) ss ≡ map (λ d. d.members) ds → list_all (is_sequence_def m) ds ≡ true → AreFitOrders (length ds) (map (settled_order r) ss)
+fit_orders m r [] [] few same defs = record { fit = refl; short = tt; few = omega arith }
+fit_orders m r (d ∷ ds) [] few same defs = cc
+fit_orders m r [] (s ∷ ss) few same defs = cc
+fit_orders m r (d ∷ ds) (s ∷ ss) few same defs =
+    let two = both_true (is_sequence_def m d) (list_all (is_sequence_def m) ds) defs in
+    let here : s.members ≡ d.members = cc same in
+    let later : map (λ s. s.members) ss ≡ map (λ d. d.members) ds = cc same in
+    let first = fit_order m r d s few here two.0 in
+    let rest = fit_orders m r ds ss few later two.1 in
+    let xs = settled_order r s in
+    let xss = map (settled_order r) ss in
+    record {
+      fit = true_both (is_fit_order xs) (list_all is_fit_order xss) first.fit rest.fit;
+      short = subst AreShort (sym (flat_map-cons order_words xs xss)) (short_append (order_words xs) (flat_map order_words xss) first.short rest.short);
+      few = omega (arith, ap (λ (ws : List Bytes). length ws) (flat_map-cons order_words xs xss), length-append (order_words xs) (flat_map order_words xss), first.few, rest.few);
+    }
+
+pub sol_line : (m : Data) (r : Region) → IsValid m → IsRegionOf m r → is_solution m (settled_assignment m r) ≡ true → IsLine numbers_of is_valid (Sol (settled_assignment m r))
+sol_line m r valid of h =
     let domain = (both_true (is_in_domain m (settled_assignment m r)) (list_all (holds m (settled_assignment m r)) m.constraints) h).0 in
     let each : placewise fits_def m.intervals (settled_slots r) ≡ true = (both_true _ _ (both_true _ _ domain).0).0 in
     let fit = fit_slots m.intervals (settled_slots r) valid.intervals each in
     let words = slots_short (settled_slots r) fit in
-    let orders = empty_short order_words (omega arith, (count_short 0 refl, tt)) (omega arith) m.sequences in
+    let orders = fit_orders m r m.sequences r.orders (few_intervals m valid) of.members valid.sequences in
     let segments = empty_short segments_words (omega arith, (count_short 0 refl, tt)) (omega arith) m.states in
     let few = few_lists m valid in
-    line_is (Sol (settled_assignment m r)) (true_both _ _ (true_both _ _ fit (empty_fit is_fit_order refl m.sequences)) (empty_fit are_fit_segments refl m.states))
-    (omega arith, short_append (flat_map slot_words (settled_slots r)) _ words.0 (short_append (flat_map order_words (empty_for_each m.sequences)) _ orders.0 segments.0))
+    line_is (Sol (settled_assignment m r)) (true_both _ _ (true_both _ _ fit orders.fit) (empty_fit are_fit_segments refl m.states))
+    (omega arith, short_append (flat_map slot_words (settled_slots r)) _ words.0 (short_append (flat_map order_words (settled_orders r)) _ orders.short segments.0))
     (omega (
       arith,
-      length-append (flat_map slot_words (settled_slots r)) (flat_map order_words (empty_for_each m.sequences) ++ flat_map segments_words (empty_for_each m.states)),
-      length-append (flat_map order_words (empty_for_each m.sequences)) (flat_map segments_words (empty_for_each m.states)),
+      length-append (flat_map slot_words (settled_slots r)) (flat_map order_words (settled_orders r) ++ flat_map segments_words (empty_for_each m.states)),
+      length-append (flat_map order_words (settled_orders r)) (flat_map segments_words (empty_for_each m.states)),
       words.1,
-      orders.1,
+      orders.few,
       segments.1,
       few_intervals m valid,
       few.0,

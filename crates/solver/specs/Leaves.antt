@@ -6,6 +6,7 @@ use Rattle.sched_model.specs.Data.{Data}
 use Rattle.sched_model.specs.Solution.{is_solution, is_better}
 use Rattle.region.specs.Cells.{Region, settled_slots, allows}
 use Rattle.region.specs.Looks.{Seen}
+use Rattle.refute_seq.specs.Order.{settled_orders}
 use Rattle.kernel.specs.declared.types.Line.TheVariants.{Derive, Fail, Split, Sol}
 use Rattle.logtext.specs.Logs.{PlainLine}
 use Rattle.engine.specs.Plain.{refutes_plain}
@@ -14,9 +15,9 @@ use Rattle.engine.specs.Plain.{refutes_plain}
 abbrev pub empty_for_each : {X Y : Type 0} → List X → List (List Y)
 empty_for_each xs = map (λ x. []) xs
 
--- the assignment of a `Sol` line: the settled slots, an empty order for each sequence, and no segment for any state function
+-- the assignment of a `Sol` line: the settled slots and orders, and no segment for any state function
 abbrev pub settled_assignment : Data → Region → Assignment
-settled_assignment m r = record { slots = settled_slots r; orders = empty_for_each m.sequences; segs = empty_for_each m.states }
+settled_assignment m r = record { slots = settled_slots r; orders = settled_orders r; segs = empty_for_each m.states }
 
 -- it is a solution that the look allows, and better than the best value, where there are an objective and a best value
 pub record Solves (m : Data) (l : Seen) : Type 0 where

@@ -9,10 +9,12 @@ mod leaf;
 mod log_lines;
 mod mark;
 mod open_intervals;
+mod open_pairs;
 mod order;
 mod search;
 mod solving;
 mod state;
+mod weights;
 
 pub use fault::SolveFault;
 pub use solving::solve;

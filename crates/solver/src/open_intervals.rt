@@ -7,9 +7,11 @@ ghost use Rattle.solver.specs.Searching.{CutsRegion};
 
 use crate::branch::cut;
 use crate::choices::{Choice, choices_of, cut_choice};
+use crate::open_pairs::{OpenPairs, Pair};
+use kernel::{NoWitness, Witness};
 use region::{Guess, Look};
 use sched_base::{Itv, NoMemory};
-use sched_model::Model;
+use sched_model::{Assignment, Model};
 use std::alloc::Global;
 
 /// The intervals of which something may be open, the first ones of a list that has each interval
@@ -23,6 +25,7 @@ pub struct OpenIntervals {
     // The interval that was cut last, so that not all have to be looked at while it is open.
     last: Option<u32>,
     choices: Vec<Choice>,
+    pairs: OpenPairs,
 }
 
 impl std::marker::Model for OpenIntervals {
@@ -48,6 +51,7 @@ impl OpenIntervals {
             count: n,
             last: None,
             choices: choices_of(alloc, model)?,
+            pairs: OpenPairs::new(alloc, model)?,
         })
     }
 
@@ -64,6 +68,7 @@ impl OpenIntervals {
     {
         self.count = count;
         self.last = None;
+        self.pairs.restart();
     }
 
     /// Leaves out the one at a place.
@@ -95,6 +100,30 @@ impl OpenIntervals {
             return Some(guess);
         }
         self.cut_first(model, look)
+    }
+
+    /// The tightest pair of present members of a sequence without overlap whose order is open; none
+    /// where what is cut is a presence, which comes first.
+    pub fn tightest_pair(
+        &mut self,
+        model: &Model,
+        look: &Look<'_>,
+        cut: Option<Guess>,
+        guide: Option<&Assignment>,
+    ) -> Option<Pair>
+        ensures { self.new ≡ self.old }
+    {
+        if let Some(Guess::Present(_)) = cut {
+            return None;
+        }
+        self.pairs.tightest(model, look, guide)
+    }
+
+    /// Counts what a witness names that refuted a region, so that it is decided sooner.
+    pub fn blame(&mut self, model: &Model, w: &Witness<NoWitness>)
+        ensures { self.new ≡ self.old }
+    {
+        self.pairs.blame(model, w);
     }
 
     /// A guess that cuts the interval that was cut last. It was cut where no presence was open, and

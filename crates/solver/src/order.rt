@@ -26,7 +26,7 @@ pub fn is_there(look: &Look<'_>, x: Itv) -> bool
 }
 
 /// Whether the two are both told to be there, and their order isn't known.
-fn is_open_order(look: &Look<'_>, p: Seq, x: Itv, y: Itv) -> bool
+pub fn is_open_order(look: &Look<'_>, p: Seq, x: Itv, y: Itv) -> bool
     ensures { not result ≡ is_known_order look.now.region (cells_of look.now.region p) x y }
 {
     is_there(look, x) && is_there(look, y) && is_unknown(look.order(p, x, y))

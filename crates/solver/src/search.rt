@@ -3,7 +3,8 @@ ghost use Rattle.sched_model.specs.Data.{Data};
 ghost use Rattle.sched_model.specs.Domain.{is_in_domain};
 ghost use Rattle.sched_model.specs.Valid.{IsValid};
 ghost use Rattle.region.specs.declared.types.Guess.{Guess as GuessData};
-ghost use Rattle.region.specs.Cells.{Region as Cells, is_settled};
+ghost use Rattle.std.specs.List.{list_all};
+ghost use Rattle.region.specs.Cells.{Region as Cells, is_fixed, is_settled};
 ghost use Rattle.region.specs.Guesses.{splits, with_guess, with_fact};
 ghost use Rattle.region.specs.Looks.{IsRegionOf};
 ghost use Rattle.refute_basic.specs.Served.{is_served};
@@ -19,6 +20,7 @@ use crate::fault::SolveFault;
 use crate::leaf::leaf_line;
 use crate::mark::Mark;
 use crate::open_intervals::OpenIntervals;
+use crate::open_pairs::Pair;
 use crate::order::cut_orders;
 use crate::state::Search;
 use engine::{Engine, Lines, Propagator, Stop};
@@ -85,6 +87,27 @@ impl<P: Propagator> Search<P> {
         Ok(self.engine.run(model, &mut self.region, best, lines)?)
     }
 
+    /// The guess to split by: a presence first, then the order of a pair, then a bound, and then any
+    /// order that is open.
+    fn pick(&self, model: &Model, cut: Option<Guess>, pair: Option<Pair>) -> Option<Guess>
+        requires of { IsRegionOf model.now self.now.region.region }
+        requires cut { IfSome cut (CutsRegion self.now.region.region) }
+        requires fixed { IfNone cut (IsTrue (list_all is_fixed self.now.region.region.bounds)) }
+        ensures some { IfSome result (CutsRegion self.now.region.region) }
+        ensures none { IfNone result (IsTrue (is_settled self.now.region.region)) }
+    {
+        if let Some(pair) = pair {
+            let before = Guess::Before(pair.p, pair.first, pair.second);
+            if self.region.splits(before) {
+                return Some(before);
+            }
+        }
+        if cut.is_some() {
+            return cut;
+        }
+        cut_orders(model, &self.region.look(None, None))
+    }
+
     /// A guess that splits the region; none where it is settled.
     fn choose(&mut self, model: &Model) -> Option<Guess>
         requires ready { IsReady P.Propagator model.now self.old }
@@ -94,10 +117,13 @@ impl<P: Propagator> Search<P> {
         ensures none { IfNone result (IsTrue (is_settled self.old.region.region)) }
     {
         let look = self.region.look(None, None);
-        if let Some(g) = self.intervals.choose(model, &look) {
-            return Some(g);
-        }
-        cut_orders(model, &look)
+        let cut = self.intervals.choose(model, &look);
+        let guide = match &self.found {
+            None => None,
+            Some(f) => Some(&f.assignment),
+        };
+        let pair = self.intervals.tightest_pair(model, &look, cut, guide);
+        self.pick(model, cut, pair)
     }
 
     /// The line that ends the node.
@@ -115,6 +141,7 @@ impl<P: Propagator> Search<P> {
         ensures line { IfOk result (Closes model.now self.old.region.region (best_of self.old.found) (is_failed stop)) }
     {
         if let Stop::Failed(w) = stop {
+            self.intervals.blame(model, &w);
             return Ok(Line::Fail(w));
         }
         if let Some(g) = self.choose(model) {

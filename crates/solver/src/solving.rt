@@ -55,11 +55,13 @@ fn solve_with<P: Propagator, D: Desk>(
 /// and bound, and writes the log of the search. It opens at most `nodes` nodes, and keeps one region
 /// with saves, so its memory grows with the depth of the search. At each node it derives until no
 /// propagator finds anything, or 16 lines for each cell of the region were put; what is left it
-/// splits: an open presence, that of a part of an alternative which is present before all others, and
-/// of these parts the one that can be done soonest; or else a bound of the interval that was cut last,
-/// while it is open, or of the one with the greatest least start, its start before its end, at the
-/// middle, the earlier half first. `Fault` comes only where the desk failed; the log is then, as after
-/// `NoMemory`, a front part of a log's text.
+/// splits. First an open presence, that of a part of an alternative which is present before all
+/// others, and of these parts the one that can be done soonest. Then the order of the tightest pair of
+/// present members of a sequence without overlap, counting more those that were often named where a
+/// region was refuted, and first as in the last schedule. Then a bound of the interval that was cut
+/// last, while it is open, or of the one with the greatest least start, its start before its end, at
+/// the middle, the earlier half first; and orders of other sequences last. `Fault` comes only where
+/// the desk failed; the log is then, as after `NoMemory`, a front part of a log's text.
 pub fn solve<D: Desk>(
     alloc: Global,
     model: &Model,

@@ -1,18 +1,20 @@
--- On a settled region of a model that is served, which neither a LEAF nor a witness of an interval and its parts refutes,
--- the one assignment is a solution, and better than the best value where there are an objective and a best value.
-use Rattle.std.specs.Prelude.{◌≡◌, ℕ, zero, suc, ◌<◌, ◌≤◌, ℤ, Bool, true, false, not, ◌&&◌, IsTrue, List, [], ◌∷◌, Option, Some, None, map, length, slice_get}
+-- On a settled region of a model that is served, which neither a LEAF nor a witness of an interval and its parts nor one of
+-- members of a sequence refutes, the assignment that is left is a solution, and better than the best value where there are
+-- an objective and a best value.
+use Rattle.std.specs.Prelude.{◌≡◌, ℕ, zero, suc, ◌<◌, ◌≤◌, ℤ, Bool, true, false, not, ◌&&◌, IsTrue, List, [], ◌∷◌, Option, Some, None, map, length, slice_get, is_some}
 use Rattle.std.specs.List.{list_all}
 use Rattle.std.proofs.Common.{refl, sym, ap, ◌∙◌, arith}
 use Rattle.std.proofs.lemmas.Int.{ints}
 use Rattle.std.proofs.lemmas.Bool.{true≢false, not-false}
 use Rattle.std.proofs.lemmas.Bool.Decides.{nat_tests}
-use Rattle.sched_model.specs.declared.types.SequenceDef.{SequenceDef}
 use Rattle.sched_model.specs.declared.types.StateDef.{StateDef}
+use Rattle.base_laws.specs.laws.Items.{all_listed}
 use Rattle.sched_model.specs.declared.types.Assignment.{Assignment}
 use Rattle.sched_model.specs.declared.types.Constraint.{Constraint}
 use Rattle.sched_model.specs.declared.types.Constraint.TheVariants.{Temporal, Logic, Span, Alternative, Synchronize, NoOverlap, First, Last, Before, Prev, CumulIn, AlwaysEqual, AlwaysNoState}
+use Rattle.sched_base.specs.declared.ids.Seq.{Seq}
 use Rattle.sched_model.specs.declared.types.Objective.{Objective}
-use Rattle.sched_model.specs.Words.{◌implies◌, passes, passes_if_any, is_empty, placewise}
+use Rattle.sched_model.specs.Words.{◌implies◌, passes, passes_if_any, placewise}
 use Rattle.sched_model.specs.Data.{Data}
 use Rattle.sched_model.specs.Value.{value_of}
 use Rattle.sched_model.specs.Domain.{fits_def, lists_present, are_segments, is_in_domain}
@@ -22,11 +24,11 @@ use Rattle.sched_model.specs.Valid.{IsValid}
 use Rattle.region.specs.declared.types.Presence.{Presence}
 use Rattle.region.specs.declared.types.Presence.TheVariants as presence
 use Rattle.region.specs.declared.types.Bounds.{Bounds}
-use Rattle.region.specs.Orders.{SequenceCells, allows_order}
+use Rattle.region.specs.Orders.{allows_order}
 use Rattle.region.specs.Cells.{Region, is_fixed, is_ordered, is_settled, settled_slot, settled_slots, fits_bounds, allows}
 use Rattle.region.specs.Looks.{Seen, IsRegionOf, is_narrowed}
 use Rattle.region.specs.laws.Lists.{both_true, true_both, placewise-length}
-use Rattle.region.specs.laws.Narrowing.{as_many}
+use Rattle.region.specs.laws.Pinned.{IsSettledTo}
 use Rattle.refute_basic.specs.declared.witness.BasicWitness.TheVariants.{Leaf}
 use Rattle.refute_basic.specs.Served.{is_served_constraint, is_served}
 use Rattle.refute_basic.specs.Leaf.{is_leaf_constraint, settled_alone, has_size, all_sized, fails_at, is_no_better, keeps, leaf_case, leaf_row, PassesLeaf}
@@ -35,7 +37,14 @@ use Rattle.refute_basic.specs.laws.Fits.{settled_fits, few_of}
 use Rattle.refute_basic.specs.laws.SameSlots.{value_same, holds_same}
 use Rattle.refute_hier.specs.declared.witness.HierWitness.{HierWitness}
 use Rattle.refute_hier.specs.Hier.{refutes as hier_refutes}
+use Rattle.refute_hier.specs.SeqRel.{related_in}
 use Rattle.refute_hier.specs.laws.Settled.{keeps_family, all_unrefuted_hold}
+use Rattle.refute_hier.specs.laws.Relations.{unrefuted_related}
+use Rattle.refute_seq.specs.declared.witness.SeqWitness.{SeqWitness}
+use Rattle.refute_seq.specs.OnSequence.{refutes as seq_refutes}
+use Rattle.refute_seq.specs.Order.{settled_orders}
+use Rattle.refute_seq.specs.laws.Ordered.{IsSettledLook, settled_ordered, orders_settled}
+use Rattle.refute_seq.specs.laws.Whole.{orders_present, orders_allowed, keeps_apart, all_unrefuted_hold as all_kept_apart}
 use Rattle.solver.specs.Leaves.{empty_for_each, settled_assignment, Solves}
 use Rattle.sched_model.specs.Bounds.{is_number}
 
@@ -52,33 +61,22 @@ each_fits (b ∷ bs) fixed =
     let two = both_true (is_fixed b) (list_all is_fixed bs) fixed in
     true_both (fits_bounds b (settled_slot b)) _ (fits_itself b.presence b.smin b.smax b.emin b.emax b.pmin b.pmax two.0) (each_fits bs two.1)
 
--- in an empty order none stand against what is told
-empty_allowed : {X : Type 0} (ss : List SequenceCells) (ds : List X) → length ss ≡ length ds → placewise allows_order ss (empty_for_each ds) ≡ true
-empty_allowed [] [] same = refl
-empty_allowed [] (d ∷ ds) same = absurd (omega (arith, same))
-empty_allowed (s ∷ ss) [] same = absurd (omega (arith, same))
-empty_allowed (s ∷ ss) (d ∷ ds) same = empty_allowed ss ds (omega (arith, same))
-
-pub settled_allowed : (m : Data) (r : Region) → IsRegionOf m r → is_settled r ≡ true → allows r (settled_assignment m r) ≡ true
-settled_allowed m r of settled = true_both (placewise fits_bounds r.bounds (settled_slots r)) (placewise allows_order r.orders (empty_for_each m.sequences))
-    (each_fits r.bounds (both_true (list_all is_fixed r.bounds) (list_all (is_ordered r) r.orders) settled).0)
-    (empty_allowed r.orders m.sequences (as_many m r of))
+pub settled_allowed : (m : Data) (l : Seen) → IsSettledLook m l → allows l.region (settled_assignment m l.region) ≡ true
+settled_allowed m l ok = true_both (placewise fits_bounds l.region.bounds (settled_slots l.region)) (placewise allows_order l.region.orders (settled_orders l.region))
+    (each_fits l.region.bounds (both_true (list_all is_fixed l.region.bounds) (list_all (is_ordered l.region) l.region.orders) ok.settled).0)
+    (orders_allowed m l ok)
 
 -- where the sizes are right, it is in the domain
 
--- with no sequence there is no order, and no segments are those of each state function
-no_orders : (m : Data) (a : Assignment) (ds : List SequenceDef) → is_empty ds ≡ true → placewise (lists_present a) ds (empty_for_each ds) ≡ true
-no_orders m a [] h = refl
-no_orders m a (d ∷ ds) h = cc
-
+-- no segments are those of each state function
 no_segments : (m : Data) (gs : List StateDef) → placewise (are_segments m) gs (empty_for_each gs) ≡ true
 no_segments m [] = refl
 no_segments m (g ∷ gs) = no_segments m gs
 
-settled_in_domain : (m : Data) (r : Region) → IsRegionOf m r → is_empty m.sequences ≡ true → is_settled r ≡ true → all_sized r ≡ true → is_in_domain m (settled_assignment m r) ≡ true
-settled_in_domain m r of plain settled sized =
-    true_both (placewise fits_def m.intervals (settled_slots r) && placewise (lists_present (settled_assignment m r)) m.sequences (empty_for_each m.sequences)) _
-    (true_both (placewise fits_def m.intervals (settled_slots r)) _ (settled_fits m r of settled sized) (no_orders m (settled_assignment m r) m.sequences plain))
+settled_in_domain : (m : Data) (l : Seen) → IsSettledLook m l → IsSettledTo m l.region (settled_assignment m l.region) → is_in_domain m (settled_assignment m l.region) ≡ true
+settled_in_domain m l ok to =
+    true_both (placewise fits_def m.intervals (settled_slots l.region) && placewise (lists_present (settled_assignment m l.region)) m.sequences (settled_orders l.region)) _
+    (true_both (placewise fits_def m.intervals (settled_slots l.region)) _ to.fits (orders_present m l (settled_assignment m l.region) ok to))
     (no_segments m m.states)
 
 -- better, where there are an objective and a best value
@@ -92,39 +90,61 @@ beats_best m l (Some o) is (Some v) same h =
     ap (λ q. passes (λ p. beats p.sense (value_of (settled_assignment m l.region) p.expr) v) q) is
     ∙ ap (λ z. beats o.sense z v) (value_same (settled_assignment m l.region) (settled_alone l.region) refl o.expr) ∙ not-false _ at
 
--- each constraint of a model that is served is one at which LEAF looks, or one on an interval and its parts
-served_holds : (m : Data) (a b : Assignment) (c : Constraint) → a.slots ≡ b.slots → is_served_constraint c ≡ true → (is_leaf_constraint c implies holds m b c) ≡ true → keeps_family m a c ≡ true → holds m a c ≡ true
-served_holds m a b (Temporal from to equal x y z) same of leaf kept = holds_same m a b same (Temporal from to equal x y z) refl ∙ leaf
-served_holds m a b (Logic e) same of leaf kept = holds_same m a b same (Logic e) refl ∙ leaf
-served_holds m a b (Span x parts) same of leaf kept = kept
-served_holds m a b (Alternative x parts) same of leaf kept = kept
-served_holds m a b (Synchronize x parts) same of leaf kept = kept
-served_holds m a b (NoOverlap p matrix direct) same of leaf kept = cc
-served_holds m a b (First p x) same of leaf kept = cc
-served_holds m a b (Last p x) same of leaf kept = cc
-served_holds m a b (Before p x y) same of leaf kept = cc
-served_holds m a b (Prev p x y) same of leaf kept = cc
-served_holds m a b (CumulIn f w lo hi) same of leaf kept = cc
-served_holds m a b (AlwaysEqual g x v i j) same of leaf kept = cc
-served_holds m a b (AlwaysNoState g x) same of leaf kept = cc
+-- a relation of the members of a sequence holds: of other kinds this says nothing
+abbrev keeps_related : Data → Assignment → Constraint → Bool
+keeps_related m a d = is_some (related_in d) implies holds m a d
+
+all_related_hold : (m : Data) (l : Seen) (a : Assignment) → IsSettledLook m l → IsSettledTo m l.region a → a.orders ≡ settled_orders l.region → ((w : HierWitness) → hier_refutes m l w ≡ false) → list_all (keeps_related m a) m.constraints ≡ true
+all_related_hold m l a ok to is none = all_listed (keeps_related m a) m.constraints (λ c d here. of_sequence c d here (related_in d) refl)
+  where
+    of_sequence : (c : ℕ) (d : Constraint) → slice_get m.constraints c ≡ Some d → (o : Option Seq) → related_in d ≡ o → (is_some (related_in d) implies holds m a d) ≡ true
+    of_sequence c d here None of = ap (λ o. is_some o implies holds m a d) of
+    of_sequence c d here (Some p) of =
+        let order = settled_ordered m l a p ok to (orders_settled l.region a p is) in
+        ap (λ o. is_some o implies holds m a d) of ∙ unrefuted_related m l a c d p ok.valid to order.lists order.allows none here of
+
+-- each constraint of a model that is served is one at which LEAF looks, one on an interval and its parts, or one of a sequence
+served_holds : (m : Data) (a b : Assignment) (c : Constraint) → a.slots ≡ b.slots → is_served_constraint c ≡ true → (is_leaf_constraint c implies holds m b c) ≡ true → keeps_family m a c ≡ true → keeps_apart m a c ≡ true → keeps_related m a c ≡ true → holds m a c ≡ true
+served_holds m a b (Temporal from to equal x y z) same of leaf kept apart related = holds_same m a b same (Temporal from to equal x y z) refl ∙ leaf
+served_holds m a b (Logic e) same of leaf kept apart related = holds_same m a b same (Logic e) refl ∙ leaf
+served_holds m a b (Span x parts) same of leaf kept apart related = kept
+served_holds m a b (Alternative x parts) same of leaf kept apart related = kept
+served_holds m a b (Synchronize x parts) same of leaf kept apart related = kept
+served_holds m a b (NoOverlap p matrix direct) same of leaf kept apart related = apart
+served_holds m a b (First p x) same of leaf kept apart related = related
+served_holds m a b (Last p x) same of leaf kept apart related = related
+served_holds m a b (Before p x y) same of leaf kept apart related = related
+served_holds m a b (Prev p x y) same of leaf kept apart related = related
+served_holds m a b (CumulIn f w lo hi) same of leaf kept apart related = cc
+served_holds m a b (AlwaysEqual g x v i j) same of leaf kept apart related = cc
+served_holds m a b (AlwaysNoState g x) same of leaf kept apart related = cc
 
 -- so where none fails all of them hold
-all_hold : (m : Data) (r : Region) (cs : List Constraint) → list_all is_served_constraint cs ≡ true → list_all (keeps m r) cs ≡ true → list_all (keeps_family m (settled_assignment m r)) cs ≡ true → list_all (holds m (settled_assignment m r)) cs ≡ true
-all_hold m r [] of leaf kept = refl
-all_hold m r (c ∷ cs) of leaf kept =
+all_hold : (m : Data) (r : Region) (cs : List Constraint) → list_all is_served_constraint cs ≡ true → list_all (keeps m r) cs ≡ true → list_all (keeps_family m (settled_assignment m r)) cs ≡ true → list_all (keeps_apart m (settled_assignment m r)) cs ≡ true
+    → list_all (keeps_related m (settled_assignment m r)) cs ≡ true → list_all (holds m (settled_assignment m r)) cs ≡ true
+all_hold m r [] of leaf kept apart related = refl
+all_hold m r (c ∷ cs) of leaf kept apart related =
     let first = both_true (is_served_constraint c) (list_all is_served_constraint cs) of in
     let second = both_true (keeps m r c) (list_all (keeps m r) cs) leaf in
     let third = both_true (keeps_family m (settled_assignment m r) c) (list_all (keeps_family m (settled_assignment m r)) cs) kept in
-    true_both (holds m (settled_assignment m r) c) _ (served_holds m (settled_assignment m r) (settled_alone r) c refl first.0 second.0 third.0) (all_hold m r cs first.1 second.1 third.1)
+    let fourth = both_true (keeps_apart m (settled_assignment m r) c) (list_all (keeps_apart m (settled_assignment m r)) cs) apart in
+    let fifth = both_true (keeps_related m (settled_assignment m r) c) (list_all (keeps_related m (settled_assignment m r)) cs) related in
+    true_both (holds m (settled_assignment m r) c) _ (served_holds m (settled_assignment m r) (settled_alone r) c refl first.0 second.0 third.0 fourth.0 fifth.0) (all_hold m r cs first.1 second.1 third.1 fourth.1 fifth.1)
 
--- what passes LEAF, and which no witness of an interval and its parts refutes, is a solution
-pub passes_solves : (m : Data) (l : Seen) → IsValid m → IsRegionOf m l.region → is_served m ≡ true → is_settled l.region ≡ true → PassesLeaf m l → ((w : HierWitness) → hier_refutes m l w ≡ false) → Solves m l
+-- no witness of an interval and its parts, or of members of a sequence, refutes
+pub record NoneRefutes (m : Data) (l : Seen) : Type 0 where
+  pub hier : (w : HierWitness) → hier_refutes m l w ≡ false
+  pub seq : (w : SeqWitness) → seq_refutes m l w ≡ false
+
+-- what passes LEAF, and which no such witness refutes, is a solution
+pub passes_solves : (m : Data) (l : Seen) → IsValid m → IsRegionOf m l.region → is_served m ≡ true → is_settled l.region ≡ true → PassesLeaf m l → NoneRefutes m l → Solves m l
 passes_solves m l valid of served settled passed none =
-    let two = both_true (is_empty m.sequences) (list_all is_served_constraint m.constraints) served in
-    let kept = all_unrefuted_hold m l (settled_assignment m l.region) valid (record { of = of; settled = settled; slots = refl; fits = settled_fits m l.region of settled passed.sized }) none in
+    let ok : IsSettledLook m l = record { valid = valid; of = of; settled = settled; none = none.seq } in
+    let to : IsSettledTo m l.region (settled_assignment m l.region) = record { of = of; settled = settled; slots = refl; fits = settled_fits m l.region of settled passed.sized } in
+    let kept = all_unrefuted_hold m l (settled_assignment m l.region) valid to none.hier in
     record {
-      solution = true_both (is_in_domain m (settled_assignment m l.region)) _ (settled_in_domain m l.region of two.0 settled passed.sized) (all_hold m l.region m.constraints two.1 passed.kept kept);
-      allowed = settled_allowed m l.region of settled;
+      solution = true_both (is_in_domain m (settled_assignment m l.region)) _ (settled_in_domain m l ok to) (all_hold m l.region m.constraints served passed.kept kept (all_kept_apart m l (settled_assignment m l.region) ok to refl) (all_related_hold m l (settled_assignment m l.region) ok to refl none.hier));
+      allowed = settled_allowed m l ok;
       better = beats_best m l m.objective refl l.best refl passed.better;
     }
 
@@ -154,8 +174,9 @@ unrefuted : (b : Bool) → (IsTrue b → ⊥) → b ≡ false
 unrefuted true h = absurd (h refl)
 unrefuted false h = refl
 
-pub no_leaf_solves : (m : Data) (l : Seen) → IsValid m → IsRegionOf m l.region → IsTrue (is_served m) → is_settled l.region ≡ true → ((k u : ℕ) → IsTrue (refutes m l (Leaf k u)) → ⊥) → ((w : HierWitness) → IsTrue (hier_refutes m l w) → ⊥) → Solves m l
-no_leaf_solves m l valid of served settled none no_hier = sized_or (all_sized l.region) refl
+pub no_leaf_solves : (m : Data) (l : Seen) → IsValid m → IsRegionOf m l.region → IsTrue (is_served m) → is_settled l.region ≡ true → ((k u : ℕ) → IsTrue (refutes m l (Leaf k u)) → ⊥) → ((w : HierWitness) → IsTrue (hier_refutes m l w) → ⊥)
+    → ((w : SeqWitness) → IsTrue (seq_refutes m l w) → ⊥) → Solves m l
+no_leaf_solves m l valid of served settled none no_hier no_seq = sized_or (all_sized l.region) refl
   where
     row : (k u : ℕ) → is_number k ≡ true → is_number u ≡ true → leaf_case m l k u ≡ true → ⊥
     row k u first second h = none k u (true_both (is_number k && is_number u) (leaf_row m l k u) (true_both (is_number k) (is_number u) first second) (true_both (is_settled l.region) (leaf_case m l k u) settled h))
@@ -164,7 +185,7 @@ no_leaf_solves m l valid of served settled none no_hier = sized_or (all_sized l.
     few_bounds = omega (arith, (few_of m valid).0, placewise-length is_narrowed m.intervals l.region.bounds of.bounds)
 
     better_or : all_sized l.region ≡ true → list_all (keeps m l.region) m.constraints ≡ true → (b : Bool) → is_no_better m l ≡ b → Solves m l
-    better_or sized hold false is = passes_solves m l valid of served settled (record { sized = sized; kept = hold; better = is }) (λ w. unrefuted (hier_refutes m l w) (no_hier w))
+    better_or sized hold false is = passes_solves m l valid of served settled (record { sized = sized; kept = hold; better = is }) (record { hier = λ w. unrefuted (hier_refutes m l w) (no_hier w); seq = λ w. unrefuted (seq_refutes m l w) (no_seq w) })
     better_or sized hold true is = absurd (row 2 0 refl refl (true_both (all_sized l.region) (is_no_better m l) sized is))
 
     hold_or : all_sized l.region ≡ true → (b : Bool) → list_all (keeps m l.region) m.constraints ≡ b → Solves m l
