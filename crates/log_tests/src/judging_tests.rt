@@ -12,6 +12,14 @@ const NO_ROOM: &str = "a = intervalVar(size=1,start=0,end=0);";
 
 const TWO_PLACES: &str = "x = intervalVar(size=1,start=0..1,end=1..2);";
 
+/// `c` stands after the first and before the last, which stand next to each other.
+const BETWEEN: &str =
+    "a = intervalVar(size=1,start=0..9,end=0..9); b = intervalVar(size=1,start=0..9,end=0..9); c = intervalVar(size=1,start=0..9,end=0..9); p = sequenceVar([a,b,c]); first(p,a); last(p,b); prev(p,a,b);";
+
+/// Three in some order.
+const THREE: &str =
+    "a = intervalVar(size=1,start=0..9,end=0..9); b = intervalVar(size=1,start=0..9,end=0..9); c = intervalVar(size=1,start=0..9,end=0..9); p = sequenceVar([a,b,c]);";
+
 type Answer = Result<Checked, CheckFault>;
 
 /// A model, a log, and its judgement: a verdict and the count of nodes, or the line that is refused.
@@ -59,7 +67,7 @@ fn is_so(alloc: Global, row: &Row) -> Result<bool, Fail> {
     Ok(judges(alloc, &model, row.1.as_bytes(), answer(row))?)
 }
 
-const JUDGED: [Row; 10] = [
+const JUDGED: [Row; 14] = [
     (
         NO_ROOM,
         "schedlog 1\nf LEAF 0 0\nend\n",
@@ -85,6 +93,26 @@ const JUDGED: [Row; 10] = [
         TWO_PLACES,
         "schedlog 1\ns SL 0 0\nend\n",
         Ok((Verdict::Unclosed { best: None }, 1)),
+    ),
+    (
+        BETWEEN,
+        "schedlog 1\nd B 0 2 0 SEQREL 0 2\nd B 0 1 2 SEQREL 1 2\nf SEQREL 2 2\nend\n",
+        Ok((Verdict::Infeasible, 1)),
+    ),
+    (
+        BETWEEN,
+        "schedlog 1\nd B 0 2 0 SEQREL 0 2\nf SEQREL 2 2\nend\n",
+        Err(3),
+    ),
+    (
+        THREE,
+        "schedlog 1\ns B 0 0 1\ns B 0 1 2\ns B 0 2 0\nf TRIPLE 0 0 1 2\nend\n",
+        Ok((Verdict::Unclosed { best: None }, 4)),
+    ),
+    (
+        THREE,
+        "schedlog 1\ns B 0 0 1\ns B 0 1 2\ns B 0 0 2\nf TRIPLE 0 0 1 2\nend\n",
+        Err(5),
     ),
 ];
 

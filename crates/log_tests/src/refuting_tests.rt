@@ -401,7 +401,7 @@ const SERVED: [(&str, bool); 9] = [
     (BEHIND_ITSELF, true),
     (ABSENT, true),
     (EARLY, true),
-    ("a = intervalVar(); p = sequenceVar([]);", false),
+    ("a = intervalVar(); p = sequenceVar([]);", true),
     ("a = intervalVar(); pulse(a,1) <= 2;", false),
 ];
 

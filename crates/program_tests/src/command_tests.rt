@@ -169,7 +169,7 @@ fn walked_logs(rt: HostRuntime) -> Result<(), Fail> {
 }
 
 /// Texts that are refused, and how.
-const REFUSED: [(&str, &str); 11] = [
+const REFUSED: [(&str, &str); 10] = [
     ("a = intervalVar(); $", "1 statement 2 at 19"),
     ("a = intervalVar()", "2 statement 1 at 0"),
     (
@@ -189,10 +189,6 @@ const REFUSED: [(&str, &str); 11] = [
     ),
     ("search = intervalVar();", "14 statement 1 at 0"),
     // not served yet
-    (
-        "a = intervalVar(size=2); noOverlap([a]);",
-        "15 statement 0 at 0",
-    ),
     (
         "a = intervalVar(size=2); pulse(a,1) <= 1;",
         "15 statement 0 at 0",

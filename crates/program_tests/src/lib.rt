@@ -8,6 +8,8 @@ mod command_tests;
 #[cfg(test)]
 mod model_tests;
 #[cfg(test)]
+mod sequence_tests;
+#[cfg(test)]
 mod small_tests;
 #[cfg(test)]
 mod told;
