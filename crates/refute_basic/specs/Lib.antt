@@ -1,5 +1,4 @@
 pub mod Witness
-pub mod Served
 pub mod Size
 pub mod Arc
 pub mod Standing

@@ -15,4 +15,6 @@ pub mod Nothing
 pub mod Hulls
 pub mod Settled
 pub mod Fits
+pub mod Points
+pub mod Exact
 pub mod Sound

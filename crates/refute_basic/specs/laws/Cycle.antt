@@ -23,7 +23,6 @@ use Rattle.region.specs.Cells.{Region, bounds_of, is_there, Allows}
 use Rattle.region.specs.Looks.{Seen, IsRegionOf, HasNone}
 use Rattle.region.specs.laws.Lists.{both_true}
 use Rattle.region.specs.laws.Orderly.{pair_stood}
-use Rattle.region.specs.laws.Present.{IsAllowed}
 use Rattle.refute_basic.specs.declared.edge.Arc.{Arc as Edge}
 use Rattle.refute_basic.specs.declared.arc_name.ArcName.{ArcName}
 use Rattle.refute_basic.specs.Standing.{stand}
