@@ -1,5 +1,3 @@
 pub mod Apart
 pub mod Places
 pub mod Two
-pub mod Finding
-pub mod Relating

@@ -7,5 +7,4 @@ pub mod SeqRel
 pub mod Hier
 pub mod Listed
 pub mod Rows
-pub mod Related
 pub mod laws

@@ -4,7 +4,6 @@
 
 mod alt;
 mod family;
-mod find;
 mod hier;
 mod parts;
 mod rows;
@@ -16,7 +15,6 @@ mod witness;
 mod witnesses;
 
 pub use family::{Family, Kind, as_family};
-pub use find::find_hier;
 pub use hier::Hier;
 pub use parts::{Role, at_part, known, plays, plays_in, some_part};
 pub use rows::some_refutes;

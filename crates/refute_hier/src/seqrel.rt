@@ -1,12 +1,9 @@
 //! SEQREL: relations of the members of a sequence.
-ghost use Rattle.std.specs.Prelude.{◌≡◌, false, IfSome, IfNone};
+ghost use Rattle.std.specs.Prelude.{◌≡◌};
 ghost use Rattle.sched_model.specs.Data.{members_of};
-ghost use Rattle.region.specs.Looks.{IsRegionOf};
 ghost use Rattle.refute_hier.specs.SeqRel.{stand, seqrel_of, seqrel_row, related_in};
-ghost use Rattle.refute_hier.specs.Related.{IsRelated};
 
 use crate::parts::shows_present;
-use crate::witness::HierWitness;
 use region::{Look, OrderCell};
 use sched_base::{Itv, Seq, at};
 use sched_model::{Constraint, Model};
@@ -65,39 +62,4 @@ pub fn members_of(model: &Model, p: Seq) -> &[Itv]
         None => &[],
         Some(d) => d.members.as_slice(),
     }
-}
-
-/// The witness that names a member, where this stands where the relation has nobody.
-#[tactic(auto, using(crate::proofs::Relating::found_one))]
-fn witness_at(look: &Look<'_>, relation: &Constraint, x: Itv, c: u32) -> Option<HierWitness>
-    ensures some { IfSome result (IsRelated look.now.region relation.now c) }
-    ensures none { IfNone result (seqrel_of look.now.region x relation.now ≡ false) }
-{
-    if seqrel_of(look, x, relation) {
-        return Some(HierWitness::SeqRel { c, x: x.0 });
-    }
-    None
-}
-
-/// A member that stands where the relation has nobody, as a witness of constraint `c`, which is this
-/// relation; none exactly where there is none. It looks at each member once.
-#[tactic(auto, using(crate::proofs::Relating::none_so_far, crate::proofs::Relating::none_at_all, crate::proofs::Relating::no_relation))]
-pub fn find_related(
-    model: &Model,
-    look: &Look<'_>,
-    relation: &Constraint,
-    c: u32,
-) -> Option<HierWitness>
-    requires { IsRegionOf model.now look.now.region }
-    ensures some { IfSome result (IsRelated look.now.region relation.now c) }
-    ensures none { IfNone result ((x : Itv) → seqrel_of look.now.region x relation.now ≡ false) }
-{
-    let p = related_in(relation)?;
-    let members = members_of(model, p);
-    for i in 0..members.len() {
-        if let Some(w) = witness_at(look, relation, members[i], c) {
-            return Some(w);
-        }
-    }
-    None
 }

@@ -42,7 +42,6 @@ use Rattle.refute_hier.specs.Witness.{is_valid, constraint_of}
 use Rattle.refute_hier.specs.Parts.{is_there}
 use Rattle.refute_hier.specs.SeqRel.{stand, seqrel_of, seqrel_row, related_in}
 use Rattle.refute_hier.specs.Hier.{refutes, row_of}
-use Rattle.refute_hier.specs.Related.{related_row, IsRelated}
 use Rattle.refute_hier.specs.laws.Standing.{first_member, second_member}
 
 -- who stands where a relation has nobody is a member of its sequence
@@ -89,14 +88,6 @@ unrelated r (constraint.NoOverlap q matrix direct) x is = refl
 unrelated r (constraint.CumulIn f w lo hi) x is = refl
 unrelated r (constraint.AlwaysEqual g u v i j) x is = refl
 unrelated r (constraint.AlwaysNoState g u) x is = refl
-
--- a witness of the relation refutes
-pub related_refutes : (m : Data) (l : Seen) (d : Constraint) (c : ℕ) (w : HierWitness) → slice_get m.constraints c ≡ Some d → IsRelated l.region d c w → refutes m l w ≡ true
-related_refutes m l d c w is one = true_both (is_valid w) (row_of m l w) one.valid (at w one.constraint one.row)
-  where
-    at : (w : HierWitness) → constraint_of w ≡ c → related_row l.region d w ≡ true → row_of m l w ≡ true
-    at (SeqRel n x) names h = ap (λ k. passes (seqrel_of l.region (record { 0 = x })) (slice_get m.constraints k)) names ∙ ap (passes (seqrel_of l.region (record { 0 = x }))) is ∙ h
-    at w names h = cc
 
 -- an assignment that a settled region leaves, whose order of a sequence lists the present members as the region allows;
 -- constraint c is a relation of that sequence, and no witness refutes
