@@ -5,5 +5,4 @@ pub mod Triple
 pub mod OnSequence
 pub mod Listed
 pub mod Order
-pub mod Found
 pub mod laws

@@ -8,3 +8,4 @@ pub mod Settled
 pub mod Placed
 pub mod Ordered
 pub mod Whole
+pub mod Only

@@ -2,7 +2,6 @@
 //! three that stand in a circle.
 #![tactic(auto)]
 
-mod find;
 mod on_sequence;
 mod order;
 mod pair;
@@ -11,7 +10,6 @@ mod told;
 mod triple;
 mod witness;
 
-pub use find::find_seq;
 pub use on_sequence::OnSequence;
 pub use order::settled_order;
 pub use refute_basic::{gap, is_there, members_of, precedes, stand};
