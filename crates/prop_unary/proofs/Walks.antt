@@ -1,12 +1,15 @@
 -- A walk through a list, one after the other.
-use Rattle.std.specs.Prelude.{◌≡◌, ℕ, zero, suc, ◌+◌, ◌<◌, ◌≤◌, List, [], ◌∷◌, length, take}
-use Rattle.std.proofs.Common.{inl, inr, sym, subst, ◌∙◌, arith, get_or}
+use Rattle.std.specs.Prelude.{◌≡◌, ℕ, zero, suc, ◌+◌, ◌<◌, ◌≤◌, Bool, true, false, List, [], ◌∷◌, length, take, nat_lt}
+use Rattle.std.proofs.Common.{◌≢◌, refl, inl, inr, sym, subst, ◌∙◌, arith, get_or}
 use Rattle.std.proofs.lemmas.List.{take_all}
-use Rattle.std.proofs.lemmas.Bool.{or_left, or_right}
+use Rattle.std.proofs.lemmas.Bool.{or_left, or_right, cases_eq}
+use Rattle.std.proofs.lemmas.Bool.Decides.{nat_tests}
 use Rattle.sched_base.specs.declared.ids.Itv.{Itv}
 use Rattle.sched_model.specs.Data.{same, has}
 use Rattle.region.specs.laws.OneSequence.{same_is, has_cases}
-use Rattle.prop_unary.specs.Circles.{EachOf}
+use Rattle.prop_unary.specs.Circles.{EachOf, EachBetween}
+use Rattle.prop_unary.specs.Rows.{member_at}
+use Rattle.prop_unary.specs.laws.Rows.{each_placed}
 
 pub each_none : (P : Itv → Type 0) (xs : List Itv) → EachOf P (take 0 xs)
 each_none P xs x here = cc
@@ -30,3 +33,24 @@ each_more P xs n x d within is before here = subst (λ (k : ℕ). EachOf P (take
 
 pub each_all : (P : Itv → Type 0) (xs : List Itv) (n : ℕ) → length xs ≤ n → EachOf P (take n xs) → EachOf P xs
 each_all P xs n all each = subst (EachOf P) (take_all n xs all) each
+
+-- between two places
+pub between_more : (P : Itv → Type 0) (xs : List Itv) (from n : ℕ) → EachBetween P xs from n → P (member_at xs n) → EachBetween P xs from (n + 1)
+between_more P xs from n before here k past below = elim (cases_eq k n) [
+  | inl e ↦ subst (λ (i : ℕ). P (member_at xs i)) (sym e) here
+  | inr other ↦ (let apart : k ≢ n = other in before k past (omega (arith, apart, below)))
+]
+
+-- and from one place round to it
+pub all_round : (P : Itv → Type 0) (xs : List Itv) (start n : ℕ) → length xs ≤ n → EachBetween P xs start n → EachBetween P xs 0 start → EachOf P xs
+all_round P xs start n size later sooner = each_placed P xs (λ k below. decided k below (nat_lt k start) refl)
+  where
+    is_below : (k : ℕ) → nat_lt k start ≡ true → k < start
+    is_below k h = grind (arith, nat_tests)
+
+    is_past : (k : ℕ) → nat_lt k start ≡ false → start ≤ k
+    is_past k h = grind (arith, nat_tests)
+
+    decided : (k : ℕ) → k < length xs → (t : Bool) → nat_lt k start ≡ t → P (member_at xs k)
+    decided k below true e = sooner k (omega arith) (is_below k e)
+    decided k below false e = later k (is_past k e) (omega (arith, below, size))

@@ -1,5 +1,5 @@
 -- Where PAIR of two members is silent, by their numbers and their order alone.
-use Rattle.std.specs.Prelude.{◌≡◌, ℕ, ℤ, pos, ◌+ℤ◌, ◌-ℤ◌, Bool, true, not, ◌&&◌, ◌||◌, Option, Some, slice_get, int_le}
+use Rattle.std.specs.Prelude.{◌≡◌, ℕ, ◌<◌, ℤ, pos, ◌+ℤ◌, ◌-ℤ◌, Bool, true, not, ◌&&◌, ◌||◌, List, length, slice_index_or, Option, Some, slice_get, int_le}
 use Rattle.std.specs.Int.{int_max, int_min}
 use Rattle.sched_base.specs.declared.ids.Itv.{Itv}
 use Rattle.sched_base.specs.declared.ids.Seq.{Seq}
@@ -13,8 +13,10 @@ use Rattle.region.specs.Orders.{order_in}
 use Rattle.region.specs.Cells.{Region, bounds_of, cells_of, says_present, says_absent}
 use Rattle.region.specs.Looks.{ect_in, lst_in}
 use Rattle.refute_seq.specs.declared.witness.SeqWitness.TheVariants.{Pair}
+use Rattle.prop_unary.specs.declared.ends.Ends.{Ends}
 use Rattle.prop_unary.specs.declared.disjunctive.Disjunctive.{Disjunctive}
 use Rattle.prop_unary.specs.Tasks.{IsSilent}
+use Rattle.prop_unary.specs.Circles.{EachOf}
 
 -- a constraint without overlap, by its number
 abbrev pub IsDisjunctive : Data → Disjunctive → Type 0
@@ -27,19 +29,33 @@ highest_end c = int_max (int_max c.emin c.emax) (int_max c.smin c.smax +ℤ c.pm
 abbrev pub lowest_start : Bounds → ℤ
 lowest_start c = int_min (int_min c.smin c.smax) (int_min c.emin c.emax -ℤ c.pmin)
 
+-- the numbers of an interval by which two are compared
+abbrev pub ends_of : Bounds → Ends
+ends_of c = record { presence = c.presence; ect = ect_in c; lst = lst_in c; highest_end = highest_end c; lowest_start = lowest_start c }
+
 -- one that stands before another isn't too late for it, under no guess on either of them
-abbrev pub stays_in_time : Bounds → Bounds → ℤ → Bool
-stays_in_time c d n = (not (says_present c.presence) || int_le (ect_in c +ℤ n) (lowest_start d))
-    && (not (says_present d.presence) || int_le (highest_end c +ℤ n) (lst_in d))
+abbrev pub are_in_time : Ends → Ends → ℤ → Bool
+are_in_time c d n = (not (says_present c.presence) || int_le (c.ect +ℤ n) d.lowest_start)
+    && (not (says_present d.presence) || int_le (c.highest_end +ℤ n) d.lst)
 
 -- n is the greatest distance that binds. Where the order is open only a guess on it can be refuted
+abbrev pub are_silent_ends : OrderCell → Ends → Ends → ℤ → Bool
+are_silent_ends Unknown c d n = int_le (c.ect +ℤ n) d.lst
+are_silent_ends Forward c d n = are_in_time c d n
+are_silent_ends Backward c d n = true
+
+abbrev pub stays_in_time : Bounds → Bounds → ℤ → Bool
+stays_in_time c d n = are_in_time (ends_of c) (ends_of d) n
+
 abbrev pub is_silent_order : OrderCell → Bounds → Bounds → ℤ → Bool
-is_silent_order Unknown c d n = int_le (ect_in c +ℤ n) (lst_in d)
-is_silent_order Forward c d n = stays_in_time c d n
-is_silent_order Backward c d n = true
+is_silent_order o c d n = are_silent_ends o (ends_of c) (ends_of d) n
 
 abbrev pub is_silent_two : OrderCell → Bounds → Bounds → ℤ → Bool
 is_silent_two o c d n = says_absent c.presence || says_absent d.presence || is_silent_order o c d n
+
+-- the numbers of the members of a list, at their places
+abbrev pub AreEnds : Region → List Itv → List Ends → Type 0
+AreEnds r xs es = (k : ℕ) → k < length xs → (d : Ends) (e : Itv) → slice_index_or es k d ≡ ends_of (bounds_of r (slice_index_or xs k e))
 
 -- the distance of either case: 0, or what the sequence keeps
 abbrev pub reach : Data → Seq → Option Mat → Itv → Itv → ℤ
@@ -54,3 +70,7 @@ AreSilent m r best d a b = (k : ℕ) → IsSilent m r best (Pair d.c a.0 b.0 k)
 
 abbrev pub AreSilentWhere : Data → Region → Option ℤ → Disjunctive → OrderCell → Itv → Itv → Type 0
 AreSilentWhere m r best d o a b = order_in (cells_of r d.p) a b ≡ o → AreSilent m r best d a b
+
+-- the same of one member and each of a list
+abbrev pub SilentRow : Data → Region → Option ℤ → Disjunctive → OrderCell → List Itv → Itv → Type 0
+SilentRow m r best d o xs a = EachOf (AreSilentWhere m r best d o a) xs

@@ -5,5 +5,6 @@ pub mod Owners
 pub mod Silence
 pub mod Quieting
 pub mod Circles
+pub mod Rows
 pub mod Looking
 pub mod Unwatched

@@ -1,5 +1,5 @@
 //! What TRIPLE of a sequence finds.
-ghost use Rattle.std.specs.Prelude.{◌≡◌, ◌+◌, ◌<◌, ◌&&◌, true, length, Some, IfNone, IfSome};
+ghost use Rattle.std.specs.Prelude.{◌≡◌, ℕ, ◌+◌, ◌<◌, ◌≤◌, ◌&&◌, true, length, Some, IfNone, IfSome};
 ghost use Rattle.sched_model.specs.Data.{members_of};
 ghost use Rattle.region.specs.declared.types.OrderCell.TheVariants as order;
 ghost use Rattle.region.specs.Orders.{order_in};
@@ -11,11 +11,13 @@ ghost use Rattle.refute_seq.specs.declared.witness.SeqWitness.TheVariants as wit
 ghost use Rattle.refute_seq.specs.Standing.{precedes};
 ghost use Rattle.refute_seq.specs.OnSequence.{refutes};
 ghost use Rattle.prop_unary.specs.Tasks.{IsSilent, quiet};
+ghost use Rattle.prop_unary.specs.Rows.{has_place, may_stand, member_at, IsRow, AreRows};
 ghost use Rattle.prop_unary.specs.Circles.{EachOf, IsMet, SilentBehind, SilentAround, SilentAt};
 
+use crate::places::Places;
 use findings::Finding;
-use refute_seq::{OnSequence, SeqWitness, is_there, precedes};
-use region::{Guess, OrderCell, Refuter, Region};
+use refute_seq::{OnSequence, SeqWitness, is_away, is_there, precedes};
+use region::{Guess, Look, OrderCell, Refuter, Region};
 use sched_base::{Itv, Seq};
 use sched_model::Model;
 
@@ -160,57 +162,142 @@ fn ask_behind(
     None
 }
 
+/// Whether the first of two members of a sequence may stand before the second, as the region tells:
+/// neither is absent, and it is told to.
+fn may_stand(look: &Look<'_>, p: Seq, x: Itv, y: Itv) -> bool
+    ensures { result ≡ may_stand look.now.region p x y }
+{
+    if !precedes(look, p, x, y) {
+        return false;
+    }
+    !is_away(look, x) && !is_away(look, y)
+}
+
+/// The places of the members that one may stand before.
+#[tactic(auto, using(crate::proofs::Noted::row_begins, crate::proofs::Noted::row_ends))]
+fn row_of(look: &Look<'_>, p: Seq, x: Itv, members: &[Itv]) -> Places
+    requires { length members.now ≤ 500 }
+    ensures { IsRow look.now.region p x members.now result }
+{
+    let mut row = Places::none();
+    for k in 0..members.len() {
+        if !may_stand(look, p, x, members[k]) {
+            continue;
+        }
+        row.insert(k);
+    }
+    row
+}
+
+/// Puts the row of each member at its place.
+fn note_rows(look: &Look<'_>, p: Seq, members: &[Itv], rows: &mut [Places])
+    requires few { length members.now ≤ 500 }
+    requires room { length members.now ≤ length rows.old }
+    ensures same { length rows.new ≡ length rows.old }
+    ensures noted { AreRows look.now.region p members.now members.now rows.new }
+{
+    for i in 0..members.len() {
+        rows[i] = row_of(look, p, members[i], members);
+    }
+}
+
+/// Whether each that the second may stand before is one that the first may, where it may stand before
+/// the second.
+fn is_clear(first: Places, at: usize, second: Places) -> bool
+    requires { at < 512 }
+    ensures { result ≡ true → has_place first at ≡ true → (k : ℕ) → has_place second k ≡ true → has_place first k ≡ true }
+{
+    !first.contains(at) || second.is_within(&first)
+}
+
 /// What is found of a member that is present, between those that it stands behind and those that it
-/// stands before.
+/// stands before. Mostly the rows of two show at once that nothing is.
 fn ask_around(
     model: &Model,
     region: &Region,
     best: Option<i64>,
     p: Seq,
-    y: Itv,
+    at: usize,
     members: &[Itv],
+    rows: &[Places],
 ) -> Option<Finding<SeqWitness>>
     requires of { IsRegionOf model.now region.now.region }
     requires within { p.0 < length model.now.sequences }
-    requires middle { is_there region.now.region y ≡ true }
-    ensures none { IfNone result (EachOf (SilentAround model.now region.now.region best p members.now y) members.now) }
+    requires here { at < length members.now }
+    requires middle { is_there region.now.region (member_at members.now at) ≡ true }
+    requires few { length members.now ≤ 500 }
+    requires room { length members.now ≤ length rows.now }
+    requires rows { AreRows region.now.region p members.now members.now rows.now }
+    ensures none { IfNone result (EachOf (SilentAround model.now region.now.region best p members.now (member_at members.now at)) members.now) }
     ensures some { IfSome result (IsFinding refutes model.now region.now.region best) }
     ensures busy { IfSome result (λ f. quiet model.now (length model.now.constraints + p.0) region.now.region best → ⊥) }
 {
     let look = region.look(None, None);
-    for x in members {
-        if !precedes(&look, p, *x, y) {
+    for k in 0..members.len() {
+        if is_clear(rows[k], at, rows[at]) {
             continue;
         }
-        if let Some(found) = ask_behind(model, region, best, p, *x, y, members) {
+        if !precedes(&look, p, members[k], members[at]) {
+            continue;
+        }
+        if let Some(found) = ask_behind(model, region, best, p, members[k], members[at], members) {
             return Some(found);
         }
     }
     None
 }
 
-/// What TRIPLE finds of a sequence, whose members these are. A member that is told to stand behind no
-/// other costs one walk through them.
+/// What TRIPLE finds of a sequence, whose members these are. It reads the order of each two members
+/// once, and compares the rows of two of which one is told to stand before the other; members are
+/// looked at three at a time where their rows leave something to find.
 pub fn ask_circles(
     model: &Model,
     region: &Region,
     best: Option<i64>,
     p: Seq,
     members: &[Itv],
+    rows: &mut [Places],
 ) -> Option<Finding<SeqWitness>>
     requires of { IsRegionOf model.now region.now.region }
     requires within { p.0 < length model.now.sequences }
     requires members { members.now ≡ members_of model.now p }
+    requires few { length members.now ≤ 500 }
+    requires room { length members.now ≤ length rows.old }
+    ensures same { length rows.new ≡ length rows.old }
     ensures none { IfNone result (quiet model.now (length model.now.constraints + p.0) region.now.region best) }
     ensures some { IfSome result (IsFinding refutes model.now region.now.region best) }
     ensures busy { IfSome result (λ f. quiet model.now (length model.now.constraints + p.0) region.now.region best → ⊥) }
 {
     let look = region.look(None, None);
-    for y in members {
-        if !is_there(&look, *y) {
+    note_rows(&look, p, members, rows);
+    ask_noted(model, region, best, p, members, rows)
+}
+
+/// The same where the rows are noted.
+fn ask_noted(
+    model: &Model,
+    region: &Region,
+    best: Option<i64>,
+    p: Seq,
+    members: &[Itv],
+    rows: &[Places],
+) -> Option<Finding<SeqWitness>>
+    requires of { IsRegionOf model.now region.now.region }
+    requires within { p.0 < length model.now.sequences }
+    requires members { members.now ≡ members_of model.now p }
+    requires few { length members.now ≤ 500 }
+    requires room { length members.now ≤ length rows.now }
+    requires rows { AreRows region.now.region p members.now members.now rows.now }
+    ensures none { IfNone result (quiet model.now (length model.now.constraints + p.0) region.now.region best) }
+    ensures some { IfSome result (IsFinding refutes model.now region.now.region best) }
+    ensures busy { IfSome result (λ f. quiet model.now (length model.now.constraints + p.0) region.now.region best → ⊥) }
+{
+    let look = region.look(None, None);
+    for at in 0..members.len() {
+        if !is_there(&look, members[at]) {
             continue;
         }
-        if let Some(found) = ask_around(model, region, best, p, *y, members) {
+        if let Some(found) = ask_around(model, region, best, p, at, members, rows) {
             return Some(found);
         }
     }

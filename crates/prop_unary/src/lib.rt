@@ -4,8 +4,10 @@
 
 mod circles;
 mod disjunctive;
+mod ends;
 mod members;
 mod pairs;
+mod places;
 mod silence;
 mod table;
 

@@ -1,16 +1,19 @@
 //! What PAIR of a sequence without overlap finds.
-ghost use Rattle.std.specs.Prelude.{◌≡◌, ◌∷◌, [], IfNone, IfSome};
+ghost use Rattle.std.specs.Prelude.{◌≡◌, ◌≤◌, ◌∷◌, [], false, length, IfNone, IfSome};
+ghost use Rattle.region.specs.declared.types.OrderCell.TheVariants as order;
+ghost use Rattle.region.specs.Cells.{bounds_of};
 ghost use Rattle.sched_model.specs.Data.{members_of};
 ghost use Rattle.region.specs.Looks.{IsRegionOf};
 ghost use Rattle.findings.specs.Found.{IsFinding};
 ghost use Rattle.refute_seq.specs.declared.witness.SeqWitness.TheVariants as witness;
 ghost use Rattle.refute_seq.specs.OnSequence.{refutes};
 ghost use Rattle.prop_unary.specs.Tasks.{IsSilent, quiet};
-ghost use Rattle.prop_unary.specs.Silence.{IsDisjunctive, AreSilent, AreSilentWhere};
-ghost use Rattle.prop_unary.specs.Circles.{EachOf};
+ghost use Rattle.prop_unary.specs.Silence.{IsDisjunctive, AreSilent, AreSilentWhere, SilentRow, AreEnds, ends_of};
+ghost use Rattle.prop_unary.specs.Circles.{EachOf, EachBetween};
 
 use crate::disjunctive::Disjunctive;
-use crate::silence::is_surely_silent;
+use crate::ends::{Ends, note_ends};
+use crate::silence::{Task, are_surely_silent, is_surely_silent};
 use findings::{Finding, Pair, ask};
 use refute_seq::{OnSequence, SeqWitness};
 use region::{OrderCell, Region};
@@ -71,8 +74,7 @@ fn ask_both(
     ask_case(model, region, best, d, a, b, 1)
 }
 
-/// The same where the order of the two is this one. Mostly their bounds show at once that nothing is
-/// found.
+/// The same where the order of the two is this one.
 fn ask_two(
     model: &Model,
     region: &Region,
@@ -91,41 +93,219 @@ fn ask_two(
     if a.0 == b.0 {
         return None;
     }
-    let look = region.look(None, None);
-    if look.order(d.p, a, b) != order {
-        return None;
-    }
-    if is_surely_silent(model, &look, d.p, d.matrix, order, a, b) {
+    if region.look(None, None).order(d.p, a, b) != order {
         return None;
     }
     ask_both(model, region, best, d, a, b)
 }
 
-/// What is found of a member and others.
-fn ask_row(
+/// The same of two of which the first is told to stand before the second. Where none is told to, it is
+/// noted that their order is open.
+fn ask_told(
     model: &Model,
     region: &Region,
     best: Option<i64>,
     d: &Disjunctive,
-    order: OrderCell,
     a: Itv,
-    others: &[Itv],
+    b: Itv,
+    is_open: &mut bool,
 ) -> Option<Finding<SeqWitness>>
     requires of { IsRegionOf model.now region.now.region }
     requires is { IsDisjunctive model.now d.now }
-    ensures none { IfNone result (EachOf (AreSilentWhere model.now region.now.region best d.now order a) others.now) }
+    ensures none { IfNone result (AreSilentWhere model.now region.now.region best d.now order.Forward a b) }
+    ensures free { is_open.new ≡ false → (is_open.old ≡ false) × AreSilentWhere model.now region.now.region best d.now order.Unknown a b }
     ensures some { IfSome result (IsFinding refutes model.now region.now.region best) }
     ensures busy { IfSome result (λ f. quiet model.now d.now.c region.now.region best → ⊥) }
 {
-    for b in others {
-        if let Some(found) = ask_two(model, region, best, d, order, a, *b) {
+    if a.0 == b.0 {
+        return None;
+    }
+    match region.look(None, None).order(d.p, a, b) {
+        OrderCell::Backward => None,
+        OrderCell::Unknown => {
+            *is_open = true;
+            None
+        }
+        OrderCell::Forward => ask_both(model, region, best, d, a, b),
+    }
+}
+
+/// What is found of a member and others that it is told to stand before. Mostly the numbers of two show
+/// at once that nothing is, also where their order is open.
+fn ask_told_row(
+    model: &Model,
+    region: &Region,
+    best: Option<i64>,
+    d: &Disjunctive,
+    first: Task,
+    members: &[Itv],
+    ends: &[Ends],
+    is_open: &mut bool,
+) -> Option<Finding<SeqWitness>>
+    requires of { IsRegionOf model.now region.now.region }
+    requires is { IsDisjunctive model.now d.now }
+    requires first { first.ends ≡ ends_of (bounds_of region.now.region first.member) }
+    requires room { length members.now ≤ length ends.now }
+    requires ends { AreEnds region.now.region members.now ends.now }
+    ensures none { IfNone result (EachOf (AreSilentWhere model.now region.now.region best d.now order.Forward first.member) members.now) }
+    ensures free { IfNone result (is_open.new ≡ false → (is_open.old ≡ false) × EachOf (AreSilentWhere model.now region.now.region best d.now order.Unknown first.member) members.now) }
+    ensures some { IfSome result (IsFinding refutes model.now region.now.region best) }
+    ensures busy { IfSome result (λ f. quiet model.now d.now.c region.now.region best → ⊥) }
+{
+    for k in 0..members.len() {
+        let second = Task {
+            member: members[k],
+            ends: ends[k],
+        };
+        if are_surely_silent(model, region, d, first, second) {
+            continue;
+        }
+        let (a, b) = (first.member, second.member);
+        if let Some(found) = ask_told(model, region, best, d, a, b, is_open) {
             return Some(found);
         }
     }
     None
 }
 
-/// What is found of each two whose order is this one.
+/// What is found of a member and others. Mostly the numbers of two show at once that nothing is.
+fn ask_row(
+    model: &Model,
+    region: &Region,
+    best: Option<i64>,
+    d: &Disjunctive,
+    order: OrderCell,
+    first: Task,
+    members: &[Itv],
+    ends: &[Ends],
+) -> Option<Finding<SeqWitness>>
+    requires of { IsRegionOf model.now region.now.region }
+    requires is { IsDisjunctive model.now d.now }
+    requires first { first.ends ≡ ends_of (bounds_of region.now.region first.member) }
+    requires room { length members.now ≤ length ends.now }
+    requires ends { AreEnds region.now.region members.now ends.now }
+    ensures none { IfNone result (EachOf (AreSilentWhere model.now region.now.region best d.now order first.member) members.now) }
+    ensures some { IfSome result (IsFinding refutes model.now region.now.region best) }
+    ensures busy { IfSome result (λ f. quiet model.now d.now.c region.now.region best → ⊥) }
+{
+    for k in 0..members.len() {
+        let second = Task {
+            member: members[k],
+            ends: ends[k],
+        };
+        if is_surely_silent(model, region, d, order, first, second) {
+            continue;
+        }
+        if let Some(found) = ask_two(model, region, best, d, order, first.member, second.member) {
+            return Some(found);
+        }
+    }
+    None
+}
+
+/// What is found of the members at the places from one on up to another, each with all. The place of the
+/// one of which something is found is noted.
+fn ask_places(
+    model: &Model,
+    region: &Region,
+    best: Option<i64>,
+    d: &Disjunctive,
+    order: OrderCell,
+    members: &[Itv],
+    ends: &[Ends],
+    from: usize,
+    to: usize,
+    at: &mut usize,
+) -> Option<Finding<SeqWitness>>
+    requires of { IsRegionOf model.now region.now.region }
+    requires is { IsDisjunctive model.now d.now }
+    requires room { length members.now ≤ length ends.now }
+    requires ends { AreEnds region.now.region members.now ends.now }
+    requires within { to ≤ length members.now }
+    ensures none { IfNone result (EachBetween (SilentRow model.now region.now.region best d.now order members.now) members.now from to) }
+    ensures some { IfSome result (IsFinding refutes model.now region.now.region best) }
+    ensures busy { IfSome result (λ f. quiet model.now d.now.c region.now.region best → ⊥) }
+{
+    for k in from..to {
+        let first = Task {
+            member: members[k],
+            ends: ends[k],
+        };
+        if let Some(found) = ask_row(model, region, best, d, order, first, members, ends) {
+            *at = k;
+            return Some(found);
+        }
+    }
+    None
+}
+
+/// The same of those that they are told to stand before.
+fn ask_told_places(
+    model: &Model,
+    region: &Region,
+    best: Option<i64>,
+    d: &Disjunctive,
+    members: &[Itv],
+    ends: &[Ends],
+    from: usize,
+    to: usize,
+    at: &mut usize,
+    is_open: &mut bool,
+) -> Option<Finding<SeqWitness>>
+    requires of { IsRegionOf model.now region.now.region }
+    requires is { IsDisjunctive model.now d.now }
+    requires room { length members.now ≤ length ends.now }
+    requires ends { AreEnds region.now.region members.now ends.now }
+    requires within { to ≤ length members.now }
+    ensures none { IfNone result (EachBetween (SilentRow model.now region.now.region best d.now order.Forward members.now) members.now from to) }
+    ensures free { IfNone result (is_open.new ≡ false → (is_open.old ≡ false) × EachBetween (SilentRow model.now region.now.region best d.now order.Unknown members.now) members.now from to) }
+    ensures some { IfSome result (IsFinding refutes model.now region.now.region best) }
+    ensures busy { IfSome result (λ f. quiet model.now d.now.c region.now.region best → ⊥) }
+{
+    for k in from..to {
+        let first = Task {
+            member: members[k],
+            ends: ends[k],
+        };
+        if let Some(found) = ask_told_row(model, region, best, d, first, members, ends, is_open) {
+            *at = k;
+            return Some(found);
+        }
+    }
+    None
+}
+
+/// What is found of each two of which the first is told to stand before the second, and whether the
+/// order of some two is open that their numbers don't show to be silent.
+fn ask_told_order(
+    model: &Model,
+    region: &Region,
+    best: Option<i64>,
+    d: &Disjunctive,
+    members: &[Itv],
+    ends: &[Ends],
+    at: &mut usize,
+    is_open: &mut bool,
+) -> Option<Finding<SeqWitness>>
+    requires of { IsRegionOf model.now region.now.region }
+    requires is { IsDisjunctive model.now d.now }
+    requires room { length members.now ≤ length ends.now }
+    requires ends { AreEnds region.now.region members.now ends.now }
+    ensures none { IfNone result (EachOf (SilentRow model.now region.now.region best d.now order.Forward members.now) members.now) }
+    ensures free { IfNone result (is_open.new ≡ false → (is_open.old ≡ false) × EachOf (SilentRow model.now region.now.region best d.now order.Unknown members.now) members.now) }
+    ensures some { IfSome result (IsFinding refutes model.now region.now.region best) }
+    ensures busy { IfSome result (λ f. quiet model.now d.now.c region.now.region best → ⊥) }
+{
+    let n = members.len();
+    let start = (*at).min(n);
+    if let Some(f) = ask_told_places(model, region, best, d, members, ends, start, n, at, is_open) {
+        return Some(f);
+    }
+    ask_told_places(model, region, best, d, members, ends, 0, start, at, is_open)
+}
+
+/// What is found of each two whose order is this one. It begins with the member at a place, and goes
+/// round once.
 fn ask_order(
     model: &Model,
     region: &Region,
@@ -133,40 +313,63 @@ fn ask_order(
     d: &Disjunctive,
     order: OrderCell,
     members: &[Itv],
+    ends: &[Ends],
+    at: &mut usize,
 ) -> Option<Finding<SeqWitness>>
     requires of { IsRegionOf model.now region.now.region }
     requires is { IsDisjunctive model.now d.now }
+    requires room { length members.now ≤ length ends.now }
+    requires ends { AreEnds region.now.region members.now ends.now }
     ensures none { IfNone result (EachOf (λ a. EachOf (AreSilentWhere model.now region.now.region best d.now order a) members.now) members.now) }
     ensures some { IfSome result (IsFinding refutes model.now region.now.region best) }
     ensures busy { IfSome result (λ f. quiet model.now d.now.c region.now.region best → ⊥) }
 {
-    for a in members {
-        if let Some(found) = ask_row(model, region, best, d, order, *a, members) {
-            return Some(found);
-        }
+    let n = members.len();
+    let start = (*at).min(n);
+    if let Some(f) = ask_places(model, region, best, d, order, members, ends, start, n, at) {
+        return Some(f);
     }
-    None
+    ask_places(model, region, best, d, order, members, ends, 0, start, at)
 }
 
 /// What PAIR finds of a sequence without overlap, whose members these are: first of two that are told
-/// to stand one before the other, then of two whose order is open. It looks at each two members a
-/// fixed number of times.
+/// to stand one before the other, then of two whose order is open. It notes the numbers of each member
+/// once, and compares each two a fixed number of times; the order of two is read where their numbers
+/// leave something to find. It begins with the member at a place, where it found something last.
 pub fn ask_pairs(
     model: &Model,
     region: &Region,
     best: Option<i64>,
     d: &Disjunctive,
     members: &[Itv],
+    ends: &mut [Ends],
+    at: &mut usize,
 ) -> Option<Finding<SeqWitness>>
     requires of { IsRegionOf model.now region.now.region }
     requires is { IsDisjunctive model.now d.now }
     requires members { members.now ≡ members_of model.now d.now.p }
+    requires room { length members.now ≤ length ends.old }
+    ensures same { length ends.new ≡ length ends.old }
     ensures none { IfNone result (quiet model.now d.now.c region.now.region best) }
     ensures some { IfSome result (IsFinding refutes model.now region.now.region best) }
     ensures busy { IfSome result (λ f. quiet model.now d.now.c region.now.region best → ⊥) }
 {
-    if let Some(found) = ask_order(model, region, best, d, OrderCell::Forward, members) {
-        return Some(found);
+    note_ends(&region.look(None, None), members, ends);
+    let mut is_open = false;
+    if let Some(f) = ask_told_order(model, region, best, d, members, ends, at, &mut is_open) {
+        return Some(f);
     }
-    ask_order(model, region, best, d, OrderCell::Unknown, members)
+    if !is_open {
+        return None;
+    }
+    ask_order(
+        model,
+        region,
+        best,
+        d,
+        OrderCell::Unknown,
+        members,
+        ends,
+        at,
+    )
 }

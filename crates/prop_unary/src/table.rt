@@ -1,9 +1,9 @@
 //! The propagators of a model.
-ghost use Rattle.std.specs.Prelude.{◌≡◌, ◌<◌, ◌+◌, ◌^◌, ◌⊎◌, length, true, None, Some, IsTrue, IfOk, IfNone, IfSome, slice_get, nat_eq};
+ghost use Rattle.std.specs.Prelude.{◌≡◌, ◌<◌, ◌≤◌, ◌+◌, ◌^◌, ◌⊎◌, length, true, None, Some, IsTrue, IfOk, IfNone, IfSome, slice_get, nat_eq};
 ghost use Rattle.std.specs.List.{list_any};
 ghost use Rattle.sched_base.specs.declared.ids.Itv.{Itv as Itvs};
 ghost use Rattle.sched_base.specs.declared.ids.Seq.{Seq as Seqs};
-ghost use Rattle.sched_model.specs.Data.{Data, has};
+ghost use Rattle.sched_model.specs.Data.{Data, has, members_of};
 ghost use Rattle.region.specs.declared.types.CellName.{CellName as CellNames};
 ghost use Rattle.region.specs.declared.types.CellName.TheVariants as cell;
 ghost use Rattle.region.specs.Looks.{IsRegionOf};
@@ -14,8 +14,10 @@ ghost use Rattle.prop_unary.specs.Tables.{IsFor, AreMembers, AreSequences, membe
 
 use crate::circles::ask_circles;
 use crate::disjunctive::Disjunctive;
+use crate::ends::Ends;
 use crate::members::sequence_at;
 use crate::pairs::ask_pairs;
+use crate::places::Places;
 use findings::Finding;
 use refute_seq::{SeqWitness, members_of};
 use region::Region;
@@ -33,17 +35,25 @@ pub struct PropUnary {
     members: Vec<List<Itv>>,
     /// Each one's sequence.
     sequences: Vec<List<Seq>>,
+    /// Room for the numbers of the members of a sequence, and for their rows.
+    ends: Vec<Ends>,
+    rows: Vec<Places>,
+    /// The place of the member with which each begins.
+    starts: Vec<usize>,
 }
 
+/// The most members that a sequence may have.
+const MOST: usize = 500;
+
 impl std::marker::Model for PropUnary {
-    ghost use Rattle.std.specs.Prelude.{◌<◌, ◌^◌, length};
+    ghost use Rattle.std.specs.Prelude.{◌≡◌, ◌<◌, ◌^◌, length};
     ghost use Rattle.prop_unary.specs.Tables.{Table};
 
     ghost Value = { Table };
 
     ghost view = { λ p. record { constraints = p.constraints; members = p.members.items; sequences = p.sequences.items } };
 
-    ghost invariant = { λ p. length p.members.items < 2 ^ 32 };
+    ghost invariant = { λ p. (length p.members.items < 2 ^ 32) × (length p.ends.items ≡ 500) × (length p.rows.items ≡ 500) × (length p.starts.items ≡ length p.members.items) };
 }
 
 /// The members of a sequence, where there is one.
@@ -89,15 +99,28 @@ fn sequence_of_each(alloc: Global, model: &Model, n: u32) -> Result<Vec<List<Seq
     Ok(lists)
 }
 
+/// The members of a sequence, of which a valid model has few.
+fn few_members(model: &Model, p: Seq) -> &[Itv]
+    ensures members { result.now ≡ members_of model.now p }
+    ensures few { length result.now ≤ 500 }
+{
+    let _ = model.sequences();
+    members_of(model, p)
+}
+
 /// What is found of a constraint.
 fn ask_constraint(
     model: &Model,
     region: &Region,
     best: Option<i64>,
     c: u32,
+    ends: &mut [Ends],
+    start: &mut usize,
 ) -> Option<Finding<SeqWitness>>
     requires of { IsRegionOf model.now region.now.region }
     requires within { c < length model.now.constraints }
+    requires room { length ends.old ≡ 500 }
+    ensures same { length ends.new ≡ length ends.old }
     ensures none { IfNone result (quiet model.now c region.now.region best) }
     ensures some { IfSome result (IsFinding refutes model.now region.now.region best) }
     ensures busy { IfSome result (λ f. quiet model.now c region.now.region best → ⊥) }
@@ -110,7 +133,7 @@ fn ask_constraint(
                 matrix: *matrix,
                 direct: *direct,
             };
-            ask_pairs(model, region, best, &d, members_of(model, *p))
+            ask_pairs(model, region, best, &d, few_members(model, *p), ends, start)
         }
         _ => None,
     }
@@ -130,6 +153,9 @@ impl PropUnary {
             constraints,
             members,
             sequences,
+            ends: vec![in alloc; Ends::UNKNOWN; MOST]?,
+            rows: vec![in alloc; Places::none(); MOST]?,
+            starts: vec![in alloc; 0; n as usize]?,
         })
     }
 
@@ -157,10 +183,18 @@ impl PropUnary {
         ensures busy { IfSome result (λ f. quiet model.now k region.now.region best → ⊥) }
     {
         if k < self.constraints {
-            return ask_constraint(model, region, best, k);
+            let start = &mut self.starts[k as usize];
+            return ask_constraint(model, region, best, k, &mut self.ends, start);
         }
         let p = Seq(k - self.constraints);
-        ask_circles(model, region, best, p, members_of(model, p))
+        ask_circles(
+            model,
+            region,
+            best,
+            p,
+            few_members(model, p),
+            &mut self.rows,
+        )
     }
 
     /// The intervals whose presence it watches.

@@ -2,15 +2,13 @@
 use Rattle.std.specs.Prelude.{◌≡◌, ◌⊎◌, ℕ, zero, suc, ◌<◌, ℤ, pos, ◌+ℤ◌, ◌≤ℤ◌, ◌<ℤ◌, Bool, true, false, not, ◌&&◌, ◌||◌, List, [], ◌∷◌, Option, Some, None, is_some, int_le, int_lt, nat_eq, nat_lt}
 use Rattle.std.specs.Int.{int_max}
 use Rattle.std.proofs.Common.{inl, inr, refl, sym, ap, subst, ◌∙◌, arith, get_or}
-use Rattle.std.proofs.lemmas.Bool.{true≢false, or_left, or_right, not-true}
+use Rattle.std.proofs.lemmas.Bool.{true≢false, or_left, or_right}
 use Rattle.std.proofs.lemmas.Bool.Decides.{nat_tests}
 use Rattle.std.proofs.lemmas.Int.{ints}
 use Rattle.sched_base.specs.declared.ids.Itv.{Itv}
 use Rattle.sched_base.specs.declared.ids.Seq.{Seq}
 use Rattle.sched_model.specs.Words.{◌implies◌, passes}
 use Rattle.sched_model.specs.Data.{Data, same, has, gap}
-use Rattle.region.specs.declared.types.Presence.{Presence}
-use Rattle.region.specs.declared.types.Presence.TheVariants as presence
 use Rattle.region.specs.declared.types.Bounds.{Bounds}
 use Rattle.region.specs.declared.types.OrderCell.{OrderCell}
 use Rattle.region.specs.declared.types.OrderCell.TheVariants.{Unknown, Forward, Backward}
@@ -21,14 +19,14 @@ use Rattle.region.specs.declared.types.Topic.TheVariants.{One, Two}
 use Rattle.region.specs.declared.types.Guess.{Guess}
 use Rattle.region.specs.Claims.{guessed, as_present, as_absent, is_open_at}
 use Rattle.region.specs.Orders.{order_in, is_before, says_unknown, known_order}
-use Rattle.region.specs.Cells.{Region, bounds_of, cells_of, is_there, says_present, says_absent, says_maybe, unknown}
+use Rattle.region.specs.Cells.{Region, bounds_of, cells_of, is_there, says_present, says_absent, unknown}
 use Rattle.region.specs.Guesses.{admits, admits_topic, assumed, topic, with_bounds, changed_at}
 use Rattle.region.specs.Looks.{IsRegionOf, Seen, seen_at, ect_in, lst_in, ect_of, lst_of}
 use Rattle.region.specs.laws.Intervals.{bounds_there, bounds_elsewhere}
 use Rattle.region.specs.laws.Lists.{both_true, true_both}
 use Rattle.region.specs.laws.OneSequence.{same_is, same_self, has_cases}
 use Rattle.region.specs.laws.Pairs.{paired}
-use Rattle.base_laws.specs.laws.Truth.{alone, three_true, four_true}
+use Rattle.base_laws.specs.laws.Truth.{alone, four_true}
 use Rattle.findings.specs.declared.finding.Pair.{Pair as PairOf}
 use Rattle.findings.specs.Ends.{is_open_end, is_end, is_end_at}
 use Rattle.findings.specs.Reads.{IsUnrefuted, is_among}

@@ -1,6 +1,7 @@
-use Rattle.std.specs.Prelude.{take}
+use Rattle.std.proofs.Common.{take}
 use Rattle.prop_unary.specs.Circles.{EachOf, SilentAround}
+use Rattle.prop_unary.specs.Rows.{member_at}
 use Rattle.prop_unary.proofs.circles.ask_around.Given as goal
 
-abbrev pub invariant-loop-x : goal.invariant-loop-x
-invariant-loop-x l = EachOf (SilentAround l.model l.region.region l.best l.p l.members l.y) (take l.x-index l.members)
+abbrev pub invariant-loop-k : goal.invariant-loop-k
+invariant-loop-k l = EachOf (SilentAround l.model l.region.region l.best l.p l.members (member_at l.members l.at)) (take l.k l.members)

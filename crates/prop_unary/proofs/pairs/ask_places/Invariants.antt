@@ -1,0 +1,6 @@
+use Rattle.prop_unary.specs.Silence.{AreSilentWhere}
+use Rattle.prop_unary.specs.Circles.{EachOf, EachBetween}
+use Rattle.prop_unary.proofs.pairs.ask_places.Given as goal
+
+abbrev pub invariant-loop-k : goal.invariant-loop-k
+invariant-loop-k l = EachBetween (λ a. EachOf (AreSilentWhere l.model l.region.region l.best l.d l.order a) l.members) l.members l.from l.k

@@ -1,0 +1,11 @@
+use Rattle.std.proofs.Common.{◌≡◌, false}
+use Rattle.region.specs.declared.types.OrderCell.TheVariants.{Forward, Unknown}
+use Rattle.prop_unary.specs.Silence.{SilentRow}
+use Rattle.prop_unary.specs.Circles.{EachBetween}
+use Rattle.prop_unary.proofs.pairs.ask_told_places.Given as goal
+
+abbrev pub invariant-loop-k : goal.invariant-loop-k
+invariant-loop-k l = record {
+  told : EachBetween (SilentRow l.model l.region.region l.best l.d Forward l.members) l.members l.from l.k;
+  free : l.is_open ≡ false → (l.initial.is_open ≡ false) × EachBetween (SilentRow l.model l.region.region l.best l.d Unknown l.members) l.members l.from l.k;
+}

@@ -1,0 +1,72 @@
+//! Sets of places among the members of a sequence, a bit for each.
+ghost use Rattle.std.specs.Prelude.{◌≡◌, ◌<◌, ◌≤◌, ℕ, true, false, ◌||◌, ◌&&◌, length, nat_eq, nat_lt};
+ghost use Rattle.prop_unary.specs.Rows.{has_place, has_word};
+
+const WORDS: usize = 8;
+
+const BITS: usize = 64;
+
+/// A set of places below 512.
+#[derive(Clone, Copy, Debug)]
+pub struct Places {
+    words: [u64; WORDS],
+}
+
+/// Whether each bit of one word is one of another.
+fn is_part(word: u64, of: u64) -> bool
+    ensures { result ≡ true → (b : ℕ) → has_word word b ≡ true → has_word of b ≡ true }
+{
+    word & of == word
+}
+
+/// A word with one more bit.
+fn with_bit(word: u64, b: usize) -> u64
+    requires { b < 64 }
+    ensures { (i : ℕ) → has_word result i ≡ (nat_eq i b || has_word word i) }
+{
+    word | (1 << b)
+}
+
+fn has_bit(word: u64, b: usize) -> bool
+    requires { b < 64 }
+    ensures { result ≡ has_word word b }
+{
+    (word >> b) & 1 == 1
+}
+
+impl Places {
+    /// No place.
+    pub fn none() -> Places
+        ensures { (k : ℕ) → has_place result k ≡ false }
+    {
+        Places { words: [0; WORDS] }
+    }
+
+    /// Puts a place into the set.
+    pub fn insert(&mut self, k: usize)
+        requires { k < 512 }
+        ensures { (j : ℕ) → has_place self.new j ≡ (nat_eq j k || has_place self.old j) }
+    {
+        self.words[k / BITS] = with_bit(self.words[k / BITS], k % BITS);
+    }
+
+    /// Whether a place is in the set.
+    pub fn contains(&self, k: usize) -> bool
+        requires { k < 512 }
+        ensures { result ≡ has_place self.now k }
+    {
+        has_bit(self.words[k / BITS], k % BITS)
+    }
+
+    /// Whether each of its places is one of another set.
+    pub fn is_within(&self, other: &Places) -> bool
+        ensures { result ≡ true → (k : ℕ) → has_place self.now k ≡ true → has_place other.now k ≡ true }
+    {
+        for w in 0..WORDS {
+            if !is_part(self.words[w], other.words[w]) {
+                return false;
+            }
+        }
+        true
+    }
+}
