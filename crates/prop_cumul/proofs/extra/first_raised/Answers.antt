@@ -1,0 +1,38 @@
+use Rattle.std.proofs.Common.{◌≡◌, ◌-ℤ◌, refl, sym, subst, rules, to_z, of_z, w64}
+use Rattle.std.specs.Int.{w128}
+use Rattle.refute_cumul.specs.Profiles.{IsFirstAbove, StaysBelow}
+use Rattle.prop_cumul.specs.Extra.{extra, IsStill, IsRaisedAbove}
+use Rattle.prop_cumul.proofs.Raising.{IsLowUntil, low_more, raised}
+use Rattle.prop_cumul.proofs.extra.first_raised.Goals as goal
+
+pub returns-in-Some-clause-some : goal.returns-in-Some-clause-some
+returns-in-Some-clause-some c =
+    let ps = c.args.profile.now.levels in
+    let r = c.args.plain.now.region in
+    let q = c.args.under.now.region in
+    let from : to_z w64 (of_z w64 c.args.span.0) ≡ c.args.span.0 = search rules in
+    let same : to_z w64 (of_z w64 c.in-Some.t) ≡ c.in-Some.t = search rules in
+    let limit : to_z w128 (of_z w128 c.args.limit) ≡ c.args.limit = search rules in
+    let a = to_z w64 c.loop-a.a-bits in
+    let less = c.args.limit -ℤ c.extra-added.result in
+    let before : IsLowUntil ps r q c.args.below c.args.parts.now c.args.span.0 a c.args.limit = subst (λ z. IsLowUntil ps r q c.args.below c.args.parts.now z a c.args.limit) from (subst (λ z. IsLowUntil ps r q c.args.below c.args.parts.now (to_z w64 (of_z w64 c.args.span.0)) a z) limit c.loop-a.invariant) in
+    let still : IsStill r q c.args.below c.args.parts.now a c.args.span.1 c.next_change-n.result = search rules in
+    let value : c.extra-added.result ≡ extra r q c.args.below c.args.parts.now a = search rules in
+    let found : IsFirstAbove ps a c.next_change-n.result less c.in-Some.t = search rules in
+    subst (λ t. IsRaisedAbove ps r q c.args.below c.args.parts.now c.args.span.0 c.args.span.1 c.args.limit t) (sym same)
+    (raised ps r q c.args.below c.args.parts.now c.args.span.0 a c.args.span.1 c.next_change-n.result c.args.limit c.extra-added.result less c.in-Some.t before still value refl found)
+
+pub loop-a-preserved : goal.loop-a-preserved
+loop-a-preserved c =
+    let ps = c.args.profile.now.levels in
+    let r = c.args.plain.now.region in
+    let q = c.args.under.now.region in
+    let from = to_z w64 (of_z w64 c.args.span.0) in
+    let limit = to_z w128 (of_z w128 c.args.limit) in
+    let a = to_z w64 c.loop-a.a-bits in
+    let n = to_z w64 (of_z w64 c.next_change-n.result) in
+    let less = limit -ℤ c.extra-added.result in
+    let still : IsStill r q c.args.below c.args.parts.now a c.args.span.1 n = search rules in
+    let value : c.extra-added.result ≡ extra r q c.args.below c.args.parts.now a = search rules in
+    let stays : StaysBelow ps a n less = search rules in
+    low_more ps r q c.args.below c.args.parts.now from a c.args.span.1 n limit c.extra-added.result less c.loop-a.invariant still value refl stays

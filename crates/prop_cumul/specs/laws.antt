@@ -1,0 +1,5 @@
+pub mod Owners
+pub mod Unwatched
+pub mod Extra
+pub mod Asking
+pub mod Silence

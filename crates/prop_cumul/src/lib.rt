@@ -1,0 +1,11 @@
+//! Propagators of cumulative functions by timetables (Lahrichi 1982; Beldiceanu and Carlsson 2002): one
+//! for each constraint that bounds a function in a window.
+#![tactic(auto)]
+
+mod asking;
+mod extra;
+mod side;
+mod table;
+mod task;
+
+pub use table::PropCumul;

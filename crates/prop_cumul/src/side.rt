@@ -1,0 +1,203 @@
+//! What a bound of a cumulative function gives on one of its sides.
+ghost use Rattle.std.specs.Prelude.{◌≡◌, ◌≤◌, ℤ, true, length, None, Some, IsTrue, IfSome, IfNone, slice_get};
+ghost use Rattle.std.specs.List.{filter};
+ghost use Rattle.sched_model.specs.Words.{passes_if_any};
+ghost use Rattle.sched_model.specs.Data.{parts_of, has};
+ghost use Rattle.region.specs.Guesses.{admits, topic, looked_at};
+ghost use Rattle.region.specs.Looks.{seen_at};
+ghost use Rattle.region.specs.Tight.{IsTightened};
+ghost use Rattle.findings.specs.Found.{IsFinding};
+ghost use Rattle.refute_cumul.specs.OnCumul.{refutes};
+ghost use Rattle.refute_cumul.specs.Listed.{names_of};
+ghost use Rattle.refute_cumul.specs.Sides.{is_high};
+ghost use Rattle.prop_cumul.specs.Tables.{is_of};
+ghost use Rattle.prop_cumul.specs.Asking.{IsReady, NeverHigh, IsQuietUnder, IsQuietOn, IsBusy};
+ghost use Rattle.prop_cumul.specs.laws.Asking.{TellsExtra, IsRefutedUnder, IsAnEnd};
+
+use crate::extra::first_raised;
+use findings::Finding;
+use refute_cumul::{Bound, CumulWitness, OnCumul, Profile, limit_of, side, window_of};
+use region::{Guess, GuessTest, Region, tighten_by};
+use sched_base::Itv;
+use sched_model::{Model, Part};
+
+/// One side of the bound of constraint `c`: with `below` the lower one. The profile is that of its
+/// function in the region.
+#[derive(Drop)]
+pub struct Side<'a> {
+    pub model: &'a Model,
+    pub region: &'a Region,
+    pub best: Option<i64>,
+    pub c: u32,
+    pub bound: Bound,
+    pub below: bool,
+    pub profile: &'a Profile,
+}
+
+/// A moment at which the bound is passed under a guess, of which these parts tell what it adds.
+fn moment_under(at: &Side<'_>, parts: &[Part], guess: Option<Guess>) -> Option<i64>
+    requires ready { IsReady at.now.model.now at.now.region.now.region at.now.c at.now.bound at.now.below at.now.profile.now }
+    requires admitted { IsTrue (passes_if_any (admits at.now.region.now.region) guess) }
+    requires few { length parts.now ≤ 100000 }
+    requires tells { TellsExtra at.now.model.now at.now.region.now.region (looked_at guess at.now.region.now.region) at.now.bound at.now.below parts.now }
+    ensures some { IfSome result (λ t. is_high at.now.model.now (looked_at guess at.now.region.now.region) at.now.bound at.now.below t ≡ true) }
+    ensures none { IfNone result (NeverHigh at.now.model.now (looked_at guess at.now.region.now.region) at.now.bound at.now.below) }
+{
+    let plain = at.region.look(None, None);
+    let under = at.region.look(guess, None);
+    let span = window_of(&under, at.bound.window);
+    let limit = limit_of(at.below, at.bound.lo, at.bound.hi);
+    first_raised(at.profile, &plain, &under, at.below, parts, span, limit)
+}
+
+/// How far a guess may move at least so that its interval still stands at a moment, or still doesn't.
+fn reach_of(guess: Guess, t: i64) -> Option<u64> {
+    let reach = match guess {
+        Guess::StartLe(_, s) => t.checked_sub(s)?,
+        Guess::EndLe(_, s) => t.checked_sub(s)?,
+        Guess::StartGe(_, s) => s.checked_sub(t)?.checked_sub(1)?,
+        Guess::EndGe(_, s) => s.checked_sub(t)?.checked_sub(1)?,
+        _ => return None,
+    };
+    u64::try_from(reach).ok()
+}
+
+/// The test by the row of a witness at a moment, from which it can be told how far a guess may move.
+#[derive(Drop)]
+struct PointTest<'a> {
+    model: &'a Model,
+    region: &'a Region,
+    best: Option<i64>,
+    witness: CumulWitness,
+    t: i64,
+}
+
+impl<'a> GuessTest for PointTest<'a> {
+    ghost use Rattle.region.specs.Looks.{IsRegionOf, seen_at};
+    ghost use Rattle.refute_cumul.specs.OnCumul.{refutes};
+
+    ghost region = { λ t. t.region.now.region };
+
+    ghost is_ready = { λ t. IsRegionOf t.model.now t.region.now.region };
+
+    ghost refuting = { λ t guess. refutes t.model.now (seen_at t.region.now.region t.best guess) t.witness };
+
+    fn refutes(&self, guess: Option<Guess>) -> bool {
+        region::refutes::<OnCumul>(self.model, self.region, self.best, guess, &self.witness)
+    }
+
+    fn reach(&self, guess: Guess) -> Option<u64> {
+        reach_of(guess, self.t)
+    }
+}
+
+/// The finding of a witness at a moment that refutes under a guess.
+fn finding(
+    at: &Side<'_>,
+    witness: CumulWitness,
+    guess: Option<Guess>,
+    t: i64,
+) -> Finding<CumulWitness>
+    requires ready { IsReady at.now.model.now at.now.region.now.region at.now.c at.now.bound at.now.below at.now.profile.now }
+    requires admitted { IsTrue (passes_if_any (admits at.now.region.now.region) guess) }
+    requires refuted { IsTrue (refutes at.now.model.now (seen_at at.now.region.now.region at.now.best guess) witness) }
+    ensures { IsFinding refutes at.now.model.now at.now.region.now.region at.now.best result }
+{
+    match guess {
+        None => Finding {
+            guess: None,
+            witness,
+        },
+        Some(g) => {
+            let test = PointTest {
+                model: at.model,
+                region: at.region,
+                best: at.best,
+                witness,
+                t,
+            };
+            Finding {
+                guess: Some(tighten_by(&test, at.region, g)),
+                witness,
+            }
+        }
+    }
+}
+
+/// What the bound gives under a guess, of which these parts tell what it adds.
+fn ask_under(at: &Side<'_>, parts: &[Part], guess: Option<Guess>) -> Option<Finding<CumulWitness>>
+    requires ready { IsReady at.now.model.now at.now.region.now.region at.now.c at.now.bound at.now.below at.now.profile.now }
+    requires admitted { IsTrue (passes_if_any (admits at.now.region.now.region) guess) }
+    requires few { length parts.now ≤ 100000 }
+    requires tells { TellsExtra at.now.model.now at.now.region.now.region (looked_at guess at.now.region.now.region) at.now.bound at.now.below parts.now }
+    ensures none { IfNone result (NeverHigh at.now.model.now (looked_at guess at.now.region.now.region) at.now.bound at.now.below) }
+    ensures some { IfSome result (IsFinding refutes at.now.model.now at.now.region.now.region at.now.best) }
+    ensures busy { IfSome result (λ f. IsRefutedUnder at.now.model.now at.now.region.now.region at.now.best at.now.c guess) }
+{
+    let t = moment_under(at, parts, guess)?;
+    let witness = CumulWitness::Point {
+        c: at.c,
+        t,
+        u: side(at.below),
+    };
+    Some(finding(at, witness, guess, t))
+}
+
+/// What it gives under a guess at the end of a cell of an interval with these parts, if that is open.
+fn ask_end(at: &Side<'_>, x: Itv, parts: &[Part], g: Guess) -> Option<Finding<CumulWitness>>
+    requires ready { IsReady at.now.model.now at.now.region.now.region at.now.c at.now.bound at.now.below at.now.profile.now }
+    requires parts { parts.now ≡ filter (is_of x) (parts_of at.now.model.now at.now.bound.f) }
+    requires few { length parts.now ≤ 100000 }
+    requires named { has (names_of at.now.model.now (slice_get at.now.model.now.constraints at.now.c)) x ≡ true }
+    requires end { IsAnEnd at.now.region.now.region x g }
+    ensures none { IfNone result (IsQuietUnder at.now.model.now at.now.region.now.region at.now.bound at.now.below g) }
+    ensures some { IfSome result (IsFinding refutes at.now.model.now at.now.region.now.region at.now.best) }
+    ensures busy { IfSome result (λ f. IsBusy at.now.model.now at.now.region.now.region at.now.best at.now.c) }
+{
+    if !at.region.admits(g) {
+        return None;
+    }
+    ask_under(at, parts, Some(g))
+}
+
+/// What it gives of an interval with these parts: presences come first, then the guesses that leave
+/// the fewest moments at the ends of its window.
+pub fn ask_interval(at: &Side<'_>, x: Itv, parts: &[Part]) -> Option<Finding<CumulWitness>>
+    requires ready { IsReady at.now.model.now at.now.region.now.region at.now.c at.now.bound at.now.below at.now.profile.now }
+    requires parts { parts.now ≡ filter (is_of x) (parts_of at.now.model.now at.now.bound.f) }
+    requires few { length parts.now ≤ 100000 }
+    requires named { has (names_of at.now.model.now (slice_get at.now.model.now.constraints at.now.c)) x ≡ true }
+    ensures none { IfNone result (IsQuietOn at.now.model.now at.now.region.now.region at.now.bound at.now.below x) }
+    ensures some { IfSome result (IsFinding refutes at.now.model.now at.now.region.now.region at.now.best) }
+    ensures busy { IfSome result (λ f. IsBusy at.now.model.now at.now.region.now.region at.now.best at.now.c) }
+{
+    let look = at.region.look(None, None);
+    if x.0 as usize >= look.len() {
+        return None;
+    }
+    let c = look.bounds(x);
+    let guesses = [
+        Guess::Present(x),
+        Guess::Absent(x),
+        Guess::StartLe(x, c.smin),
+        Guess::EndGe(x, c.emax),
+        Guess::StartGe(x, c.smax),
+        Guess::EndLe(x, c.emin),
+    ];
+    for g in &guesses {
+        if let Some(f) = ask_end(at, x, parts, *g) {
+            return Some(f);
+        }
+    }
+    None
+}
+
+/// What it gives of the region as it stands.
+pub fn ask_plain(at: &Side<'_>) -> Option<Finding<CumulWitness>>
+    requires ready { IsReady at.now.model.now at.now.region.now.region at.now.c at.now.bound at.now.below at.now.profile.now }
+    ensures none { IfNone result (NeverHigh at.now.model.now at.now.region.now.region at.now.bound at.now.below) }
+    ensures some { IfSome result (IsFinding refutes at.now.model.now at.now.region.now.region at.now.best) }
+    ensures busy { IfSome result (λ f. IsBusy at.now.model.now at.now.region.now.region at.now.best at.now.c) }
+{
+    ask_under(at, &[], None)
+}

@@ -1,0 +1,4 @@
+mod Bounding
+mod Changing
+mod Placing
+mod Summing
