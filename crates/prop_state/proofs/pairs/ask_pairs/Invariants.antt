@@ -1,0 +1,6 @@
+use Rattle.std.proofs.Common.{take}
+use Rattle.prop_state.specs.Walks.{EachOf, SilentTwo}
+use Rattle.prop_state.proofs.pairs.ask_pairs.Given as goal
+
+abbrev pub invariant-loop-i : goal.invariant-loop-i
+invariant-loop-i l = EachOf (λ c1. EachOf (SilentTwo l.model l.region.region l.best l.k c1) l.cs) (take l.i l.cs)

@@ -1,0 +1,6 @@
+use Rattle.std.proofs.Common.{take}
+use Rattle.prop_state.specs.Walks.{EachOf, SilentAround}
+use Rattle.prop_state.proofs.triples.ask_row.Given as goal
+
+abbrev pub invariant-loop-i : goal.invariant-loop-i
+invariant-loop-i l = EachOf (SilentAround l.model l.region.region l.best l.k l.a.c l.cs) (take l.i l.cs)

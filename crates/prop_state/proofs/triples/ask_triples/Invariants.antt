@@ -1,0 +1,6 @@
+use Rattle.std.proofs.Common.{take}
+use Rattle.prop_state.specs.Walks.{EachOf, SilentAround}
+use Rattle.prop_state.proofs.triples.ask_triples.Given as goal
+
+abbrev pub invariant-loop-i : goal.invariant-loop-i
+invariant-loop-i l = EachOf (λ c1. EachOf (SilentAround l.model l.region.region l.best l.k c1 l.cs) l.cs) (take l.i l.cs)

@@ -1,0 +1,200 @@
+//! What STATE3 finds of a state function.
+ghost use Rattle.std.specs.Prelude.{◌≡◌, ◌≤◌, ◌∷◌, [], true, length, IfNone, IfSome};
+ghost use Rattle.region.specs.Looks.{IsRegionOf};
+ghost use Rattle.findings.specs.Found.{IsFinding};
+ghost use Rattle.refute_state.specs.declared.witness.StateWitness.TheVariants as witness;
+ghost use Rattle.refute_state.specs.OnState.{refutes};
+ghost use Rattle.prop_state.specs.Tasks.{IsSilent, quiet};
+ghost use Rattle.prop_state.specs.Silence.{IsCovered};
+ghost use Rattle.prop_state.specs.Walks.{AreNamed, EachOf, EachThree, IsOf, SilentAround, SilentThree};
+
+use crate::demands::Named;
+use crate::parts::longest_of;
+use crate::silence::{may_refute_around, may_refute_triple};
+use findings::{Finding, ask};
+use refute_state::{OnState, StateWitness, same_state};
+use region::Region;
+use sched_model::Model;
+
+/// What STATE3 finds of three demands.
+fn ask_state3(
+    model: &Model,
+    region: &Region,
+    best: Option<i64>,
+    k: u32,
+    a: Named,
+    x: Named,
+    b: Named,
+) -> Option<Finding<StateWitness>>
+    requires of { IsRegionOf model.now region.now.region }
+    requires first { IsOf model.now region.now.region k a }
+    requires second { IsOf model.now region.now.region k x }
+    requires third { IsOf model.now region.now.region k b }
+    ensures none { IfNone result (IsSilent model.now region.now.region best (witness.State3 a.c x.c b.c)) }
+    ensures some { IfSome result (IsFinding refutes model.now region.now.region best) }
+    ensures busy { IfSome result (λ f. quiet model.now k region.now.region best → ⊥) }
+{
+    let witness = StateWitness::State3 {
+        c1: a.c,
+        c2: x.c,
+        c3: b.c,
+    };
+    match ask::<OnState>(
+        model,
+        region,
+        best,
+        &witness,
+        &[a.demand.x, x.demand.x, b.demand.x],
+        &[],
+    ) {
+        None => None,
+        Some(guess) => Some(Finding { guess, witness }),
+    }
+}
+
+/// The same where the second may be of any state. Mostly their numbers show at once that nothing is
+/// found.
+fn ask_three(
+    model: &Model,
+    region: &Region,
+    best: Option<i64>,
+    k: u32,
+    a: Named,
+    x: Named,
+    b: Named,
+) -> Option<Finding<StateWitness>>
+    requires of { IsRegionOf model.now region.now.region }
+    requires first { IsOf model.now region.now.region k a }
+    requires second { IsOf model.now region.now.region k x }
+    requires third { IsOf model.now region.now.region k b }
+    ensures none { IfNone result (SilentThree model.now region.now.region best k a.c x.c b.c) }
+    ensures some { IfSome result (IsFinding refutes model.now region.now.region best) }
+    ensures busy { IfSome result (λ f. quiet model.now k region.now.region best → ⊥) }
+{
+    if same_state(a.demand.state, x.demand.state) {
+        return None;
+    }
+    if !may_refute_triple(model, a, x, b) {
+        return None;
+    }
+    ask_state3(model, region, best, k, a, x, b)
+}
+
+/// What is found of two demands and others between them.
+fn ask_between(
+    model: &Model,
+    region: &Region,
+    best: Option<i64>,
+    k: u32,
+    a: Named,
+    b: Named,
+    cs: &[u32],
+    notes: &[Named],
+) -> Option<Finding<StateWitness>>
+    requires of { IsRegionOf model.now region.now.region }
+    requires first { IsOf model.now region.now.region k a }
+    requires third { IsOf model.now region.now.region k b }
+    requires room { length cs.now ≤ length notes.now }
+    requires noted { AreNamed model.now region.now.region k cs.now notes.now }
+    ensures none { IfNone result (SilentAround model.now region.now.region best k a.c cs.now b.c) }
+    ensures some { IfSome result (IsFinding refutes model.now region.now.region best) }
+    ensures busy { IfSome result (λ f. quiet model.now k region.now.region best → ⊥) }
+{
+    for i in 0..cs.len() {
+        if let Some(found) = ask_three(model, region, best, k, a, notes[i], b) {
+            return Some(found);
+        }
+    }
+    None
+}
+
+/// The same where the third may be of any state. Mostly
+/// the two stand so far apart that no compulsory part of this length reaches from one to the other.
+fn ask_around(
+    model: &Model,
+    region: &Region,
+    best: Option<i64>,
+    k: u32,
+    longest: i64,
+    a: Named,
+    b: Named,
+    cs: &[u32],
+    notes: &[Named],
+) -> Option<Finding<StateWitness>>
+    requires of { IsRegionOf model.now region.now.region }
+    requires first { IsOf model.now region.now.region k a }
+    requires third { IsOf model.now region.now.region k b }
+    requires covered { EachOf (IsCovered model.now region.now.region longest) cs.now }
+    requires room { length cs.now ≤ length notes.now }
+    requires noted { AreNamed model.now region.now.region k cs.now notes.now }
+    ensures none { IfNone result (SilentAround model.now region.now.region best k a.c cs.now b.c) }
+    ensures some { IfSome result (IsFinding refutes model.now region.now.region best) }
+    ensures busy { IfSome result (λ f. quiet model.now k region.now.region best → ⊥) }
+{
+    if a.c == b.c {
+        return None;
+    }
+    if !same_state(a.demand.state, b.demand.state) {
+        return None;
+    }
+    if !may_refute_around(model, longest, a, b) {
+        return None;
+    }
+    ask_between(model, region, best, k, a, b, cs, notes)
+}
+
+/// What is found of a demand and two others.
+fn ask_row(
+    model: &Model,
+    region: &Region,
+    best: Option<i64>,
+    k: u32,
+    longest: i64,
+    a: Named,
+    cs: &[u32],
+    notes: &[Named],
+) -> Option<Finding<StateWitness>>
+    requires of { IsRegionOf model.now region.now.region }
+    requires first { IsOf model.now region.now.region k a }
+    requires covered { EachOf (IsCovered model.now region.now.region longest) cs.now }
+    requires room { length cs.now ≤ length notes.now }
+    requires noted { AreNamed model.now region.now.region k cs.now notes.now }
+    ensures none { IfNone result (EachOf (SilentAround model.now region.now.region best k a.c cs.now) cs.now) }
+    ensures some { IfSome result (IsFinding refutes model.now region.now.region best) }
+    ensures busy { IfSome result (λ f. quiet model.now k region.now.region best → ⊥) }
+{
+    for i in 0..cs.len() {
+        let b = notes[i];
+        if let Some(found) = ask_around(model, region, best, k, longest, a, b, cs, notes) {
+            return Some(found);
+        }
+    }
+    None
+}
+
+/// What STATE3 finds of some demands of a state function. It looks at each two of them, and at others
+/// between two only where these are of one state and stand near each other.
+pub fn ask_triples(
+    model: &Model,
+    region: &Region,
+    best: Option<i64>,
+    k: u32,
+    cs: &[u32],
+    notes: &[Named],
+) -> Option<Finding<StateWitness>>
+    requires of { IsRegionOf model.now region.now.region }
+    requires room { length cs.now ≤ length notes.now }
+    requires noted { AreNamed model.now region.now.region k cs.now notes.now }
+    ensures none { IfNone result (EachThree model.now region.now.region best k cs.now) }
+    ensures some { IfSome result (IsFinding refutes model.now region.now.region best) }
+    ensures busy { IfSome result (λ f. quiet model.now k region.now.region best → ⊥) }
+{
+    let longest = longest_of(model, region, cs);
+    for i in 0..cs.len() {
+        let a = notes[i];
+        if let Some(found) = ask_row(model, region, best, k, longest, a, cs, notes) {
+            return Some(found);
+        }
+    }
+    None
+}

@@ -1,0 +1,4 @@
+pub mod Steps
+pub mod Collecting
+pub mod Timing
+pub mod Gathering

@@ -1,0 +1,11 @@
+pub mod Witness
+pub mod Demands
+pub mod Times
+pub mod State
+pub mod State3
+pub mod OnState
+pub mod Listed
+pub mod Groups
+pub mod Gathered
+pub mod Canonical
+pub mod laws

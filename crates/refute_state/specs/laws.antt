@@ -1,0 +1,16 @@
+pub mod Spelling
+pub mod Lists
+pub mod Facts
+pub mod Grouping
+pub mod Running
+pub mod Making
+pub mod Serving
+pub mod Settled
+pub mod Canonical
+pub mod Pairing
+pub mod Whole
+pub mod Long
+pub mod Never
+pub mod Sound
+pub mod Rowed
+pub mod Alike
