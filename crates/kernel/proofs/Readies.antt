@@ -20,8 +20,10 @@ use Rattle.region.specs.laws.Rooted.{root_of, root_allows}
 use Rattle.refute_basic.specs.laws.Sound.{sound_law}
 use Rattle.refute_hier.specs.laws.Sound.{sound_law as hier_sound}
 use Rattle.refute_seq.specs.laws.Sound.{sound_law as seq_sound}
+use Rattle.refute_cumul.specs.laws.Sound.{sound_law as cumul_sound}
+use Rattle.refute_state.specs.laws.Sound.{sound_law as state_sound}
 use Rattle.kernel.specs.declared.types.Witness.{Witness}
-use Rattle.kernel.specs.declared.types.Witness.TheVariants.{Basic, Hier, Seq, Extra}
+use Rattle.kernel.specs.declared.types.Witness.TheVariants.{Basic, Hier, Seq, Cumul, State, Extra}
 use Rattle.kernel.specs.declared.types.Line.{Line}
 use Rattle.kernel.specs.declared.types.Line.TheVariants.{Derive, Fail, Split, Sol}
 use Rattle.kernel.specs.declared.types.Found.{Found}
@@ -47,6 +49,8 @@ pub sound_with : {W : Type 0} (m : Data) (extra : Refuting W) → IsSound m extr
 sound_with m extra sound l (Basic w) valid of h = sound_law m l w valid of h
 sound_with m extra sound l (Hier w) valid of h = hier_sound m l w valid of h
 sound_with m extra sound l (Seq w) valid of h = seq_sound m l w valid of h
+sound_with m extra sound l (Cumul w) valid of h = cumul_sound m l w valid of h
+sound_with m extra sound l (State w) valid of h = state_sound m l w valid of h
 sound_with m extra sound l (Extra w) valid of h = sound l w valid of h
 
 unless_none : (b : Bool) (f : StepFault) (rest : Option StepFault) → fault_unless b f rest ≡ None → b ≡ true

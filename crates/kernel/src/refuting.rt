@@ -7,8 +7,10 @@ ghost use Rattle.kernel.specs.Refuting.{refutes_with};
 
 use crate::types::Witness;
 use refute_basic::Basic;
+use refute_cumul::OnCumul;
 use refute_hier::Hier;
 use refute_seq::OnSequence;
+use refute_state::OnState;
 use region::{Guess, Refuter, Region};
 use sched_model::Model;
 
@@ -28,6 +30,8 @@ pub fn refutes<X: Refuter>(
         Witness::Basic(w) => region::refutes::<Basic>(model, region, best, guess, w),
         Witness::Hier(w) => region::refutes::<Hier>(model, region, best, guess, w),
         Witness::Seq(w) => region::refutes::<OnSequence>(model, region, best, guess, w),
+        Witness::Cumul(w) => region::refutes::<OnCumul>(model, region, best, guess, w),
+        Witness::State(w) => region::refutes::<OnState>(model, region, best, guess, w),
         Witness::Extra(w) => region::refutes::<X>(model, region, best, guess, w),
     }
 }
@@ -48,6 +52,8 @@ pub fn is_tight<X: Refuter>(
         Witness::Basic(w) => region::is_tight::<Basic>(model, region, best, g, w),
         Witness::Hier(w) => region::is_tight::<Hier>(model, region, best, g, w),
         Witness::Seq(w) => region::is_tight::<OnSequence>(model, region, best, g, w),
+        Witness::Cumul(w) => region::is_tight::<OnCumul>(model, region, best, g, w),
+        Witness::State(w) => region::is_tight::<OnState>(model, region, best, g, w),
         Witness::Extra(w) => region::is_tight::<X>(model, region, best, g, w),
     }
 }

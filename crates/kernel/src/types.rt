@@ -1,6 +1,8 @@
 use refute_basic::BasicWitness;
+use refute_cumul::CumulWitness;
 use refute_hier::HierWitness;
 use refute_seq::SeqWitness;
+use refute_state::StateWitness;
 use region::Guess;
 use sched_model::Assignment;
 use thiserror::Error;
@@ -12,6 +14,8 @@ pub enum Witness<W> {
     Basic(BasicWitness),
     Hier(HierWitness),
     Seq(SeqWitness),
+    Cumul(CumulWitness),
+    State(StateWitness),
     Extra(W),
 }
 

@@ -11,19 +11,21 @@ use Rattle.refute_basic.specs.Witness.{numbers_of, is_valid}
 use Rattle.refute_hier.specs.declared.witness.HierWitness.{HierWitness}
 use Rattle.refute_hier.specs.Witness.{numbers_of as hier_numbers, is_valid as is_valid_hier}
 use Rattle.refute_seq.specs.Witness.{numbers_of as seq_numbers, is_valid as is_valid_seq}
+use Rattle.refute_cumul.specs.Witness.{numbers_of as cumul_numbers, is_valid as is_valid_cumul}
+use Rattle.refute_state.specs.Witness.{numbers_of as state_numbers, is_valid as is_valid_state}
 use Rattle.kernel.specs.declared.types.Witness.{Witness}
-use Rattle.kernel.specs.declared.types.Witness.TheVariants.{Basic, Hier, Seq, Extra}
+use Rattle.kernel.specs.declared.types.Witness.TheVariants.{Basic, Hier, Seq, Cumul, State, Extra}
 use Rattle.kernel.specs.Fit.{is_count, is_fit_witness}
 use Rattle.textline.specs.Lines.{Bytes}
 use Rattle.textline.specs.laws.Lines.{both_true}
 use Rattle.logtext.specs.declared.entry.EntryFault.{EntryFault}
 use Rattle.logtext.specs.declared.entry.EntryFault.TheVariants.{Bad, NoMemory}
-use Rattle.logtext.specs.Spelling.{basic_kinds, hier_kinds, seq_kinds, kind_words, witness_words}
+use Rattle.logtext.specs.Spelling.{basic_kinds, hier_kinds, seq_kinds, cumul_kinds, state_kinds, kind_words, witness_words}
 use Rattle.logtext.specs.Reads.{NoneStands, ReadsWhole, ReadsNumbers, ReadsValue, FindsWord, count_words, moment_words, extra_words}
 use Rattle.logtext.specs.laws.Leads.{behind, head_is}
 use Rattle.logtext.specs.laws.Told.{count_told, moments_told}
 use Rattle.logtext.specs.laws.Entries.{AreTold, all_small, few_is_count}
-use Rattle.logtext.specs.laws.Kinds.{are_different, is_placed, basic_differ, basic_placed, hier_differ, hier_placed, seq_differ, seq_placed, one_place, begins, no_basic, no_hier, no_seq, no_extra}
+use Rattle.logtext.specs.laws.Kinds.{are_different, is_placed, basic_differ, basic_placed, hier_differ, hier_placed, seq_differ, seq_placed, cumul_differ, cumul_placed, state_differ, state_placed, one_place, begins, no_basic, no_hier, no_seq, no_cumul, no_state, no_extra}
 use Rattle.logtext.proofs.Lines.{NoneWhole}
 
 -- values
@@ -109,9 +111,7 @@ basic_fails {W} numbers valid old ws k Bad within is none = no_kind
   where
     no_kind : (v : Witness W) → IsTrue (is_fit_witness valid v) → old ≡ witness_words numbers v → ⊥
     no_kind (Basic w) fit e = other_kind basic_kinds numbers_of is_valid basic_differ basic_placed k ws w within none fit (sym is ∙ e)
-    no_kind (Hier w) fit e = no_basic numbers (Hier w) k ws (λ h. omega (arith, h)) within (sym is ∙ e)
-    no_kind (Seq w) fit e = no_basic numbers (Seq w) k ws (λ h. omega (arith, h)) within (sym is ∙ e)
-    no_kind (Extra w) fit e = no_basic numbers (Extra w) k ws (λ h. omega (arith, h)) within (sym is ∙ e)
+    no_kind w fit e = no_basic numbers w k ws (λ h. omega (arith, h)) within (sym is ∙ e)
 basic_fails numbers valid old ws k NoMemory within is none = tt
 
 pub hier_fails : {W : Type 0} (numbers : W → List ℤ) (valid : W → Bool) (old ws : List Bytes) (k : ℕ) (r : EntryFault) → k < length hier_kinds → old ≡ get_or hier_kinds k [] ∷ ws → ReadsValue hier_numbers is_valid_hier (pos k ∷ []) ws (Err r)
@@ -120,9 +120,7 @@ hier_fails {W} numbers valid old ws k Bad within is none = no_kind
   where
     no_kind : (v : Witness W) → IsTrue (is_fit_witness valid v) → old ≡ witness_words numbers v → ⊥
     no_kind (Hier w) fit e = other_kind hier_kinds hier_numbers is_valid_hier hier_differ hier_placed k ws w within none fit (sym is ∙ e)
-    no_kind (Basic w) fit e = no_hier numbers (Basic w) k ws (λ h. omega (arith, h)) within (sym is ∙ e)
-    no_kind (Seq w) fit e = no_hier numbers (Seq w) k ws (λ h. omega (arith, h)) within (sym is ∙ e)
-    no_kind (Extra w) fit e = no_hier numbers (Extra w) k ws (λ h. omega (arith, h)) within (sym is ∙ e)
+    no_kind w fit e = no_hier numbers w k ws (λ h. omega (arith, h)) within (sym is ∙ e)
 hier_fails numbers valid old ws k NoMemory within is none = tt
 
 pub seq_fails : {W : Type 0} (numbers : W → List ℤ) (valid : W → Bool) (old ws : List Bytes) (k : ℕ) (r : EntryFault) → k < length seq_kinds → old ≡ get_or seq_kinds k [] ∷ ws → ReadsValue seq_numbers is_valid_seq (pos k ∷ []) ws (Err r)
@@ -131,10 +129,26 @@ seq_fails {W} numbers valid old ws k Bad within is none = no_kind
   where
     no_kind : (v : Witness W) → IsTrue (is_fit_witness valid v) → old ≡ witness_words numbers v → ⊥
     no_kind (Seq w) fit e = other_kind seq_kinds seq_numbers is_valid_seq seq_differ seq_placed k ws w within none fit (sym is ∙ e)
-    no_kind (Basic w) fit e = no_seq numbers (Basic w) k ws (λ h. omega (arith, h)) within (sym is ∙ e)
-    no_kind (Hier w) fit e = no_seq numbers (Hier w) k ws (λ h. omega (arith, h)) within (sym is ∙ e)
-    no_kind (Extra w) fit e = no_seq numbers (Extra w) k ws (λ h. omega (arith, h)) within (sym is ∙ e)
+    no_kind w fit e = no_seq numbers w k ws (λ h. omega (arith, h)) within (sym is ∙ e)
 seq_fails numbers valid old ws k NoMemory within is none = tt
+
+pub cumul_fails : {W : Type 0} (numbers : W → List ℤ) (valid : W → Bool) (old ws : List Bytes) (k : ℕ) (r : EntryFault) → k < length cumul_kinds → old ≡ get_or cumul_kinds k [] ∷ ws → ReadsValue cumul_numbers is_valid_cumul (pos k ∷ []) ws (Err r)
+    → ReadsWhole (witness_words numbers) (is_fit_witness valid) old (Err r)
+cumul_fails {W} numbers valid old ws k Bad within is none = no_kind
+  where
+    no_kind : (v : Witness W) → IsTrue (is_fit_witness valid v) → old ≡ witness_words numbers v → ⊥
+    no_kind (Cumul w) fit e = other_kind cumul_kinds cumul_numbers is_valid_cumul cumul_differ cumul_placed k ws w within none fit (sym is ∙ e)
+    no_kind w fit e = no_cumul numbers w k ws (λ h. omega (arith, h)) within (sym is ∙ e)
+cumul_fails numbers valid old ws k NoMemory within is none = tt
+
+pub state_fails : {W : Type 0} (numbers : W → List ℤ) (valid : W → Bool) (old ws : List Bytes) (k : ℕ) (r : EntryFault) → k < length state_kinds → old ≡ get_or state_kinds k [] ∷ ws → ReadsValue state_numbers is_valid_state (pos k ∷ []) ws (Err r)
+    → ReadsWhole (witness_words numbers) (is_fit_witness valid) old (Err r)
+state_fails {W} numbers valid old ws k Bad within is none = no_kind
+  where
+    no_kind : (v : Witness W) → IsTrue (is_fit_witness valid v) → old ≡ witness_words numbers v → ⊥
+    no_kind (State w) fit e = other_kind state_kinds state_numbers is_valid_state state_differ state_placed k ws w within none fit (sym is ∙ e)
+    no_kind w fit e = no_state numbers w k ws (λ h. omega (arith, h)) within (sym is ∙ e)
+state_fails numbers valid old ws k NoMemory within is none = tt
 
 pub has_kind : {V : Type 0} (kinds : List Bytes) (numbers : V → List ℤ) (valid : V → Bool) (old ws : List Bytes) (k : ℕ) (v : V) → old ≡ get_or kinds k [] ∷ ws → ReadsValue numbers valid (pos k ∷ []) ws (Ok v) → old ≡ kind_words kinds (numbers v)
 has_kind kinds numbers valid old ws k v is read = is ∙ ap (λ vs. get_or kinds k [] ∷ vs) read.3 ∙ ap (kind_words kinds) (sym read.2)
@@ -143,10 +157,8 @@ pub behind_extra : {W : Type 0} (numbers : W → List ℤ) (valid : W → Bool) 
 behind_extra {W} numbers valid old ws Bad is none = no_kind
   where
     no_kind : (v : Witness W) → IsTrue (is_fit_witness valid v) → old ≡ witness_words numbers v → ⊥
-    no_kind (Basic w) fit e = no_extra numbers (Basic w) ws (λ h. omega (arith, h)) (sym is ∙ e)
-    no_kind (Hier w) fit e = no_extra numbers (Hier w) ws (λ h. omega (arith, h)) (sym is ∙ e)
-    no_kind (Seq w) fit e = no_extra numbers (Seq w) ws (λ h. omega (arith, h)) (sym is ∙ e)
     no_kind (Extra w) fit e = none w fit (behind _ _ _ _ (sym is ∙ e))
+    no_kind w fit e = no_extra numbers w ws (λ h. omega (arith, h)) (sym is ∙ e)
 behind_extra numbers valid old ws NoMemory is none = tt
 
 -- a word that no table has begins none of its witnesses
@@ -155,11 +167,13 @@ no_such_kind kinds numbers old ws kind v placed is none e =
     let there = has_place kinds (numbers v) placed in none there.place there.within (head_is _ _ _ _ (sym is ∙ e ∙ ap (kind_words kinds) there.is))
 
 pub other_word : {W : Type 0} (numbers : W → List ℤ) (valid : W → Bool) (old ws : List Bytes) (kind : Bytes) → old ≡ kind ∷ ws → FindsWord basic_kinds kind None → FindsWord hier_kinds kind None → FindsWord seq_kinds kind None
-    → (kind ≡ codes "EXTRA" → ⊥) → NoneWhole (witness_words numbers) (is_fit_witness valid) old
-other_word numbers valid old ws kind is none also nor other (Basic w) fit e = no_such_kind basic_kinds numbers_of old ws kind w (basic_placed w) is none e
-other_word numbers valid old ws kind is none also nor other (Hier w) fit e = no_such_kind hier_kinds hier_numbers old ws kind w (hier_placed w) is also e
-other_word numbers valid old ws kind is none also nor other (Seq w) fit e = no_such_kind seq_kinds seq_numbers old ws kind w (seq_placed w) is nor e
-other_word numbers valid old ws kind is none also nor other (Extra w) fit e = other (head_is _ _ _ _ (sym is ∙ e))
+    → FindsWord cumul_kinds kind None → FindsWord state_kinds kind None → (kind ≡ codes "EXTRA" → ⊥) → NoneWhole (witness_words numbers) (is_fit_witness valid) old
+other_word numbers valid old ws kind is basic hier seq cumul state other (Basic w) fit e = no_such_kind basic_kinds numbers_of old ws kind w (basic_placed w) is basic e
+other_word numbers valid old ws kind is basic hier seq cumul state other (Hier w) fit e = no_such_kind hier_kinds hier_numbers old ws kind w (hier_placed w) is hier e
+other_word numbers valid old ws kind is basic hier seq cumul state other (Seq w) fit e = no_such_kind seq_kinds seq_numbers old ws kind w (seq_placed w) is seq e
+other_word numbers valid old ws kind is basic hier seq cumul state other (Cumul w) fit e = no_such_kind cumul_kinds cumul_numbers old ws kind w (cumul_placed w) is cumul e
+other_word numbers valid old ws kind is basic hier seq cumul state other (State w) fit e = no_such_kind state_kinds state_numbers old ws kind w (state_placed w) is state e
+other_word numbers valid old ws kind is basic hier seq cumul state other (Extra w) fit e = other (head_is _ _ _ _ (sym is ∙ e))
 
 pub never : IsTrue false → ⊥
 never h = cc

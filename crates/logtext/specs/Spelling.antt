@@ -11,8 +11,10 @@ use Rattle.region.specs.declared.types.Guess.TheVariants.{Present, Absent, Start
 use Rattle.refute_basic.specs.Witness.{numbers_of}
 use Rattle.refute_hier.specs.Witness.{numbers_of as hier_numbers}
 use Rattle.refute_seq.specs.Witness.{numbers_of as seq_numbers}
+use Rattle.refute_cumul.specs.Witness.{numbers_of as cumul_numbers}
+use Rattle.refute_state.specs.Witness.{numbers_of as state_numbers}
 use Rattle.kernel.specs.declared.types.Witness.{Witness}
-use Rattle.kernel.specs.declared.types.Witness.TheVariants.{Basic, Hier, Seq, Extra}
+use Rattle.kernel.specs.declared.types.Witness.TheVariants.{Basic, Hier, Seq, Cumul, State, Extra}
 use Rattle.kernel.specs.declared.types.Line.{Line}
 use Rattle.kernel.specs.declared.types.Line.TheVariants.{Derive, Fail, Split, Sol}
 use Rattle.textline.specs.Lines.{Bytes, line}
@@ -37,6 +39,12 @@ hier_kinds = codes "SPAN" ∷ codes "ALT" ∷ codes "SYNC" ∷ codes "SEQREL" �
 abbrev pub seq_kinds : List Bytes
 seq_kinds = codes "PAIR" ∷ codes "TRIPLE" ∷ []
 
+abbrev pub cumul_kinds : List Bytes
+cumul_kinds = codes "POINT" ∷ []
+
+abbrev pub state_kinds : List Bytes
+state_kinds = codes "STATE" ∷ codes "STATE3" ∷ []
+
 -- of the numbers of a witness the first is the place of its kind: the word there, and the other numbers
 abbrev pub kind_words : List Bytes → List ℤ → List Bytes
 kind_words kinds (pos k ∷ zs) = get_or kinds k [] ∷ map signed_decimal zs
@@ -47,6 +55,8 @@ abbrev pub witness_words : {W : Type 0} → (W → List ℤ) → Witness W → L
 witness_words numbers (Basic w) = kind_words basic_kinds (numbers_of w)
 witness_words numbers (Hier w) = kind_words hier_kinds (hier_numbers w)
 witness_words numbers (Seq w) = kind_words seq_kinds (seq_numbers w)
+witness_words numbers (Cumul w) = kind_words cumul_kinds (cumul_numbers w)
+witness_words numbers (State w) = kind_words state_kinds (state_numbers w)
 witness_words numbers (Extra w) = codes "EXTRA" ∷ decimal (length (numbers w)) ∷ map signed_decimal (numbers w)
 
 -- where each interval stands, the members of each sequence in their order, the segments of each state function

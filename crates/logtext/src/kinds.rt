@@ -1,7 +1,7 @@
 ghost use Rattle.std.specs.Prelude.{◌≡◌, ◌<◌, [], get_or};
 ghost use Rattle.std.specs.List.{position};
 ghost use Rattle.std.specs.Str.{bytes_eq};
-ghost use Rattle.logtext.specs.Spelling.{basic_kinds, hier_kinds, seq_kinds};
+ghost use Rattle.logtext.specs.Spelling.{basic_kinds, hier_kinds, seq_kinds, cumul_kinds, state_kinds};
 ghost use Rattle.logtext.specs.Reads.{FindsWord};
 
 /// The words of the kinds in `refute_basic`, by their places there.
@@ -12,6 +12,12 @@ const HIER: [&[u8]; 4] = [b"SPAN", b"ALT", b"SYNC", b"SEQREL"];
 
 /// The words of the kinds in `refute_seq`, by their places there.
 const SEQ: [&[u8]; 2] = [b"PAIR", b"TRIPLE"];
+
+/// The word of the kind in `refute_cumul`.
+const CUMUL: [&[u8]; 1] = [b"POINT"];
+
+/// The words of the kinds in `refute_state`, by their places there.
+const STATE: [&[u8]; 2] = [b"STATE", b"STATE3"];
 
 /// The place of a word in a table.
 #[inline(always)]
@@ -64,4 +70,34 @@ pub fn seq_word(place: usize) -> &'static [u8]
     ensures { result.now ≡ get_or seq_kinds place [] }
 {
     SEQ[place]
+}
+
+/// The place of the kind in `refute_cumul` that has this word.
+pub fn cumul_place(word: &[u8]) -> Option<usize>
+    ensures { FindsWord cumul_kinds word.now result }
+{
+    place_of(word, &CUMUL)
+}
+
+/// The word of the kind at a place in `refute_cumul`.
+pub fn cumul_word(place: usize) -> &'static [u8]
+    requires { place < 1 }
+    ensures { result.now ≡ get_or cumul_kinds place [] }
+{
+    CUMUL[place]
+}
+
+/// The place of the kind in `refute_state` that has this word.
+pub fn state_place(word: &[u8]) -> Option<usize>
+    ensures { FindsWord state_kinds word.now result }
+{
+    place_of(word, &STATE)
+}
+
+/// The word of the kind at a place in `refute_state`.
+pub fn state_word(place: usize) -> &'static [u8]
+    requires { place < 2 }
+    ensures { result.now ≡ get_or state_kinds place [] }
+{
+    STATE[place]
 }

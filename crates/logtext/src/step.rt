@@ -4,7 +4,7 @@ ghost use Rattle.logtext.specs.Spelling.{guess_words, witness_words};
 ghost use Rattle.logtext.specs.Reads.{Takes, ReadsWhole, ReadsNumbers, ReadsValue, extra_words};
 
 use crate::entry::EntryFault;
-use crate::kinds::{basic_place, hier_place, seq_place};
+use crate::kinds::{basic_place, cumul_place, hier_place, seq_place, state_place};
 use crate::value::{is, take_bound, take_count, take_id, take_moment, take_pair};
 use kernel::Witness;
 use region::{Guess, Numbers};
@@ -145,6 +145,18 @@ pub fn read_witness<W: Numbers>(
     if let Some(place) = seq_place(kind) {
         return match read_kind(alloc, place, words, numbers) {
             Ok(w) => Ok(Witness::Seq(w)),
+            Err(fault) => Err(fault),
+        };
+    }
+    if let Some(place) = cumul_place(kind) {
+        return match read_kind(alloc, place, words, numbers) {
+            Ok(w) => Ok(Witness::Cumul(w)),
+            Err(fault) => Err(fault),
+        };
+    }
+    if let Some(place) = state_place(kind) {
+        return match read_kind(alloc, place, words, numbers) {
+            Ok(w) => Ok(Witness::State(w)),
             Err(fault) => Err(fault),
         };
     }

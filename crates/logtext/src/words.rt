@@ -5,17 +5,21 @@ ghost use Rattle.region.specs.declared.types.Guess.TheVariants.{Before};
 ghost use Rattle.refute_basic.specs.Witness.{numbers_of};
 ghost use Rattle.refute_hier.specs.Witness.{numbers_of as hier_numbers};
 ghost use Rattle.refute_seq.specs.Witness.{numbers_of as seq_numbers};
+ghost use Rattle.refute_cumul.specs.Witness.{numbers_of as cumul_numbers};
+ghost use Rattle.refute_state.specs.Witness.{numbers_of as state_numbers};
 ghost use Rattle.kernel.specs.declared.types.Witness.TheVariants.{Extra};
-ghost use Rattle.logtext.specs.Spelling.{guess_words, basic_kinds, hier_kinds, seq_kinds, kind_words, witness_words, slot_words, member_word, order_words, segment_words, segments_words, assignment_words};
+ghost use Rattle.logtext.specs.Spelling.{guess_words, basic_kinds, hier_kinds, seq_kinds, cumul_kinds, state_kinds, kind_words, witness_words, slot_words, member_word, order_words, segment_words, segments_words, assignment_words};
 ghost use Rattle.textline.specs.Lines.{spaced};
 ghost use Rattle.logtext.specs.Writing.{Gathers};
 
-use crate::kinds::{basic_word, hier_word, seq_word};
+use crate::kinds::{basic_word, cumul_word, hier_word, seq_word, state_word};
 use crate::writer::LogWriter;
 use kernel::Witness;
 use refute_basic::BasicWitness;
+use refute_cumul::CumulWitness;
 use refute_hier::HierWitness;
 use refute_seq::SeqWitness;
+use refute_state::StateWitness;
 use region::{Guess, Numbers};
 use sched_base::{Desk, Failed, Itv, List, Seq};
 use sched_model::{Assignment, Segment, Slot};
@@ -128,6 +132,22 @@ impl LogWriter {
         self.put_kind(seq_word(place as usize), w, desk)
     }
 
+    fn put_cumul<D: Desk>(&mut self, w: &CumulWitness, desk: &mut D) -> Result<(), Failed>
+        requires { (D.state desk.old).created ≡ true }
+        ensures { Gathers (spaced (kind_words cumul_kinds (cumul_numbers w.now))) result self.old self.new (D.state desk.old) (D.state desk.new) }
+    {
+        let place = w.number(0);
+        self.put_kind(cumul_word(place as usize), w, desk)
+    }
+
+    fn put_state<D: Desk>(&mut self, w: &StateWitness, desk: &mut D) -> Result<(), Failed>
+        requires { (D.state desk.old).created ≡ true }
+        ensures { Gathers (spaced (kind_words state_kinds (state_numbers w.now))) result self.old self.new (D.state desk.old) (D.state desk.new) }
+    {
+        let place = w.number(0);
+        self.put_kind(state_word(place as usize), w, desk)
+    }
+
     fn put_extra<W: Numbers, D: Desk>(&mut self, w: &W, desk: &mut D) -> Result<(), Failed>
         requires { (D.state desk.old).created ≡ true }
         ensures { Gathers (spaced (witness_words W.numbers (Extra w.now))) result self.old self.new (D.state desk.old) (D.state desk.new) }
@@ -149,6 +169,8 @@ impl LogWriter {
             Witness::Basic(basic) => self.put_basic(basic, desk),
             Witness::Hier(hier) => self.put_hier(hier, desk),
             Witness::Seq(seq) => self.put_seq(seq, desk),
+            Witness::Cumul(cumul) => self.put_cumul(cumul, desk),
+            Witness::State(state) => self.put_state(state, desk),
             Witness::Extra(extra) => self.put_extra(extra, desk),
         }
     }

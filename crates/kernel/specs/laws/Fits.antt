@@ -27,6 +27,8 @@ use Rattle.refute_basic.specs.laws.Fits.{few_of}
 use Rattle.refute_basic.specs.laws.Spelling.{refuting_valid}
 use Rattle.refute_hier.specs.laws.Spelling.{refuting_valid as hier_valid}
 use Rattle.refute_seq.specs.laws.Spelling.{refuting_valid as seq_valid}
+use Rattle.refute_cumul.specs.laws.Spelling.{refuting_valid as cumul_valid}
+use Rattle.refute_state.specs.laws.Spelling.{refuting_valid as state_valid}
 use Rattle.kernel.specs.declared.types.Witness.{Witness}
 use Rattle.kernel.specs.declared.types.Witness.TheVariants as witness
 use Rattle.kernel.specs.declared.types.Witness.TheVariants.{Basic, Hier, Extra}
@@ -147,6 +149,8 @@ pub fit_refuting : {W : Type 0} (extra : Refuting W) (valid : W → Bool) → ((
 fit_refuting extra valid each m l (Basic w) h = refuting_valid m l w h
 fit_refuting extra valid each m l (Hier w) h = hier_valid m l w h
 fit_refuting extra valid each m l (witness.Seq w) h = seq_valid m l w h
+fit_refuting extra valid each m l (witness.Cumul w) h = cumul_valid m l w h
+fit_refuting extra valid each m l (witness.State w) h = state_valid m l w h
 fit_refuting extra valid each m l (Extra w) h = each m l w h
 
 -- so a line that derives is fit

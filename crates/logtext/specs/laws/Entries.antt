@@ -8,7 +8,7 @@ use Rattle.std.specs.Fmt.{decimal, signed_decimal}
 use Rattle.sched_model.specs.Valid.{is_small}
 use Rattle.region.specs.Spelled.{AreSmall}
 use Rattle.kernel.specs.declared.types.Witness.{Witness}
-use Rattle.kernel.specs.declared.types.Witness.TheVariants.{Basic, Hier, Seq, Extra}
+use Rattle.kernel.specs.declared.types.Witness.TheVariants.{Basic, Hier, Seq, Cumul, State, Extra}
 use Rattle.kernel.specs.declared.types.Line.{Line}
 use Rattle.kernel.specs.declared.types.Line.TheVariants.{Derive, Fail, Split, Sol}
 use Rattle.refute_basic.specs.Witness.{numbers_of, is_valid}
@@ -17,17 +17,21 @@ use Rattle.refute_hier.specs.Witness.{numbers_of as hier_numbers, is_valid as is
 use Rattle.refute_hier.specs.laws.Spelling.{few_numbers as few_hier, small_numbers as small_hier, told_apart as hier_apart}
 use Rattle.refute_seq.specs.Witness.{numbers_of as seq_numbers, is_valid as is_valid_seq}
 use Rattle.refute_seq.specs.laws.Spelling.{few_numbers as few_seq, small_numbers as small_seq, told_apart as seq_apart}
+use Rattle.refute_cumul.specs.Witness.{numbers_of as cumul_numbers, is_valid as is_valid_cumul}
+use Rattle.refute_cumul.specs.laws.Spelling.{few_numbers as few_cumul, small_numbers as small_cumul, told_apart as cumul_apart}
+use Rattle.refute_state.specs.Witness.{numbers_of as state_numbers, is_valid as is_valid_state}
+use Rattle.refute_state.specs.laws.Spelling.{few_numbers as few_state, small_numbers as small_state, told_apart as state_apart}
 use Rattle.kernel.specs.Fit.{is_count, is_fit, is_fit_guess, is_fit_witness}
 use Rattle.textline.specs.Lines.{Bytes, line}
 use Rattle.textline.specs.Words.{are_words}
 use Rattle.textline.specs.laws.Lines.{both_true, true_both, line_told, one_word}
 use Rattle.logtext.specs.declared.entry.Entry.{Entry}
 use Rattle.logtext.specs.declared.entry.Entry.TheVariants.{Head, Step, Finish}
-use Rattle.logtext.specs.Spelling.{guess_words, basic_kinds, hier_kinds, seq_kinds, kind_words, witness_words, assignment_words, line_words}
+use Rattle.logtext.specs.Spelling.{guess_words, basic_kinds, hier_kinds, seq_kinds, cumul_kinds, state_kinds, kind_words, witness_words, assignment_words, line_words}
 use Rattle.logtext.specs.Entries.{entry_text, entry_words, is_fit_entry}
 use Rattle.logtext.specs.laws.Leads.{tag, behind}
 use Rattle.logtext.specs.laws.Told.{moments_told, guess_told, assignment_told}
-use Rattle.logtext.specs.laws.Kinds.{are_different, is_placed, basic_differ, basic_plain, basic_placed, hier_differ, hier_plain, hier_placed, seq_differ, seq_plain, seq_placed, word_at, kind_told, begins, one_crate}
+use Rattle.logtext.specs.laws.Kinds.{are_different, is_placed, basic_differ, basic_plain, basic_placed, hier_differ, hier_plain, hier_placed, seq_differ, seq_plain, seq_placed, cumul_differ, cumul_plain, cumul_placed, state_differ, state_plain, state_placed, word_at, kind_told, begins, one_crate}
 use Rattle.logtext.specs.laws.Plain.{count_word, moment_word, front_and, each_plain, guess_plain, assignment_plain}
 
 -- valid witnesses have few and small numbers, which tell them apart
@@ -58,11 +62,19 @@ hier_laws = record { few = few_hier; small = small_hier; apart = hier_apart }
 pub seq_laws : AreTold seq_numbers is_valid_seq
 seq_laws = record { few = few_seq; small = small_seq; apart = seq_apart }
 
+pub cumul_laws : AreTold cumul_numbers is_valid_cumul
+cumul_laws = record { few = few_cumul; small = small_cumul; apart = cumul_apart }
+
+pub state_laws : AreTold state_numbers is_valid_state
+state_laws = record { few = few_state; small = small_state; apart = state_apart }
+
 -- a witness is the last thing of its line
 pub witness_told : {W : Type 0} → (numbers : W → List ℤ) (valid : W → Bool) → AreTold numbers valid → (a b : Witness W) → is_fit_witness valid a ≡ true → is_fit_witness valid b ≡ true → witness_words numbers a ≡ witness_words numbers b → a ≡ b
 witness_told numbers valid laws (Basic a) (Basic b) ha hb e = ap Basic (kind_witness_told basic_kinds numbers_of is_valid basic_differ basic_placed basic_laws a b ha hb e)
 witness_told numbers valid laws (Hier a) (Hier b) ha hb e = ap Hier (kind_witness_told hier_kinds hier_numbers is_valid_hier hier_differ hier_placed hier_laws a b ha hb e)
 witness_told numbers valid laws (Seq a) (Seq b) ha hb e = ap Seq (kind_witness_told seq_kinds seq_numbers is_valid_seq seq_differ seq_placed seq_laws a b ha hb e)
+witness_told numbers valid laws (Cumul a) (Cumul b) ha hb e = ap Cumul (kind_witness_told cumul_kinds cumul_numbers is_valid_cumul cumul_differ cumul_placed cumul_laws a b ha hb e)
+witness_told numbers valid laws (State a) (State b) ha hb e = ap State (kind_witness_told state_kinds state_numbers is_valid_state state_differ state_placed state_laws a b ha hb e)
 witness_told numbers valid laws (Extra a) (Extra b) ha hb e =
     let same = moments_told (numbers a) (numbers b) (all_small (numbers a) (laws.small a ha)) (all_small (numbers b) (laws.small b hb)) (behind _ _ _ _ (behind _ _ _ _ e)) in ap Extra (laws.apart a b ha hb same)
 witness_told numbers valid laws v w ha hb e = let one = one_crate numbers v w e in let few = (begins numbers v).within in let also = (begins numbers w).within in absurd (omega (arith, one, few, also))
@@ -109,6 +121,8 @@ pub witness_plain : {W : Type 0} → (numbers : W → List ℤ) (valid : W → B
 witness_plain numbers valid laws (Basic w) h = kind_plain basic_kinds (numbers_of w) basic_plain (all_small (numbers_of w) (small_numbers w h))
 witness_plain numbers valid laws (Hier w) h = kind_plain hier_kinds (hier_numbers w) hier_plain (all_small (hier_numbers w) (small_hier w h))
 witness_plain numbers valid laws (Seq w) h = kind_plain seq_kinds (seq_numbers w) seq_plain (all_small (seq_numbers w) (small_seq w h))
+witness_plain numbers valid laws (Cumul w) h = kind_plain cumul_kinds (cumul_numbers w) cumul_plain (all_small (cumul_numbers w) (small_cumul w h))
+witness_plain numbers valid laws (State w) h = kind_plain state_kinds (state_numbers w) state_plain (all_small (state_numbers w) (small_state w h))
 witness_plain numbers valid laws (Extra w) h =
     one_word (decimal (length (numbers w))) (map signed_decimal (numbers w)) (count_word (length (numbers w)) (few_is_count (length (numbers w)) (laws.few w h))) (numbers_plain (numbers w) (all_small (numbers w) (laws.small w h)))
 

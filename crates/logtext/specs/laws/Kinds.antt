@@ -18,12 +18,18 @@ use Rattle.refute_hier.specs.Witness.{numbers_of as hier_numbers}
 use Rattle.refute_seq.specs.declared.witness.SeqWitness.{SeqWitness}
 use Rattle.refute_seq.specs.declared.witness.SeqWitness.TheVariants.{Pair, Triple}
 use Rattle.refute_seq.specs.Witness.{numbers_of as seq_numbers}
+use Rattle.refute_cumul.specs.declared.witness.CumulWitness.{CumulWitness}
+use Rattle.refute_cumul.specs.declared.witness.CumulWitness.TheVariants.{Point}
+use Rattle.refute_cumul.specs.Witness.{numbers_of as cumul_numbers}
+use Rattle.refute_state.specs.declared.witness.StateWitness.{StateWitness}
+use Rattle.refute_state.specs.declared.witness.StateWitness.TheVariants.{State as Two, State3 as Three}
+use Rattle.refute_state.specs.Witness.{numbers_of as state_numbers}
 use Rattle.kernel.specs.declared.types.Witness.{Witness}
-use Rattle.kernel.specs.declared.types.Witness.TheVariants.{Basic, Hier, Seq, Extra}
+use Rattle.kernel.specs.declared.types.Witness.TheVariants.{Basic, Hier, Seq, Cumul, State, Extra}
 use Rattle.textline.specs.Lines.{Bytes}
 use Rattle.textline.specs.Words.{is_word, are_words}
 use Rattle.textline.specs.laws.Lines.{both_true}
-use Rattle.logtext.specs.Spelling.{basic_kinds, hier_kinds, seq_kinds, kind_words, witness_words}
+use Rattle.logtext.specs.Spelling.{basic_kinds, hier_kinds, seq_kinds, cumul_kinds, state_kinds, kind_words, witness_words}
 use Rattle.logtext.specs.laws.Leads.{behind, head_is}
 use Rattle.logtext.specs.laws.Told.{moments_told}
 
@@ -34,7 +40,7 @@ are_different (w ∷ ws) = list_all (λ v. not (bytes_eq w v)) ws && are_differe
 
 -- EXTRA, and the words of all kinds
 abbrev pub first_words : List Bytes
-first_words = codes "EXTRA" ∷ (basic_kinds ++ (hier_kinds ++ seq_kinds))
+first_words = codes "EXTRA" ∷ (basic_kinds ++ (hier_kinds ++ (seq_kinds ++ (cumul_kinds ++ state_kinds))))
 
 pub first_words_differ : are_different first_words ≡ true
 first_words_differ = refl
@@ -58,6 +64,18 @@ seq_differ = refl
 pub seq_plain : are_words seq_kinds ≡ true
 seq_plain = refl
 
+pub cumul_differ : are_different cumul_kinds ≡ true
+cumul_differ = refl
+
+pub cumul_plain : are_words cumul_kinds ≡ true
+cumul_plain = refl
+
+pub state_differ : are_different state_kinds ≡ true
+state_differ = refl
+
+pub state_plain : are_words state_kinds ≡ true
+state_plain = refl
+
 -- the first number is the place of a word
 abbrev pub is_placed : List Bytes → List ℤ → Bool
 is_placed kinds (pos k ∷ zs) = nat_lt k (length kinds)
@@ -80,6 +98,13 @@ hier_placed (SeqRel c x) = refl
 pub seq_placed : (w : SeqWitness) → is_placed seq_kinds (seq_numbers w) ≡ true
 seq_placed (Pair c a b k) = refl
 seq_placed (Triple p x y z) = refl
+
+pub cumul_placed : (w : CumulWitness) → is_placed cumul_kinds (cumul_numbers w) ≡ true
+cumul_placed (Point c t u) = refl
+
+pub state_placed : (w : StateWitness) → is_placed state_kinds (state_numbers w) ≡ true
+state_placed (Two c d) = refl
+state_placed (Three c d e) = refl
 
 -- a word that is none of these stands at none of their places
 elsewhere : (w : Bytes) (ws : List Bytes) (k : ℕ) → list_all (λ v. not (bytes_eq w v)) ws ≡ true → k < length ws → w ≡ get_or ws k [] → ⊥
@@ -119,12 +144,16 @@ low_of (Extra w) = 0
 low_of (Basic w) = 1
 low_of (Hier w) = 7
 low_of (Seq w) = 11
+low_of (Cumul w) = 13
+low_of (State w) = 14
 
 abbrev pub many_of : {W : Type 0} → Witness W → ℕ
 many_of (Extra w) = 1
 many_of (Basic w) = 6
 many_of (Hier w) = 4
 many_of (Seq w) = 2
+many_of (Cumul w) = 1
+many_of (State w) = 2
 
 -- so a witness begins with one of them
 pub record Begins {W : Type 0} (numbers : W → List ℤ) (w : Witness W) : Type 0 where
@@ -133,38 +162,39 @@ pub record Begins {W : Type 0} (numbers : W → List ℤ) (w : Witness W) : Type
   pub within : place < many_of w
   pub first : witness_words numbers w ≡ get_or first_words (low_of w + place) [] ∷ others
 
+-- the words of a table stand among the first words behind those before it
+word_from : (front kinds back : List Bytes) (k : ℕ) → k < length kinds → get_or (front ++ (kinds ++ back)) (length front + k) [] ≡ get_or kinds k []
+word_from front kinds back k within = get_or-append-add front (kinds ++ back) k [] ∙ get_or-append kinds back [] k within
+
 basic_word : (k : ℕ) → k < length basic_kinds → get_or first_words (1 + k) [] ≡ get_or basic_kinds k []
-basic_word k within = get_or-append-add (codes "EXTRA" ∷ []) (basic_kinds ++ (hier_kinds ++ seq_kinds)) k [] ∙ get_or-append basic_kinds (hier_kinds ++ seq_kinds) [] k within
+basic_word = word_from (codes "EXTRA" ∷ []) basic_kinds (hier_kinds ++ (seq_kinds ++ (cumul_kinds ++ state_kinds)))
 
 hier_word : (k : ℕ) → k < length hier_kinds → get_or first_words (7 + k) [] ≡ get_or hier_kinds k []
-hier_word k within = get_or-append-add (codes "EXTRA" ∷ basic_kinds) (hier_kinds ++ seq_kinds) k [] ∙ get_or-append hier_kinds seq_kinds [] k within
+hier_word = word_from (codes "EXTRA" ∷ basic_kinds) hier_kinds (seq_kinds ++ (cumul_kinds ++ state_kinds))
 
-seq_word : (k : ℕ) → get_or first_words (11 + k) [] ≡ get_or seq_kinds k []
-seq_word k = get_or-append-add (codes "EXTRA" ∷ (basic_kinds ++ hier_kinds)) seq_kinds k []
+seq_word : (k : ℕ) → k < length seq_kinds → get_or first_words (11 + k) [] ≡ get_or seq_kinds k []
+seq_word = word_from (codes "EXTRA" ∷ (basic_kinds ++ hier_kinds)) seq_kinds (cumul_kinds ++ state_kinds)
 
-basic_begins : {W : Type 0} (numbers : W → List ℤ) (w : BasicWitness) (zs : List ℤ) → numbers_of w ≡ zs → is_placed basic_kinds zs ≡ true → Begins numbers (Basic w)
-basic_begins numbers w [] is placed = cc
-basic_begins numbers w (negsuc k ∷ zs) is placed = cc
-basic_begins numbers w (pos k ∷ zs) is placed =
-    let within : k < 6 = grind (arith, nat_tests) in
-    record { place = k; others = map signed_decimal zs; within = within; first = ap (kind_words basic_kinds) is ∙ ap (λ v. v ∷ map signed_decimal zs) (sym (basic_word k within)) }
+cumul_word : (k : ℕ) → k < length cumul_kinds → get_or first_words (13 + k) [] ≡ get_or cumul_kinds k []
+cumul_word = word_from (codes "EXTRA" ∷ (basic_kinds ++ (hier_kinds ++ seq_kinds))) cumul_kinds state_kinds
 
-hier_begins : {W : Type 0} (numbers : W → List ℤ) (w : HierWitness) (zs : List ℤ) → hier_numbers w ≡ zs → is_placed hier_kinds zs ≡ true → Begins numbers (Hier w)
-hier_begins numbers w [] is placed = cc
-hier_begins numbers w (negsuc k ∷ zs) is placed = cc
-hier_begins numbers w (pos k ∷ zs) is placed =
-    let within : k < 4 = grind (arith, nat_tests) in
-    record { place = k; others = map signed_decimal zs; within = within; first = ap (kind_words hier_kinds) is ∙ ap (λ v. v ∷ map signed_decimal zs) (sym (hier_word k within)) }
+state_word : (k : ℕ) → k < length state_kinds → get_or first_words (14 + k) [] ≡ get_or state_kinds k []
+state_word = word_from (codes "EXTRA" ∷ (basic_kinds ++ (hier_kinds ++ (seq_kinds ++ cumul_kinds)))) state_kinds []
 
-seq_begins : {W : Type 0} (numbers : W → List ℤ) (w : SeqWitness) (zs : List ℤ) → seq_numbers w ≡ zs → is_placed seq_kinds zs ≡ true → Begins numbers (Seq w)
-seq_begins numbers w [] is placed = cc
-seq_begins numbers w (negsuc k ∷ zs) is placed = cc
-seq_begins numbers w (pos k ∷ zs) is placed = record { place = k; others = map signed_decimal zs; within = grind (arith, nat_tests); first = ap (kind_words seq_kinds) is ∙ ap (λ v. v ∷ map signed_decimal zs) (sym (seq_word k)) }
+-- where the words of a table stand there, a witness of its kinds begins with one of them
+begins_there : {W : Type 0} (numbers : W → List ℤ) (w : Witness W) (kinds : List Bytes) (zs : List ℤ) → witness_words numbers w ≡ kind_words kinds zs → many_of w ≡ length kinds → ((k : ℕ) → k < length kinds → get_or first_words (low_of w + k) [] ≡ get_or kinds k []) → is_placed kinds zs ≡ true → Begins numbers w
+begins_there numbers w kinds [] is many word placed = cc
+begins_there numbers w kinds (negsuc k ∷ zs) is many word placed = cc
+begins_there numbers w kinds (pos k ∷ zs) is many word placed =
+    let within : k < length kinds = grind (arith, nat_tests) in
+    record { place = k; others = map signed_decimal zs; within = omega (arith, within, many); first = is ∙ ap (λ v. v ∷ map signed_decimal zs) (sym (word k within)) }
 
 pub begins : {W : Type 0} (numbers : W → List ℤ) (w : Witness W) → Begins numbers w
-begins numbers (Basic w) = basic_begins numbers w (numbers_of w) refl (basic_placed w)
-begins numbers (Hier w) = hier_begins numbers w (hier_numbers w) refl (hier_placed w)
-begins numbers (Seq w) = seq_begins numbers w (seq_numbers w) refl (seq_placed w)
+begins numbers (Basic w) = begins_there numbers (Basic w) basic_kinds (numbers_of w) refl refl basic_word (basic_placed w)
+begins numbers (Hier w) = begins_there numbers (Hier w) hier_kinds (hier_numbers w) refl refl hier_word (hier_placed w)
+begins numbers (Seq w) = begins_there numbers (Seq w) seq_kinds (seq_numbers w) refl refl seq_word (seq_placed w)
+begins numbers (Cumul w) = begins_there numbers (Cumul w) cumul_kinds (cumul_numbers w) refl refl cumul_word (cumul_placed w)
+begins numbers (State w) = begins_there numbers (State w) state_kinds (state_numbers w) refl refl state_word (state_placed w)
 begins numbers (Extra w) = record { place = 0; others = decimal (length (numbers w)) ∷ map signed_decimal (numbers w); within = omega arith; first = refl }
 
 all_within : {W : Type 0} (w : Witness W) → low_of w + many_of w ≤ length first_words
@@ -172,6 +202,8 @@ all_within (Extra w) = omega arith
 all_within (Basic w) = omega arith
 all_within (Hier w) = omega arith
 all_within (Seq w) = omega arith
+all_within (Cumul w) = omega arith
+all_within (State w) = omega arith
 
 -- what begins alike is of one crate
 pub same_place_from : {W : Type 0} (numbers : W → List ℤ) (w : Witness W) (k : ℕ) (us : List Bytes) → k < length first_words → get_or first_words k [] ∷ us ≡ witness_words numbers w → k ≡ low_of w + (begins numbers w).place
@@ -182,42 +214,37 @@ same_place_from numbers w k us within e =
 -- a word of a table is the word of a witness of its crate alone
 pub no_basic : {W : Type 0} (numbers : W → List ℤ) (w : Witness W) (k : ℕ) (us : List Bytes) → (low_of w ≡ 1 → ⊥) → k < length basic_kinds → get_or basic_kinds k [] ∷ us ≡ witness_words numbers w → ⊥
 no_basic numbers (Basic w) k us other within e = other refl
-no_basic numbers (Hier w) k us other within e =
-    let same = same_place_from numbers (Hier w) (1 + k) us (omega (arith, within)) (ap (λ v. v ∷ us) (basic_word k within) ∙ e) in absurd (omega (arith, same, within))
-no_basic numbers (Seq w) k us other within e =
-    let same = same_place_from numbers (Seq w) (1 + k) us (omega (arith, within)) (ap (λ v. v ∷ us) (basic_word k within) ∙ e) in absurd (omega (arith, same, within))
-no_basic numbers (Extra w) k us other within e =
-    let same = same_place_from numbers (Extra w) (1 + k) us (omega (arith, within)) (ap (λ v. v ∷ us) (basic_word k within) ∙ e) in
-    let least = (begins numbers (Extra w)).within in absurd (omega (arith, same, least))
+no_basic numbers w k us other within e =
+    let same = same_place_from numbers w (1 + k) us (omega (arith, within)) (ap (λ v. v ∷ us) (basic_word k within) ∙ e) in
+    let few = (begins numbers w).within in absurd (omega (arith, same, within, few))
 
 pub no_hier : {W : Type 0} (numbers : W → List ℤ) (w : Witness W) (k : ℕ) (us : List Bytes) → (low_of w ≡ 7 → ⊥) → k < length hier_kinds → get_or hier_kinds k [] ∷ us ≡ witness_words numbers w → ⊥
 no_hier numbers (Hier w) k us other within e = other refl
-no_hier numbers (Basic w) k us other within e =
-    let same = same_place_from numbers (Basic w) (7 + k) us (omega (arith, within)) (ap (λ v. v ∷ us) (hier_word k within) ∙ e) in
-    let few = (begins numbers (Basic w)).within in absurd (omega (arith, same, few))
-no_hier numbers (Seq w) k us other within e =
-    let same = same_place_from numbers (Seq w) (7 + k) us (omega (arith, within)) (ap (λ v. v ∷ us) (hier_word k within) ∙ e) in absurd (omega (arith, same, within))
-no_hier numbers (Extra w) k us other within e =
-    let same = same_place_from numbers (Extra w) (7 + k) us (omega (arith, within)) (ap (λ v. v ∷ us) (hier_word k within) ∙ e) in
-    let few = (begins numbers (Extra w)).within in absurd (omega (arith, same, few))
+no_hier numbers w k us other within e =
+    let same = same_place_from numbers w (7 + k) us (omega (arith, within)) (ap (λ v. v ∷ us) (hier_word k within) ∙ e) in
+    let few = (begins numbers w).within in absurd (omega (arith, same, within, few))
 
 pub no_seq : {W : Type 0} (numbers : W → List ℤ) (w : Witness W) (k : ℕ) (us : List Bytes) → (low_of w ≡ 11 → ⊥) → k < length seq_kinds → get_or seq_kinds k [] ∷ us ≡ witness_words numbers w → ⊥
 no_seq numbers (Seq w) k us other within e = other refl
-no_seq numbers (Basic w) k us other within e =
-    let same = same_place_from numbers (Basic w) (11 + k) us (omega (arith, within)) (ap (λ v. v ∷ us) (seq_word k) ∙ e) in
-    let few = (begins numbers (Basic w)).within in absurd (omega (arith, same, few))
-no_seq numbers (Hier w) k us other within e =
-    let same = same_place_from numbers (Hier w) (11 + k) us (omega (arith, within)) (ap (λ v. v ∷ us) (seq_word k) ∙ e) in
-    let few = (begins numbers (Hier w)).within in absurd (omega (arith, same, few))
-no_seq numbers (Extra w) k us other within e =
-    let same = same_place_from numbers (Extra w) (11 + k) us (omega (arith, within)) (ap (λ v. v ∷ us) (seq_word k) ∙ e) in
-    let few = (begins numbers (Extra w)).within in absurd (omega (arith, same, few))
+no_seq numbers w k us other within e =
+    let same = same_place_from numbers w (11 + k) us (omega (arith, within)) (ap (λ v. v ∷ us) (seq_word k within) ∙ e) in
+    let few = (begins numbers w).within in absurd (omega (arith, same, within, few))
+
+pub no_cumul : {W : Type 0} (numbers : W → List ℤ) (w : Witness W) (k : ℕ) (us : List Bytes) → (low_of w ≡ 13 → ⊥) → k < length cumul_kinds → get_or cumul_kinds k [] ∷ us ≡ witness_words numbers w → ⊥
+no_cumul numbers (Cumul w) k us other within e = other refl
+no_cumul numbers w k us other within e =
+    let same = same_place_from numbers w (13 + k) us (omega (arith, within)) (ap (λ v. v ∷ us) (cumul_word k within) ∙ e) in
+    let few = (begins numbers w).within in absurd (omega (arith, same, within, few))
+
+pub no_state : {W : Type 0} (numbers : W → List ℤ) (w : Witness W) (k : ℕ) (us : List Bytes) → (low_of w ≡ 14 → ⊥) → k < length state_kinds → get_or state_kinds k [] ∷ us ≡ witness_words numbers w → ⊥
+no_state numbers (State w) k us other within e = other refl
+no_state numbers w k us other within e =
+    let same = same_place_from numbers w (14 + k) us (omega (arith, within)) (ap (λ v. v ∷ us) (state_word k within) ∙ e) in
+    let few = (begins numbers w).within in absurd (omega (arith, same, within, few))
 
 pub no_extra : {W : Type 0} (numbers : W → List ℤ) (w : Witness W) (us : List Bytes) → (low_of w ≡ 0 → ⊥) → codes "EXTRA" ∷ us ≡ witness_words numbers w → ⊥
 no_extra numbers (Extra w) us other e = other refl
-no_extra numbers (Basic w) us other e = let same = same_place_from numbers (Basic w) 0 us (omega arith) e in absurd (omega (arith, same))
-no_extra numbers (Hier w) us other e = let same = same_place_from numbers (Hier w) 0 us (omega arith) e in absurd (omega (arith, same))
-no_extra numbers (Seq w) us other e = let same = same_place_from numbers (Seq w) 0 us (omega arith) e in absurd (omega (arith, same))
+no_extra numbers w us other e = let same = same_place_from numbers w 0 us (omega arith) e in absurd (omega (arith, same))
 
 -- and so of two that are spelled alike
 pub one_crate : {W : Type 0} (numbers : W → List ℤ) (v w : Witness W) → witness_words numbers v ≡ witness_words numbers w → low_of v + (begins numbers v).place ≡ low_of w + (begins numbers w).place

@@ -1,0 +1,6 @@
+use Rattle.logtext.specs.Spelling.{cumul_kinds}
+use Rattle.logtext.proofs.Tables.{finds_word}
+use Rattle.logtext.proofs.kinds.cumul_place.Goals as goal
+
+pub returns : goal.returns
+returns c = finds_word cumul_kinds c.args.word.now c.place_of.result c.place_of.ensures
