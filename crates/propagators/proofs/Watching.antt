@@ -13,6 +13,8 @@ use Rattle.prop_basic.specs.Tasks.{reads_of, watching, is_cell_of}
 use Rattle.prop_temporal.specs.Tasks.{watching as watching_walks, is_bound, has_sequence}
 use Rattle.prop_hier.specs.Tasks.{watching as watching_hier, is_bound as is_bound_hier, is_cell_of as is_cell_of_hier}
 use Rattle.prop_unary.specs.Tasks.{watching as watching_unary, is_bound as is_bound_unary, is_bound_of}
+use Rattle.prop_cumul.specs.Tasks.{watching as watching_cumul, is_cell_of as is_cell_of_cumul}
+use Rattle.prop_state.specs.Tasks.{watching as watching_state, is_bound as is_bound_state, is_bound_of as is_bound_of_state}
 use Rattle.engine.specs.Watched.{names_presence, names_bound, names_order}
 use Rattle.base_laws.specs.laws.Truth.{alone}
 
@@ -119,3 +121,41 @@ hier_orders m k ps same (cell.StartMax x) h = tt
 hier_orders m k ps same (cell.EndMin x) h = tt
 hier_orders m k ps same (cell.EndMax x) h = tt
 hier_orders m k ps same (cell.Order p x y) h = sym (same p x y) ∙ h
+
+pub cumul_presences : (m : Data) (k : ℕ) (xs : List Itv) → ((c : CellName) → watching_cumul m k c ≡ is_cell_of_cumul xs c) → (c : CellName) → IsTrue (watching_cumul m k c) → names_presence xs c
+cumul_presences m k xs same c h = presence_named xs c (sym (same c) ∙ h)
+
+pub cumul_bounds : (m : Data) (k : ℕ) (xs : List Itv) → ((c : CellName) → watching_cumul m k c ≡ is_cell_of_cumul xs c) → (c : CellName) → IsTrue (watching_cumul m k c) → names_bound xs c
+cumul_bounds m k xs same c h = bound_named xs c (sym (same c) ∙ h)
+
+pub cumul_orders : (m : Data) (k : ℕ) (c : CellName) → IsTrue (watching_cumul m k c) → names_order [] c
+cumul_orders m k (cell.Presence x) h = tt
+cumul_orders m k (cell.StartMin x) h = tt
+cumul_orders m k (cell.StartMax x) h = tt
+cumul_orders m k (cell.EndMin x) h = tt
+cumul_orders m k (cell.EndMax x) h = tt
+cumul_orders m k (cell.Order p x y) h = h
+
+pub state_presences : (m : Data) (k : ℕ) (xs : List Itv) → ((x : Itv) → IsTrue (watching_state m k (cell.Presence x)) → IsTrue (has xs x)) → (c : CellName) → IsTrue (watching_state m k c) → names_presence xs c
+state_presences m k xs each (cell.Presence x) h = each x h
+state_presences m k xs each (cell.StartMin x) h = tt
+state_presences m k xs each (cell.StartMax x) h = tt
+state_presences m k xs each (cell.EndMin x) h = tt
+state_presences m k xs each (cell.EndMax x) h = tt
+state_presences m k xs each (cell.Order p x y) h = tt
+
+pub state_bounds : (m : Data) (k : ℕ) (xs : List Itv) → ((c : CellName) → is_bound_state c ≡ true → IsTrue (watching_state m k c) → IsTrue (is_bound_of_state xs c)) → (c : CellName) → IsTrue (watching_state m k c) → names_bound xs c
+state_bounds m k xs each (cell.Presence x) h = tt
+state_bounds m k xs each (cell.StartMin x) h = each (cell.StartMin x) refl h
+state_bounds m k xs each (cell.StartMax x) h = each (cell.StartMax x) refl h
+state_bounds m k xs each (cell.EndMin x) h = each (cell.EndMin x) refl h
+state_bounds m k xs each (cell.EndMax x) h = each (cell.EndMax x) refl h
+state_bounds m k xs each (cell.Order p x y) h = tt
+
+pub state_orders : (m : Data) (k : ℕ) (c : CellName) → IsTrue (watching_state m k c) → names_order [] c
+state_orders m k (cell.Presence x) h = tt
+state_orders m k (cell.StartMin x) h = tt
+state_orders m k (cell.StartMax x) h = tt
+state_orders m k (cell.EndMin x) h = tt
+state_orders m k (cell.EndMax x) h = tt
+state_orders m k (cell.Order p x y) h = h

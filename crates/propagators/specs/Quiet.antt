@@ -7,8 +7,10 @@ use Rattle.findings.specs.Found.{IsQuiet}
 use Rattle.refute_basic.specs.Listed.{lists, is_derived as is_derived_basic}
 use Rattle.refute_hier.specs.Listed.{lists as lists_hier, is_derived as is_derived_hier}
 use Rattle.refute_seq.specs.Listed.{lists as lists_seq, is_derived as is_derived_seq}
+use Rattle.refute_cumul.specs.Listed.{lists as lists_cumul, is_derived as is_derived_cumul}
+use Rattle.refute_state.specs.Listed.{lists as lists_state, is_derived as is_derived_state}
 use Rattle.kernel.specs.declared.types.Witness.{Witness}
-use Rattle.kernel.specs.declared.types.Witness.TheVariants.{Basic, Hier, Seq, Extra}
+use Rattle.kernel.specs.declared.types.Witness.TheVariants.{Basic, Hier, Seq, Cumul, State, Extra}
 use Rattle.kernel.specs.declared.no_extra.NoWitness.{NoWitness}
 use Rattle.engine.specs.Plain.{refutes_plain}
 
@@ -17,6 +19,8 @@ abbrev pub is_derived : Data → Witness NoWitness → Bool
 is_derived m (Basic w) = is_derived_basic w
 is_derived m (Hier w) = is_derived_hier w
 is_derived m (Seq w) = is_derived_seq w
+is_derived m (Cumul w) = is_derived_cumul w
+is_derived m (State w) = is_derived_state w
 is_derived m (Extra w) = false
 
 -- the guesses under which a witness is asked, as its row lists them
@@ -24,6 +28,8 @@ abbrev pub lists_all : Data → Witness NoWitness → Guess → Bool
 lists_all m (Basic w) g = lists m w g
 lists_all m (Hier w) g = lists_hier m w g
 lists_all m (Seq w) g = lists_seq m w g
+lists_all m (Cumul w) g = lists_cumul m w g
+lists_all m (State w) g = lists_state m w g
 lists_all m (Extra w) g = false
 
 -- no witness of a kind that derives refutes the region, nor refutes it under an open end guess that its row lists

@@ -1,25 +1,36 @@
 ghost use Rattle.std.specs.Prelude.{ℤ, Option, IfOk};
 ghost use Rattle.sched_model.specs.Data.{Data};
+ghost use Rattle.sched_model.specs.Valid.{IsValid};
 ghost use Rattle.region.specs.Cells.{Region};
 ghost use Rattle.region.specs.Looks.{IsRegionOf};
 ghost use Rattle.engine.specs.Engines.{IsFor, AreQuiet, AreAwake};
 ghost use Rattle.propagators.specs.Quiet.{IsQuietRegion};
 
 use crate::basic::FromBasic;
+use crate::cumul::FromCumul;
 use crate::hier::FromHier;
+use crate::state::FromState;
 use crate::temporal::FromTemporal;
 use crate::unary::FromUnary;
 use engine::{Both, Engine, Propagator};
 use prop_basic::PropBasic;
+use prop_cumul::PropCumul;
 use prop_hier::PropHier;
+use prop_state::PropState;
 use prop_temporal::PropTemporal;
 use prop_unary::PropUnary;
 use sched_base::NoMemory;
 use sched_model::Model;
 use std::alloc::Global;
 
+/// The propagators of cumulative and state functions.
+pub type OfFunctions = Both<FromCumul, FromState>;
+
+/// Those of an interval and its parts, of sequences, and of functions.
+pub type OfGroups = Both<FromHier, Both<FromUnary, OfFunctions>>;
+
 /// All propagators. A further crate of propagators is joined to these by `engine::Both`.
-pub type All = Both<FromBasic, Both<FromTemporal, Both<FromHier, FromUnary>>>;
+pub type All = Both<FromBasic, Both<FromTemporal, OfGroups>>;
 
 /// The engine over all propagators of a model, each of them awake.
 pub fn start(alloc: Global, model: &Model) -> Result<Engine<All>, NoMemory>
@@ -32,7 +43,15 @@ pub fn start(alloc: Global, model: &Model) -> Result<Engine<All>, NoMemory>
     let temporal = FromTemporal(PropTemporal::new(alloc, model)?);
     let hier = FromHier(PropHier::new(alloc, model)?);
     let unary = FromUnary(PropUnary::new(alloc, model)?);
-    let Some(last) = Both::new(hier, unary) else {
+    let cumul = FromCumul(PropCumul::new(alloc, model)?);
+    let state = FromState(PropState::new(alloc, model)?);
+    let Some(functions) = Both::new(cumul, state) else {
+        unreachable!();
+    };
+    let Some(grouped) = Both::new(unary, functions) else {
+        unreachable!();
+    };
+    let Some(last) = Both::new(hier, grouped) else {
         unreachable!();
     };
     let Some(others) = Both::new(temporal, last) else {
@@ -44,9 +63,9 @@ pub fn start(alloc: Global, model: &Model) -> Result<Engine<All>, NoMemory>
     Engine::new(alloc, all, model)
 }
 
-/// Where all propagators are quiet, the region is: whatever witness of a kind that derives refutes
+/// Where all propagators of a valid model are quiet, the region is: whatever witness of a kind that derives refutes
 /// it, or refutes it under an open end guess that the witness's row lists, has a propagator that
 /// finds this.
 pub fn covers()
-    ensures { (m : Data) (r : Region) (best : Option ℤ) → IsRegionOf m r → AreQuiet ⟦<All as Propagator>⟧ m r best → IsQuietRegion m r best }
+    ensures { (m : Data) (r : Region) (best : Option ℤ) → IsValid m → IsRegionOf m r → AreQuiet ⟦<All as Propagator>⟧ m r best → IsQuietRegion m r best }
 {}

@@ -3,12 +3,16 @@
 
 mod all;
 mod basic;
+mod cumul;
 mod hier;
+mod state;
 mod temporal;
 mod unary;
 
 pub use all::{All, covers, start};
 pub use basic::FromBasic;
+pub use cumul::FromCumul;
 pub use hier::FromHier;
+pub use state::FromState;
 pub use temporal::FromTemporal;
 pub use unary::FromUnary;

@@ -3,6 +3,7 @@ use Rattle.std.specs.Prelude.{◌≡◌, ◌⊎◌, ℕ, zero, suc, ◌+◌, ◌
 use Rattle.std.proofs.lemmas.Bool.Decides.{nat_tests}
 use Rattle.std.proofs.Common.{inl, inr, refl, subst, arith}
 use Rattle.sched_model.specs.Data.{Data}
+use Rattle.sched_model.specs.Valid.{IsValid}
 use Rattle.region.specs.declared.types.Guess.{Guess}
 use Rattle.region.specs.Cells.{Region}
 use Rattle.region.specs.Looks.{Seen, Refuting, IsRegionOf, seen_at}
@@ -15,7 +16,7 @@ use Rattle.refute_basic.specs.declared.witness.BasicWitness.TheVariants.{Size, A
 use Rattle.refute_basic.specs.Basic.{refutes}
 use Rattle.refute_basic.specs.Listed.{lists, is_derived as is_derived_basic}
 use Rattle.kernel.specs.declared.types.Witness.{Witness}
-use Rattle.kernel.specs.declared.types.Witness.TheVariants.{Basic, Hier, Seq, Extra}
+use Rattle.kernel.specs.declared.types.Witness.TheVariants.{Basic, Hier, Seq, Cumul, State, Extra}
 use Rattle.kernel.specs.declared.no_extra.NoWitness.{NoWitness}
 use Rattle.engine.specs.Pairs.{chosen}
 use Rattle.engine.specs.Plain.{refutes_plain}
@@ -33,6 +34,16 @@ use Rattle.refute_seq.specs.OnSequence.{refutes as refutes_seq}
 use Rattle.refute_seq.specs.Listed.{lists as lists_seq}
 use Rattle.prop_unary.specs.Tasks.{size_of as size_of_unary, looks_after as looks_after_unary, quiet as quiet_unary, is_own as is_unary}
 use Rattle.prop_unary.specs.laws.Owners.{unowned as unowned_unary}
+use Rattle.refute_cumul.specs.OnCumul.{refutes as refutes_cumul}
+use Rattle.refute_cumul.specs.Listed.{lists as lists_cumul}
+use Rattle.prop_cumul.specs.Tasks.{size_of as size_of_cumul, looks_after as looks_after_cumul, quiet as quiet_cumul}
+use Rattle.prop_cumul.specs.laws.Owners.{unowned as unowned_cumul}
+use Rattle.refute_state.specs.declared.witness.StateWitness.{StateWitness}
+use Rattle.refute_state.specs.declared.witness.StateWitness.TheVariants.{State as Two, State3 as Three}
+use Rattle.refute_state.specs.OnState.{refutes as refutes_state}
+use Rattle.refute_state.specs.Listed.{lists as lists_state}
+use Rattle.prop_state.specs.Tasks.{size_of as size_of_state, looks_after as looks_after_state, quiet as quiet_state, is_own as is_state}
+use Rattle.prop_state.specs.laws.Owners.{unowned as unowned_state}
 use Rattle.propagators.specs.Quiet.{is_derived, lists_all, IsQuietRegion}
 
 -- one of the first numbers passes a test, or none does
@@ -80,6 +91,8 @@ pub record AllQuiet (m : Data) (r : Region) (best : Option ℤ) : Type 0 where
   pub temporal : (k : ℕ) → k < size_of_temporal m → quiet_temporal m k r best
   pub hier : (k : ℕ) → k < size_of_hier m → quiet_hier m k r best
   pub unary : (k : ℕ) → k < size_of_unary m → quiet_unary m k r best
+  pub cumul : (k : ℕ) → k < size_of_cumul m → quiet_cumul m k r best
+  pub state : (k : ℕ) → k < size_of_state m → quiet_state m k r best
 
 basic_unrefuted : (m : Data) (r : Region) (best : Option ℤ) → IsRegionOf m r → AllQuiet m r best
     → (w : BasicWitness) (guess : Option Guess) → is_derived_basic w ≡ true → IsTrue (is_asked (lists m w) r guess) → refutes m (seen_at r best guess) w ≡ false
@@ -93,17 +106,26 @@ unary_kind : (w : SeqWitness) → is_unary w ≡ true
 unary_kind (Pair c a b k) = refl
 unary_kind (Triple p x y z) = refl
 
-all_unrefuted : (m : Data) (r : Region) (best : Option ℤ) → IsRegionOf m r → AllQuiet m r best
-    → (w : Witness NoWitness) (guess : Option Guess) → IsTrue (is_derived m w) → IsTrue (is_asked (lists_all m w) r guess) → refutes_plain m (seen_at r best guess) w ≡ false
-all_unrefuted m r best of all (Basic w) guess derived asked = basic_unrefuted m r best of all w guess derived asked
-all_unrefuted m r best of all (Hier w) guess derived asked =
-    unrefuted_by refutes_hier lists_hier looks_after_hier (size_of_hier m) m r best of all.hier w (λ l stays none. unowned_hier m l w stays refl none) guess asked
-all_unrefuted m r best of all (Seq w) guess derived asked =
-    unrefuted_by refutes_seq lists_seq looks_after_unary (size_of_unary m) m r best of all.unary w (λ l stays none. unowned_unary m l w stays (unary_kind w) none) guess asked
-all_unrefuted m r best of all (Extra w) guess derived asked = refl
+-- so is a kind of `refute_state`
+state_kind : (w : StateWitness) → is_state w ≡ true
+state_kind (Two c d) = refl
+state_kind (Three c d e) = refl
 
-pub covered : (m : Data) (r : Region) (best : Option ℤ) → IsRegionOf m r → AllQuiet m r best → IsQuietRegion m r best
-covered m r best of all = record { unrefuted = all_unrefuted m r best of all }
+all_unrefuted : (m : Data) (r : Region) (best : Option ℤ) → IsValid m → IsRegionOf m r → AllQuiet m r best
+    → (w : Witness NoWitness) (guess : Option Guess) → IsTrue (is_derived m w) → IsTrue (is_asked (lists_all m w) r guess) → refutes_plain m (seen_at r best guess) w ≡ false
+all_unrefuted m r best valid of all (Basic w) guess derived asked = basic_unrefuted m r best of all w guess derived asked
+all_unrefuted m r best valid of all (Hier w) guess derived asked =
+    unrefuted_by refutes_hier lists_hier looks_after_hier (size_of_hier m) m r best of all.hier w (λ l stays none. unowned_hier m l w stays refl none) guess asked
+all_unrefuted m r best valid of all (Seq w) guess derived asked =
+    unrefuted_by refutes_seq lists_seq looks_after_unary (size_of_unary m) m r best of all.unary w (λ l stays none. unowned_unary m l w stays (unary_kind w) none) guess asked
+all_unrefuted m r best valid of all (Cumul w) guess derived asked =
+    unrefuted_by refutes_cumul lists_cumul looks_after_cumul (size_of_cumul m) m r best of all.cumul w (λ l stays none. unowned_cumul m l w stays refl none) guess asked
+all_unrefuted m r best valid of all (State w) guess derived asked =
+    unrefuted_by refutes_state lists_state looks_after_state (size_of_state m) m r best of all.state w (λ l stays none. unowned_state m l w valid (state_kind w) none) guess asked
+all_unrefuted m r best valid of all (Extra w) guess derived asked = refl
+
+pub covered : (m : Data) (r : Region) (best : Option ℤ) → IsValid m → IsRegionOf m r → AllQuiet m r best → IsQuietRegion m r best
+covered m r best valid of all = record { unrefuted = all_unrefuted m r best valid of all }
 
 -- numbered through, the first are those of one crate, and the others follow
 pub firsts : (a b : ℕ) (P Q : ℕ → Type 0) → ((k : ℕ) → k < a + b → chosen (nat_lt k a) (P k) (Q (k - a))) → (k : ℕ) → k < a → P k

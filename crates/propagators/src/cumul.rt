@@ -1,0 +1,73 @@
+use engine::Propagator;
+use findings::Finding;
+use kernel::{NoWitness, Witness};
+use prop_cumul::PropCumul;
+use region::Region;
+use sched_base::{Itv, NoMemory, Seq};
+use sched_model::Model;
+
+/// The propagators of cumulative functions, with their witnesses as a log has them.
+#[derive(Debug, Drop)]
+pub struct FromCumul(pub PropCumul);
+
+impl Propagator for FromCumul {
+    ghost use Rattle.prop_cumul.specs.Tables.{IsFor};
+    ghost use Rattle.prop_cumul.specs.Tasks.{size_of, quiet, watching, watching_best};
+    ghost use Rattle.prop_cumul.specs.laws.Unwatched.{unwatched};
+
+    ghost is_of = { λ p m. IsFor p.0 m };
+
+    ghost size = { size_of };
+
+    ghost quiet = { quiet };
+
+    ghost watching = { watching };
+
+    ghost watching_best = { watching_best };
+
+    fn count(&self) -> u32 {
+        self.0.count()
+    }
+
+    fn next(
+        &mut self,
+        k: u32,
+        model: &Model,
+        region: &Region,
+        best: Option<i64>,
+    ) -> Result<Option<Finding<Witness<NoWitness>>>, NoMemory> {
+        let Some(Finding { guess, witness }) = self.0.next(k, model, region, best) else {
+            return Ok(None);
+        };
+        Ok(Some(Finding {
+            guess,
+            witness: Witness::Cumul(witness),
+        }))
+    }
+
+    #[tactic(auto, using(crate::proofs::Watching::cumul_presences))]
+    fn watched_presences(&self, k: u32) -> &[Itv] {
+        self.0.watched(k)
+    }
+
+    #[tactic(auto, using(crate::proofs::Watching::cumul_bounds))]
+    fn watched_bounds(&self, k: u32) -> &[Itv] {
+        self.0.watched(k)
+    }
+
+    #[tactic(auto, using(crate::proofs::Watching::cumul_orders))]
+    fn watched_orders(&self, k: u32) -> &[Seq] {
+        let _ = k;
+        &[]
+    }
+
+    fn watches_best(&self, k: u32) -> bool {
+        self.0.watches_best(k)
+    }
+
+    fn level(&self, k: u32) -> u8 {
+        self.0.level(k)
+    }
+
+    ghost unwatched = { unwatched };
+}
