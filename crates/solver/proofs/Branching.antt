@@ -1,5 +1,5 @@
 -- A cut splits what is open of an interval.
-use Rattle.std.proofs.Common.{w64, SFits, to_z, of_z, ◌≡◌, ℕ, zero, suc, ◌<◌, ℤ, pos, negsuc, ◌+ℤ◌, true, ◌&&◌, List, [], ◌∷◌, length, refl, sym, ap, subst, arith, get_or}
+use Rattle.std.proofs.Common.{w64, SFits, to_z, of_z, ◌≡◌, ℕ, zero, suc, ◌<◌, ℤ, pos, negsuc, ◌+ℤ◌, ◌-ℤ◌, true, ◌&&◌, List, [], ◌∷◌, length, refl, sym, ap, subst, arith, get_or}
 use Rattle.std.specs.Prelude.{int_le, int_lt, ◌≤ℤ◌, ◌<ℤ◌, nat_lt}
 use Rattle.std.specs.Int.{int_div_euclid}
 use Rattle.std.specs.Ordering.{int_eq}
@@ -12,7 +12,7 @@ use Rattle.sched_model.specs.Valid.{is_moment}
 use Rattle.sched_model.specs.Data.{Data}
 use Rattle.region.specs.declared.types.Bounds.{Bounds}
 use Rattle.region.specs.declared.types.Guess.{Guess}
-use Rattle.region.specs.declared.types.Guess.TheVariants.{Present, StartLe, EndLe}
+use Rattle.region.specs.declared.types.Guess.TheVariants.{Present, Absent, StartLe, StartGe, EndLe, EndGe}
 use Rattle.region.specs.declared.types.Claim.{Claim}
 use Rattle.region.specs.declared.types.Claim.TheVariants as claim
 use Rattle.region.specs.declared.types.Topic.TheVariants.{One}
@@ -24,7 +24,7 @@ use Rattle.region.specs.Guesses.{admits_topic, is_ready}
 use Rattle.region.specs.Looks.{IsRegionOf, is_narrowed}
 use Rattle.region.specs.laws.Lists.{both_true, true_both}
 use Rattle.solver.specs.Cuts.{IsMiddle}
-use Rattle.solver.specs.Searching.{Cuts, CutsRegion, is_ordered, is_open_presence}
+use Rattle.solver.specs.Searching.{Cuts, CutsRegion, is_ordered}
 
 -- half, rounded down
 half_below : (z : ℤ) → (int_div_euclid z (pos 2) +ℤ int_div_euclid z (pos 2)) ≤ℤ z
@@ -60,6 +60,18 @@ end_opens c t here less middle = rw here (in_between c.emin c.emax t less middle
     in_between : (lo hi t : ℤ) → lo <ℤ hi → (t +ℤ t) ≤ℤ (lo +ℤ hi) → (lo +ℤ hi) <ℤ (t +ℤ t +ℤ pos 2) → (int_le lo t && int_lt t hi) ≡ true
     in_between lo hi t less below above = grind (arith, ints)
 
+start_opens_after : (c : Bounds) (t : ℤ) → c.presence ≡ presence.Present → c.smin <ℤ c.smax → IsMiddle c.smin c.smax t → is_open_at (claim.StartGe (t +ℤ pos 1)) c ≡ true
+start_opens_after c t here less middle = rw here (behind c.smin c.smax t less middle.below middle.above)
+  where
+    behind : (lo hi t : ℤ) → lo <ℤ hi → (t +ℤ t) ≤ℤ (lo +ℤ hi) → (lo +ℤ hi) <ℤ (t +ℤ t +ℤ pos 2) → (int_lt lo (t +ℤ pos 1) && int_le (t +ℤ pos 1) hi) ≡ true
+    behind lo hi t less below above = grind (arith, ints)
+
+end_opens_after : (c : Bounds) (t : ℤ) → c.presence ≡ presence.Present → c.emin <ℤ c.emax → IsMiddle c.emin c.emax t → is_open_at (claim.EndGe (t +ℤ pos 1)) c ≡ true
+end_opens_after c t here less middle = rw here (behind c.emin c.emax t less middle.below middle.above)
+  where
+    behind : (lo hi t : ℤ) → lo <ℤ hi → (t +ℤ t) ≤ℤ (lo +ℤ hi) → (lo +ℤ hi) <ℤ (t +ℤ t +ℤ pos 2) → (int_lt lo (t +ℤ pos 1) && int_le (t +ℤ pos 1) hi) ≡ true
+    behind lo hi t less below above = grind (arith, ints)
+
 -- a claim that is open at the bounds of its interval, and ready there, splits the region
 below_test : (n k : ℕ) → n < k → nat_lt n k ≡ true
 below_test n k h = grind (arith, nat_tests)
@@ -78,6 +90,31 @@ pub cuts_end : (x : Itv) (c : Bounds) (t : ℤ) → c.presence ≡ presence.Pres
 cuts_end x c t here less middle = record {
   splits_it = λ r within same. splits_at r x (claim.EndLe t) c within same (end_opens c t here less middle) (ap says_present here);
   cuts_it = λ r same. subst (λ b. IsMiddle b.emin b.emax t) (sym same) middle;
+}
+
+back_from : (t : ℤ) → (t +ℤ pos 1) -ℤ pos 1 ≡ t
+back_from t = omega (arith, ints)
+
+pub cuts_start_after : (x : Itv) (c : Bounds) (t : ℤ) → c.presence ≡ presence.Present → c.smin <ℤ c.smax → IsMiddle c.smin c.smax t → Cuts x c (StartGe x (t +ℤ pos 1))
+cuts_start_after x c t here less middle = record {
+  splits_it = λ r within same. splits_at r x (claim.StartGe (t +ℤ pos 1)) c within same (start_opens_after c t here less middle) (ap says_present here);
+  cuts_it = λ r same. subst (λ b. IsMiddle b.smin b.smax ((t +ℤ pos 1) -ℤ pos 1)) (sym same) (subst (IsMiddle c.smin c.smax) (sym (back_from t)) middle);
+}
+
+pub cuts_end_after : (x : Itv) (c : Bounds) (t : ℤ) → c.presence ≡ presence.Present → c.emin <ℤ c.emax → IsMiddle c.emin c.emax t → Cuts x c (EndGe x (t +ℤ pos 1))
+cuts_end_after x c t here less middle = record {
+  splits_it = λ r within same. splits_at r x (claim.EndGe (t +ℤ pos 1)) c within same (end_opens_after c t here less middle) (ap says_present here);
+  cuts_it = λ r same. subst (λ b. IsMiddle b.emin b.emax ((t +ℤ pos 1) -ℤ pos 1)) (sym same) (subst (IsMiddle c.emin c.emax) (sym (back_from t)) middle);
+}
+
+-- the middle is no more than a moment
+pub middle_small : (lo hi t : ℤ) → is_moment lo ≡ true → is_moment hi ≡ true → IsMiddle lo hi t → is_moment t ≡ true
+middle_small lo hi t low high middle = grind (arith, ints, middle.below, middle.above)
+
+pub cuts_absence : (x : Itv) (c : Bounds) → c.presence ≡ presence.Maybe → Cuts x c (Absent x)
+cuts_absence x c maybe = record {
+  splits_it = λ r within same. splits_at r x claim.Absent c within same (rw maybe refl) refl;
+  cuts_it = λ r same. tt;
 }
 
 pub cuts_presence : (x : Itv) (c : Bounds) → c.presence ≡ presence.Maybe → Cuts x c (Present x)
@@ -115,21 +152,30 @@ all_ordered (d ∷ ds) (b ∷ bs) (suc n) h within = all_ordered ds bs n (both_t
 pub ordered_at : (m : Data) (r : Region) (x : Itv) → IsRegionOf m r → x.0 < length r.bounds → is_ordered (bounds_of r x) ≡ true
 ordered_at m r x of within = all_ordered m.intervals r.bounds x.0 of.bounds within
 
+-- the same of numbers as the code has them
+next_fits : (t : ℤ) → is_moment t ≡ true → SFits w64 (t +ℤ pos 1)
+next_fits t h = grind (arith, ints)
+
+pub early_start : (x : Itv) (c : Bounds) (t : ℤ) → SFits w64 c.smin → SFits w64 c.smax → SFits w64 t → c.presence ≡ presence.Present → c.smin <ℤ c.smax → IsMiddle (to_z w64 (of_z w64 c.smin)) (to_z w64 (of_z w64 c.smax)) t
+    → Cuts x c (StartLe x (to_z w64 (of_z w64 t)))
+early_start x c t lo hi fits here less middle = simp to_z-of_z (cuts_start x c t here less (simp to_z-of_z at middle))
+
+pub late_start : (x : Itv) (c : Bounds) (t : ℤ) → SFits w64 c.smin → SFits w64 c.smax → SFits w64 t → is_moment t ≡ true → c.presence ≡ presence.Present → c.smin <ℤ c.smax → IsMiddle (to_z w64 (of_z w64 c.smin)) (to_z w64 (of_z w64 c.smax)) t
+    → Cuts x c (StartGe x (to_z w64 (of_z w64 (to_z w64 (of_z w64 t) +ℤ pos 1))))
+late_start x c t lo hi fits moment here less middle =
+    let next = next_fits t moment in
+    simp to_z-of_z (cuts_start_after x c t here less (simp to_z-of_z at middle))
+
+pub early_end : (x : Itv) (c : Bounds) (t : ℤ) → SFits w64 c.emin → SFits w64 c.emax → SFits w64 t → c.presence ≡ presence.Present → c.emin <ℤ c.emax → IsMiddle (to_z w64 (of_z w64 c.emin)) (to_z w64 (of_z w64 c.emax)) t
+    → Cuts x c (EndLe x (to_z w64 (of_z w64 t)))
+early_end x c t lo hi fits here less middle = simp to_z-of_z (cuts_end x c t here less (simp to_z-of_z at middle))
+
+pub late_end : (x : Itv) (c : Bounds) (t : ℤ) → SFits w64 c.emin → SFits w64 c.emax → SFits w64 t → is_moment t ≡ true → c.presence ≡ presence.Present → c.emin <ℤ c.emax → IsMiddle (to_z w64 (of_z w64 c.emin)) (to_z w64 (of_z w64 c.emax)) t
+    → Cuts x c (EndGe x (to_z w64 (of_z w64 (to_z w64 (of_z w64 t) +ℤ pos 1))))
+late_end x c t lo hi fits moment here less middle =
+    let next = next_fits t moment in
+    simp to_z-of_z (cuts_end_after x c t here less (simp to_z-of_z at middle))
+
 -- a cut of an interval of the region splits it, and cuts it so
 pub cut_region : (r : Region) (x : Itv) (c : Bounds) (g : Guess) → x.0 < length r.bounds → c ≡ bounds_of r x → Cuts x c g → CutsRegion r g
 cut_region r x c g within same cuts = record { splits_it = cuts.splits_it r within (sym same); cuts_it = cuts.cuts_it r (sym same) }
-
--- a presence that is open is cut
-pub open_cut : (r : Region) (x : Itv) → is_open_presence r x ≡ true → CutsRegion r (Present x)
-open_cut r x h = by_presence (both_true (nat_lt x.0 (length r.bounds)) (says_maybe (bounds_of r x).presence) h)
-  where
-    maybe_is : (p : Presence) → says_maybe p ≡ true → p ≡ presence.Maybe
-    maybe_is presence.Absent h = cc
-    maybe_is presence.Present h = cc
-    maybe_is presence.Maybe h = refl
-
-    below : (n k : ℕ) → nat_lt n k ≡ true → n < k
-    below n k h = grind (arith, nat_tests)
-
-    by_presence : (nat_lt x.0 (length r.bounds) ≡ true) × (says_maybe (bounds_of r x).presence ≡ true) → CutsRegion r (Present x)
-    by_presence h = cut_region r x (bounds_of r x) (Present x) (below x.0 (length r.bounds) h.0) refl (cuts_presence x (bounds_of r x) (maybe_is (bounds_of r x).presence h.1))

@@ -1,7 +1,8 @@
 -- The line that ends a node: that a log may hold it, that it is such a split as it should be, and what is left then.
-use Rattle.std.proofs.Common.{◌≡◌, ℕ, ◌+◌, ℤ, Bool, true, false, List, [], ◌∷◌, Option, Some, None, Ok, Err, Result, ◌⊎◌, inl, inr, refl, sym, ap, subst, ◌∙◌}
+use Rattle.std.proofs.Common.{◌≡◌, ℕ, ◌+◌, ℤ, Bool, true, false, List, [], ◌∷◌, Option, Some, None, Ok, Err, Result, ◌⊎◌, inl, inr, refl, sym, ap, subst, ◌∙◌, true≢false}
 use Rattle.std.specs.Prelude.{IfOk, IfSome, IsTrue}
 use Rattle.sched_base.specs.declared.list.NoMemory.{NoMemory}
+use Rattle.sched_model.specs.declared.types.Assignment.{Assignment}
 use Rattle.sched_model.specs.Data.{Data}
 use Rattle.sched_model.specs.Valid.{IsValid}
 use Rattle.region.specs.declared.types.Guess.{Guess}
@@ -13,13 +14,14 @@ use Rattle.logtext.specs.Logs.{PlainLine, IsLine}
 use Rattle.engine.specs.declared.stops.Stop.{Stop}
 use Rattle.engine.specs.declared.stops.Stop.TheVariants.{Quiet, Failed, Capped}
 use Rattle.engine.specs.Plain.{refutes_plain}
-use Rattle.engine.specs.Runs.{Ends, cap_at}
+use Rattle.engine.specs.Runs.{Ends, Counts, cap_at}
 use Rattle.propagators.specs.Quiet.{IsQuietRegion}
-use Rattle.solver.specs.Leaves.{settled_assignment, Solves, IsLeafLine}
+use Rattle.solver.specs.Leaves.{settled_assignment, Solves}
+use Rattle.solver.specs.laws.Quiet.{quiet_solves}
 use Rattle.solver.specs.Splits.{SplitsWell, IsWellSplit, derived_after}
 use Rattle.kernel.specs.Steps.{LogState, Node, step_at, best_of, closed, left_after, found_in}
 use Rattle.region.specs.Guesses.{with_guess, with_fact}
-use Rattle.solver.specs.Searching.{Closes, IsSpent, HasValue, is_failed, is_capped}
+use Rattle.solver.specs.Searching.{RefutesIf, Closes, IsSpent, HasValue, QuietUnlessFailed, is_failed, is_capped}
 use Rattle.solver.proofs.Closing.{fail_steps, split_steps, sol_steps}
 use Rattle.solver.proofs.Fitting.{fail_line, split_line, sol_line}
 
@@ -55,16 +57,21 @@ quiet_split quiet m r best (Failed w) (Fail v) g ends h is not = cc
 quiet_split quiet m r best (Failed w) (Sol a) g ends h is not = cc
 quiet_split quiet m r best (Failed w) (Derive k v) g ends h is not = cc
 
--- what closes a settled region
-leaf_closes_line : (m : Data) (r : Region) (best : Option ℤ) (failed : Bool) (line : PlainLine) → is_settled r ≡ true → IsLeafLine m (seen_at r best None) line → Closes m r best failed line
-leaf_closes_line m r best failed (Fail w) settled h = h
-leaf_closes_line m r best failed (Sol a) settled h = (settled, h.0, h.1)
-leaf_closes_line m r best failed (Split g) settled h = absurd h
-leaf_closes_line m r best failed (Derive g w) settled h = absurd h
+-- a run of a settled region isn't capped
+pub settled_quiet : (quiet : Type 0) (n : ℕ) (m : Data) (best : Option ℤ) (r : Region) (stop : Stop) → Ends quiet m best r stop → Counts n r stop → is_settled r ≡ true → QuietUnlessFailed quiet stop
+settled_quiet quiet n m best r Quiet ends counts settled = ends
+settled_quiet quiet n m best r (Failed w) ends counts settled = tt
+settled_quiet quiet n m best r Capped ends counts settled = true≢false (sym settled ∙ counts.1)
 
-pub leaf_closes : (m : Data) (r : Region) (best : Option ℤ) (failed : Bool) (l : Seen) (result : Result PlainLine NoMemory) → l ≡ seen_at r best None → is_settled r ≡ true → IfOk result (IsLeafLine m l) → IfOk result (Closes m r best failed)
-leaf_closes m r best failed l (Ok line) same settled h = leaf_closes_line m r best failed line settled (subst (λ k. IsLeafLine m k line) same h)
-leaf_closes m r best failed l (Err e) same settled h = tt
+-- nor is it refuted where it goes on
+pub unless_failed : (quiet : Type 0) (stop : Stop) → is_failed stop ≡ false → QuietUnlessFailed quiet stop → quiet
+unless_failed quiet Quiet goes all = all
+unless_failed quiet (Failed w) goes all = cc
+unless_failed quiet Capped goes all = absurd all
+
+-- what is left of it is a solution
+pub settled_closes : (m : Data) (r : Region) (best : Option ℤ) (a : Assignment) → IsValid m → IsRegionOf m r → is_settled r ≡ true → IsQuietRegion m r best → a ≡ settled_assignment m r → Closes m r best false (Sol a)
+settled_closes m r best a valid of settled quiet is = (settled, is, quiet_solves m r best valid of settled quiet)
 
 -- the line steps
 pub closes_step : (m : Data) (node : Node) (failed : Bool) (line : PlainLine) → IfSome node.found (HasValue m) → Closes m node.region (best_of node.found) failed line → (t : LogState) × (step_at refutes_plain m node line ≡ Ok t)
@@ -72,3 +79,9 @@ closes_step m node failed (Fail w) valued h = (closed node node.waiting node.fou
 closes_step m node failed (Split g) valued h = (closed node (with_guess g node.region ∷ with_fact g node.region ∷ node.waiting) node.found, split_steps m node g h.0.splits_it)
 closes_step m node failed (Sol a) valued h = (closed node (left_after m node.waiting) (Some (found_in m a)), sol_steps m node a h.0 valued h.1 h.2)
 closes_step m node failed (Derive g w) valued h = absurd h
+
+-- what ended a run refutes, if it failed
+pub ends_refute : (quiet : Type 0) (m : Data) (r : Region) (best : Option ℤ) (stop : Stop) → Ends quiet m best r stop → RefutesIf m r best stop
+ends_refute quiet m r best Quiet ends = tt
+ends_refute quiet m r best Capped ends = tt
+ends_refute quiet m r best (Failed w) ends = ends

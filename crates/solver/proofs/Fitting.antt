@@ -1,9 +1,9 @@
 -- The lines of the search are lines that a log may hold.
 use Rattle.std.proofs.Common.{◌≡◌, ℕ, ◌+◌, ◌*◌, ◌<◌, ◌≤◌, ◌^◌, ℤ, pos, negsuc, Bool, true, List, [], ◌∷◌, ◌++◌, length, Option, Some, refl, sym, ap, subst, ◌∙◌, arith, length-append}
-use Rattle.std.specs.Prelude.{◌&&◌, flat_map, map, nat_le, nat_lt}
+use Rattle.std.specs.Prelude.{◌&&◌, flat_map, map, nat_le, nat_lt, int_lt}
 use Rattle.std.specs.Fmt.{decimal, signed_decimal}
 use Rattle.std.specs.Int.Signed.{mag}
-use Rattle.std.specs.List.{list_all}
+use Rattle.std.specs.List.{list_all, filter_map, range_with_len}
 use Rattle.std.proofs.lemmas.Int.{ints}
 use Rattle.std.proofs.lemmas.Bool.{ltb-true, leb-true}
 use Rattle.std.proofs.lemmas.Bool.Decides.{nat_tests}
@@ -11,17 +11,20 @@ use Rattle.std.proofs.lemmas.Fmt.{length-decimal-le, length_signed_le}
 use Rattle.std.proofs.lemmas.List.{length-map}
 use Rattle.std.proofs.lemmas.List.Concat.{flat_map-cons}
 use Rattle.sched_model.specs.declared.types.IntervalDef.{IntervalDef}
+use Rattle.sched_model.specs.declared.types.Segment.{Segment}
+use Rattle.sched_model.specs.declared.types.StateDef.{StateDef}
 use Rattle.sched_model.specs.declared.types.Slot.{Slot}
 use Rattle.sched_model.specs.declared.types.Slot.TheVariants as slot
-use Rattle.sched_model.specs.Words.{placewise, is_between}
-use Rattle.sched_model.specs.Data.{Data, has}
-use Rattle.sched_model.specs.Domain.{fits_def, is_in_domain}
+use Rattle.sched_model.specs.Words.{placewise, pairwise, is_between}
+use Rattle.sched_model.specs.Data.{Data, has, matrix_of}
+use Rattle.sched_model.specs.Domain.{fits_def, is_row, is_segment, keeps_distance, are_segments, is_in_domain}
 use Rattle.sched_model.specs.Sentences.{holds}
 use Rattle.sched_model.specs.Solution.{is_solution}
-use Rattle.sched_model.specs.laws.Small.{moments_small}
+use Rattle.sched_model.specs.laws.Small.{moments_small, moment_small, amount_small}
+use Rattle.sched_model.specs.laws.Limits.{limits_of}
 use Rattle.sched_model.specs.declared.types.SequenceDef.{SequenceDef}
 use Rattle.sched_base.specs.declared.ids.Itv.{Itv}
-use Rattle.sched_model.specs.Valid.{IsValid, is_small, is_itv, are_parts, are_distinct, is_interval_def, is_sequence_def, is_span_of_moments}
+use Rattle.sched_model.specs.Valid.{IsValid, is_small, is_moment, is_amount, is_itv, are_parts, are_distinct, is_interval_def, is_sequence_def, is_span_of_moments}
 use Rattle.region.specs.declared.types.Guess.{Guess}
 use Rattle.region.specs.declared.types.Guess.TheVariants.{Present, Absent, StartLe, StartGe, EndLe, EndGe, Before}
 use Rattle.region.specs.Orders.{SequenceCells, is_before}
@@ -44,22 +47,32 @@ use Rattle.refute_seq.specs.declared.witness.SeqWitness.{SeqWitness}
 use Rattle.refute_seq.specs.declared.witness.SeqWitness.TheVariants.{Pair, Triple}
 use Rattle.refute_seq.specs.Witness.{is_valid as is_valid_seq}
 use Rattle.refute_seq.specs.laws.Spelling.{refuting_valid as seq_valid}
+use Rattle.refute_cumul.specs.declared.witness.CumulWitness.{CumulWitness}
+use Rattle.refute_cumul.specs.declared.witness.CumulWitness.TheVariants.{Point}
+use Rattle.refute_cumul.specs.Witness.{is_valid as is_valid_cumul}
+use Rattle.refute_cumul.specs.laws.Spelling.{refuting_valid as cumul_valid}
+use Rattle.refute_state.specs.declared.witness.StateWitness.{StateWitness}
+use Rattle.refute_state.specs.declared.witness.StateWitness.TheVariants as of_states
+use Rattle.refute_state.specs.Witness.{is_valid as is_valid_state}
+use Rattle.refute_state.specs.laws.Spelling.{refuting_valid as state_valid}
+use Rattle.refute_state.specs.Canonical.{stretch_of, empty_of, canonical_for, settled_segments}
 use Rattle.refute_seq.specs.Order.{settled_order, settled_orders}
 use Rattle.refute_seq.specs.laws.Placed.{ordered_few}
 use Rattle.refute_seq.specs.laws.Ordered.{has_settled_in}
 use Rattle.region.specs.laws.Orderly.{all_has, each_all}
-use Rattle.solver.specs.Leaves.{empty_for_each, settled_assignment}
+use Rattle.solver.specs.Leaves.{settled_assignment}
+use Rattle.solver.proofs.Segments.{canonical_few, demands_from, demands_few}
 use Rattle.kernel.specs.declared.types.Line.TheVariants.{Derive, Fail, Split, Sol}
 use Rattle.kernel.specs.declared.types.Witness.{Witness}
-use Rattle.kernel.specs.declared.types.Witness.TheVariants.{Basic, Hier, Seq, Extra}
+use Rattle.kernel.specs.declared.types.Witness.TheVariants.{Basic, Hier, Seq, Cumul, State, Extra}
 use Rattle.kernel.specs.declared.no_extra.NoWitness.{NoWitness}
 use Rattle.kernel.specs.Derives.{IsDerived}
 use Rattle.engine.specs.Plain.{refutes_plain}
 use Rattle.kernel.specs.NoExtra.{numbers_of, is_valid}
 use Rattle.kernel.specs.laws.Fits.{few_intervals, few_lists, fit_admitted, fit_splitting}
-use Rattle.kernel.specs.Fit.{is_count, is_id, is_fit, is_fit_guess, is_fit_slot, is_fit_order, are_fit_segments}
+use Rattle.kernel.specs.Fit.{is_count, is_id, is_fit, is_fit_guess, is_fit_slot, is_fit_order, is_fit_segment, are_fit_segments}
 use Rattle.textline.specs.Lines.{Bytes, line}
-use Rattle.logtext.specs.Spelling.{line_words, guess_words, witness_words, slot_words, order_words, member_word, segments_words}
+use Rattle.logtext.specs.Spelling.{line_words, guess_words, witness_words, slot_words, order_words, member_word, segment_words, segments_words}
 use Rattle.logtext.specs.Logs.{PlainLine, IsLine}
 use Rattle.sched_model.specs.Bounds.{is_number}
 
@@ -157,6 +170,17 @@ seq_short : (w : SeqWitness) → is_valid_seq w ≡ true → AreShort (witness_w
 seq_short (Pair c a b k) h = ((omega arith, four_short c a b k h), omega arith)
 seq_short (Triple p x y z) h = ((omega arith, four_short p x y z h), omega arith)
 
+cumul_short : (w : CumulWitness) → is_valid_cumul w ≡ true → AreShort (witness_words numbers_of (Cumul w)) × (length (witness_words numbers_of (Cumul w)) ≤ 4)
+cumul_short (Point c t u) h =
+    let three = both_true (is_number c && is_small t) (is_number u) h in
+    let two = both_true (is_number c) (is_small t) three.0 in ((omega arith, (count_short c two.0, (signed_short t two.1, (count_short u three.1, tt)))), omega arith)
+
+state_short : (w : StateWitness) → is_valid_state w ≡ true → AreShort (witness_words numbers_of (State w)) × (length (witness_words numbers_of (State w)) ≤ 4)
+state_short (of_states.State c d) h = let two = both_true (is_number c) (is_number d) h in ((omega arith, (count_short c two.0, (count_short d two.1, tt))), omega arith)
+state_short (of_states.State3 c d e) h =
+    let three = both_true (is_number c && is_number d) (is_number e) h in
+    let two = both_true (is_number c) (is_number d) three.0 in ((omega arith, (count_short c two.0, (count_short d two.1, (count_short e three.1, tt)))), omega arith)
+
 -- a line of few short words
 line_is : (l : PlainLine) → is_fit is_valid l ≡ true → AreShort (line_words numbers_of l) → length (line_words numbers_of l) ≤ 200000 → IsLine numbers_of is_valid l
 line_is l fit short few = record { fit = fit; text_is = refl; short = omega (arith, line_length (line_words numbers_of l) short, few) }
@@ -182,6 +206,14 @@ fail_line m l (Seq w) h =
     let fit = seq_valid m l w h in
     let words = seq_short w fit in
     line_is (Fail (Seq w)) fit (omega arith, words.0) (omega (arith, words.1))
+fail_line m l (Cumul w) h =
+    let fit = cumul_valid m l w h in
+    let words = cumul_short w fit in
+    line_is (Fail (Cumul w)) fit (omega arith, words.0) (omega (arith, words.1))
+fail_line m l (State w) h =
+    let fit = state_valid m l w h in
+    let words = state_short w fit in
+    line_is (Fail (State w)) fit (omega arith, words.0) (omega (arith, words.1))
 fail_line m l (Extra w) h = cc
 
 -- and a line that derives
@@ -210,6 +242,22 @@ derive_line m r best g (Seq w) valid of is =
     line_is (Derive g (Seq w)) (true_both (is_fit_guess g) (is_valid_seq w) admitted fit)
     (omega arith, short_append (guess_words g) (witness_words numbers_of (Seq w)) first.0 second.0)
     (omega (arith, first.1, second.1, length-append (guess_words g) (witness_words numbers_of (Seq w))))
+derive_line m r best g (Cumul w) valid of is =
+    let fit = cumul_valid m (seen_at r best (Some g)) w is.refuted in
+    let admitted = fit_admitted m r g valid of is.admitted in
+    let first = guess_short g admitted in
+    let second = cumul_short w fit in
+    line_is (Derive g (Cumul w)) (true_both (is_fit_guess g) (is_valid_cumul w) admitted fit)
+    (omega arith, short_append (guess_words g) (witness_words numbers_of (Cumul w)) first.0 second.0)
+    (omega (arith, first.1, second.1, length-append (guess_words g) (witness_words numbers_of (Cumul w))))
+derive_line m r best g (State w) valid of is =
+    let fit = state_valid m (seen_at r best (Some g)) w is.refuted in
+    let admitted = fit_admitted m r g valid of is.admitted in
+    let first = guess_short g admitted in
+    let second = state_short w fit in
+    line_is (Derive g (State w)) (true_both (is_fit_guess g) (is_valid_state w) admitted fit)
+    (omega arith, short_append (guess_words g) (witness_words numbers_of (State w)) first.0 second.0)
+    (omega (arith, first.1, second.1, length-append (guess_words g) (witness_words numbers_of (State w))))
 derive_line m r best g (Extra w) valid of is = cc
 
 -- the slots of a solution are fit, and spelled by few short words
@@ -242,20 +290,6 @@ slots_short (s ∷ ss) h =
     let rest = slots_short ss two.1 in (
       subst AreShort (sym (flat_map-cons slot_words s ss)) (short_append (slot_words s) (flat_map slot_words ss) first.0 rest.0),
       omega (arith, ap (λ (ws : List Bytes). length ws) (flat_map-cons slot_words s ss), length-append (slot_words s) (flat_map slot_words ss), first.1, rest.1),
-    )
-
--- empty lists are fit, and spelled by a letter and 0 each
-empty_fit : {X Y : Type 0} (fit : List Y → Bool) → fit [] ≡ true → (xs : List X) → list_all fit (empty_for_each xs) ≡ true
-empty_fit fit h [] = refl
-empty_fit fit h (x ∷ xs) = true_both (fit []) _ h (empty_fit fit h xs)
-
-empty_short : {X Y : Type 0} (spell : List Y → List Bytes) → AreShort (spell []) → length (spell []) ≤ 2 → (xs : List X)
-    → AreShort (flat_map spell (empty_for_each xs)) × (length (flat_map spell (empty_for_each xs)) ≤ 2 * length xs)
-empty_short spell short few [] = (tt, omega arith)
-empty_short spell short few (x ∷ xs) =
-    let rest = empty_short spell short few xs in (
-      subst AreShort (sym (flat_map-cons spell [] (empty_for_each xs))) (short_append (spell []) (flat_map spell (empty_for_each xs)) short rest.0),
-      omega (arith, ap (λ (ws : List Bytes). length ws) (flat_map-cons spell [] (empty_for_each xs)), length-append (spell []) (flat_map spell (empty_for_each xs)), few, rest.1),
     )
 
 -- the orders of a solution are fit, and spelled by few short words
@@ -314,6 +348,56 @@ fit_orders m r (d ∷ ds) (s ∷ ss) few same defs =
       few = omega (arith, ap (λ (ws : List Bytes). length ws) (flat_map-cons order_words xs xss), length-append (order_words xs) (flat_map order_words xss), first.few, rest.few);
     }
 
+-- the segments of a solution are fit, and spelled by few short words
+fit_segment : (m : Data) (d : StateDef) (i : Segment) → is_segment m d i ≡ true → is_fit_segment i ≡ true
+fit_segment m d i h =
+    let five = both_true (int_lt i.p i.q && is_moment i.p && is_moment i.q && is_amount i.v) (is_row (matrix_of m d.matrix) i.v) h in
+    let four = both_true (int_lt i.p i.q && is_moment i.p && is_moment i.q) (is_amount i.v) five.0 in
+    let three = both_true (int_lt i.p i.q && is_moment i.p) (is_moment i.q) four.0 in
+    let two = both_true (int_lt i.p i.q) (is_moment i.p) three.0 in
+    true_both (is_small i.p && is_small i.q) (is_small i.v) (true_both (is_small i.p) (is_small i.q) (moment_small i.p two.1) (moment_small i.q three.1)) (amount_small i.v four.1)
+
+each_segment_fits : (m : Data) (d : StateDef) (is : List Segment) → list_all (is_segment m d) is ≡ true → list_all is_fit_segment is ≡ true
+each_segment_fits m d [] h = refl
+each_segment_fits m d (i ∷ is) h =
+    let two = both_true (is_segment m d i) (list_all (is_segment m d) is) h in true_both (is_fit_segment i) (list_all is_fit_segment is) (fit_segment m d i two.0) (each_segment_fits m d is two.1)
+
+segments_short : (is : List Segment) → list_all is_fit_segment is ≡ true → AreShort (flat_map segment_words is) × (length (flat_map segment_words is) ≤ 3 * length is)
+segments_short [] h = (tt, omega arith)
+segments_short (i ∷ is) h =
+    let two = both_true (is_fit_segment i) (list_all is_fit_segment is) h in
+    let three = both_true (is_small i.p && is_small i.q) (is_small i.v) two.0 in
+    let ends = both_true (is_small i.p) (is_small i.q) three.0 in
+    let rest = segments_short is two.1 in ((signed_short i.p ends.0, (signed_short i.q ends.1, (signed_short i.v three.1, rest.0))), omega (arith, rest.1))
+
+function_count : (n : ℕ) → n ≤ 20000 → is_count n ≡ true
+function_count n few = grind (arith, nat_tests)
+
+record AreFitFunctions (n d : ℕ) (sss : List (List Segment)) : Type 0 where
+  fit : list_all are_fit_segments sss ≡ true
+  short : AreShort (flat_map segments_words sss)
+  few : length (flat_map segments_words sss) ≤ 2 * n + 3 * d
+
+fit_functions : (m : Data) (ss : List Slot) (a : ℕ) (ds : List StateDef) → length m.constraints ≤ 20000 → placewise (are_segments m) ds (map (canonical_for m ss) (range_with_len a (length ds))) ≡ true
+    → AreFitFunctions (length ds) (demands_from ss m.constraints a (length ds)) (map (canonical_for m ss) (range_with_len a (length ds)))
+fit_functions m ss a [] few h = record { fit = refl; short = tt; few = omega arith }
+fit_functions m ss a (d ∷ ds) few h =
+    let is = canonical_for m ss a in
+    let iss = map (canonical_for m ss) (range_with_len (a + 1) (length ds)) in
+    let two = both_true (are_segments m d is) (placewise (are_segments m) ds iss) h in
+    let demanded : ℕ = length (filter_map (stretch_of ss (record { 0 = a })) m.constraints) in
+    let most : length is ≤ demanded = canonical_few (filter_map (stretch_of ss (record { 0 = a })) m.constraints) (filter_map (empty_of ss (record { 0 = a })) m.constraints) in
+    let all : demanded ≤ length m.constraints = omega (arith, demands_few ss m.constraints a 1) in
+    let each = each_segment_fits m d is (both_true (list_all (is_segment m d) is) (pairwise (keeps_distance m d) is) two.0).0 in
+    let count = function_count (length is) (omega (arith, most, all, few)) in
+    let words = segments_short is each in
+    let rest = fit_functions m ss (a + 1) ds few two.1 in
+    record {
+      fit = true_both (are_fit_segments is) (list_all are_fit_segments iss) (true_both (is_count (length is)) (list_all is_fit_segment is) count each) rest.fit;
+      short = subst AreShort (sym (flat_map-cons segments_words is iss)) (short_append (segments_words is) (flat_map segments_words iss) (omega arith, (count_short (length is) count, words.0)) rest.short);
+      few = omega (arith, ap (λ (ws : List Bytes). length ws) (flat_map-cons segments_words is iss), length-append (segments_words is) (flat_map segments_words iss), words.1, most, rest.few);
+    }
+
 pub sol_line : (m : Data) (r : Region) → IsValid m → IsRegionOf m r → is_solution m (settled_assignment m r) ≡ true → IsLine numbers_of is_valid (Sol (settled_assignment m r))
 sol_line m r valid of h =
     let domain = (both_true (is_in_domain m (settled_assignment m r)) (list_all (holds m (settled_assignment m r)) m.constraints) h).0 in
@@ -321,17 +405,20 @@ sol_line m r valid of h =
     let fit = fit_slots m.intervals (settled_slots r) valid.intervals each in
     let words = slots_short (settled_slots r) fit in
     let orders = fit_orders m r m.sequences r.orders (few_intervals m valid) of.members valid.sequences in
-    let segments = empty_short segments_words (omega arith, (count_short 0 refl, tt)) (omega arith) m.states in
+    let constraints = (limits_of m valid.limits).constraints in
+    let segments = fit_functions m (settled_slots r) 0 m.states constraints (both_true _ _ domain).1 in
     let few = few_lists m valid in
-    line_is (Sol (settled_assignment m r)) (true_both _ _ (true_both _ _ fit orders.fit) (empty_fit are_fit_segments refl m.states))
-    (omega arith, short_append (flat_map slot_words (settled_slots r)) _ words.0 (short_append (flat_map order_words (settled_orders r)) _ orders.short segments.0))
+    line_is (Sol (settled_assignment m r)) (true_both _ _ (true_both _ _ fit orders.fit) segments.fit)
+    (omega arith, short_append (flat_map slot_words (settled_slots r)) _ words.0 (short_append (flat_map order_words (settled_orders r)) _ orders.short segments.short))
     (omega (
       arith,
-      length-append (flat_map slot_words (settled_slots r)) (flat_map order_words (settled_orders r) ++ flat_map segments_words (empty_for_each m.states)),
-      length-append (flat_map order_words (settled_orders r)) (flat_map segments_words (empty_for_each m.states)),
+      length-append (flat_map slot_words (settled_slots r)) (flat_map order_words (settled_orders r) ++ flat_map segments_words (settled_segments m r)),
+      length-append (flat_map order_words (settled_orders r)) (flat_map segments_words (settled_segments m r)),
       words.1,
       orders.few,
-      segments.1,
+      segments.few,
+      demands_few (settled_slots r) m.constraints 0 (length m.states),
+      constraints,
       few_intervals m valid,
       few.0,
       few.1,

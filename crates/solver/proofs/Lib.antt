@@ -1,5 +1,6 @@
 pub mod Branching
 pub mod OpenOrders
+pub mod Segments
 pub mod Fitting
 pub mod Answering
 pub mod Assigned

@@ -115,21 +115,21 @@ leaves_by old list count i items view is place long =
     (leaves_place list i (count - 1) (omega (arith, counts, place, whole)) (subst (λ xs. count - 1 + 1 ≤ length xs) (sym lists) (omega (arith, counts, long, whole)))))
 
 -- the numbers of all intervals of the model
-pub all_intervals : (m : Data) (list : List ℕ) (n k : ℕ) → list ≡ range_with_len 0 k → k ≡ n → n ≡ length m.intervals → (let xs : OpenList = record { list = list; count = n } in IsOpenList (root m) xs)
-all_intervals m list n k is same count =
-    let size : length list ≡ n = ap (λ (ys : List ℕ). length ys) is ∙ length-range_with_len 0 k ∙ same in
-    let bounds : length (root m).bounds ≡ n = length-map m.intervals root_bounds ∙ sym count in
+pub all_intervals : (m : Data) (list : List ℕ) (n : ℕ) → list ≡ range_with_len 0 (length m.intervals) → n ≡ length list → (let xs : OpenList = record { list = list; count = n } in IsOpenList (root m) xs)
+all_intervals m list n is count =
+    let size : length list ≡ length m.intervals = ap (λ (ys : List ℕ). length ys) is ∙ length-range_with_len 0 (length m.intervals) in
+    let bounds : length (root m).bounds ≡ length m.intervals = length-map m.intervals root_bounds in
     record {
-      within = omega (arith, size);
+      within = omega (arith, count);
       below = All-from_get_or (λ x. x < length (root m).bounds) list 0 (λ i less. omega (arith, at i (omega (arith, less, size)), less, size, bounds));
-      holds = λ x within unfixed. (x.0, omega (arith, within, bounds), at x.0 (omega (arith, within, bounds)));
+      holds = λ x within unfixed. (x.0, omega (arith, within, bounds, size, count), at x.0 (omega (arith, within, bounds)));
     }
   where
     zero_on : (i : ℕ) → 0 + i ≡ i
     zero_on i = omega arith
 
-    at : (i : ℕ) → i < n → get_or list i 0 ≡ i
-    at i less = ap (λ (ys : List ℕ). get_or ys i 0) is ∙ get_or-range_with_len 0 k i 0 (omega (arith, less, same)) ∙ zero_on i
+    at : (i : ℕ) → i < length m.intervals → get_or list i 0 ≡ i
+    at i less = ap (λ (ys : List ℕ). get_or ys i 0) is ∙ get_or-range_with_len 0 (length m.intervals) i 0 less ∙ zero_on i
 
 -- what the loop over the first ones needs
 pub index_below : (r : Region) (xs : OpenList) (list : List ℕ) (count i x : ℕ) → (let inside : OpenList = record { list = list; count = count } in inside) ≡ xs → IsOpenList r xs → i < count → x ≡ get_or list i x → x < length r.bounds

@@ -53,10 +53,6 @@ pub record CutsRegion (r : Region) (g : Guess) : Type 0 where
   pub splits_it : IsTrue (splits r g)
   pub cuts_it : IsCut r g
 
--- it isn't known whether the interval is there
-abbrev pub is_open_presence : Region → Itv → Bool
-is_open_presence r x = nat_lt x.0 (length r.bounds) && says_maybe (bounds_of r x).presence
-
 -- another member of a sequence
 abbrev pub is_other : List Itv → Itv → Itv → Bool
 is_other ms x y = has ms y && not (same x y)
@@ -128,6 +124,12 @@ abbrev pub RefutesIf : Data → Region → Option ℤ → Stop → Type 0
 RefutesIf m r best (Failed w) = IsTrue (refutes_plain m (seen_at r best None) w)
 RefutesIf m r best Quiet = Unit {0}
 RefutesIf m r best Capped = Unit {0}
+
+-- of a settled region a run tells that it is refuted, or that all is quiet
+abbrev pub QuietUnlessFailed : Type 0 → Stop → Type 0
+QuietUnlessFailed quiet Quiet = quiet
+QuietUnlessFailed quiet (Failed w) = Unit {0}
+QuietUnlessFailed quiet Capped = ⊥
 
 abbrev pub is_capped : Stop → Bool
 is_capped Capped = true

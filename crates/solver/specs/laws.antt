@@ -1,2 +1,2 @@
-pub mod NoLeaf
+pub mod Quiet
 pub mod Putting

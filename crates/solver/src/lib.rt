@@ -3,15 +3,20 @@
 
 mod answer;
 mod branch;
-mod choices;
 mod fault;
-mod leaf;
+mod guide;
+mod hints;
 mod log_lines;
+mod luby;
 mod mark;
 mod open_intervals;
 mod open_pairs;
 mod order;
+mod preparing;
+mod rehearsal;
 mod search;
+mod settled;
+mod silence;
 mod solving;
 mod state;
 mod weights;

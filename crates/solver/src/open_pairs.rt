@@ -1,12 +1,12 @@
-ghost use Rattle.std.specs.Prelude.{◌≡◌, ◌<◌, length};
+ghost use Rattle.std.specs.Prelude.{◌<◌, ◌≤◌, length};
 
+use crate::guide::Guide;
 use crate::order::{is_open_order, is_there};
 use crate::weights::Weights;
-use kernel::{NoWitness, Witness};
 use refute_seq::members_of;
 use region::Look;
-use sched_base::{Itv, NoMemory, Seq, at};
-use sched_model::{Assignment, Constraint, Model, Slot};
+use sched_base::{Itv, NoMemory, Seq};
+use sched_model::{Constraint, Model};
 use std::alloc::Global;
 
 /// Two members of a sequence, the first to be tried in front of the second.
@@ -25,11 +25,32 @@ struct Candidate {
     weight: i64,
 }
 
+/// A member, and when it may start.
+#[derive(Clone, Copy, Debug)]
+struct Place {
+    x: Itv,
+    est: i64,
+    lst: i64,
+}
+
+/// Two neighbours, and when they may start.
+#[derive(Clone, Copy, Debug)]
+struct Neighbours {
+    pair: Pair,
+    first: i64,
+    second: i64,
+}
+
 /// The sequences without overlap, among whose present members orders may be open.
 #[derive(Drop)]
 pub struct OpenPairs {
     sequences: Vec<Seq>,
-    weights: Weights,
+    /// Whether there are so many pairs that only neighbours are compared where no schedule is known.
+    pub many: bool,
+    // A pair that was open.
+    seen: Option<Pair>,
+    // The members of one sequence in a row.
+    row: Vec<Place>,
     // None was open at a region, and so none is in any part of it.
     closed: bool,
 }
@@ -42,31 +63,16 @@ fn slack(look: &Look<'_>, first: Itv, second: Itv) -> i64
     look.lst(second).saturating_sub(look.ect(first)).max(0)
 }
 
-/// Where an interval starts and ends in a schedule.
-fn place_in(guide: &Assignment, x: Itv) -> Option<(i64, i64)> {
-    match at(guide.slots.as_slice(), x.0 as usize)? {
-        Slot::Absent => None,
-        Slot::Present { s, e } => Some((*s, *e)),
-    }
-}
-
-/// Whether the first of two starts sooner in a schedule, or starts with the other and ends sooner.
-fn is_sooner(guide: Option<&Assignment>, x: Itv, y: Itv) -> Option<bool> {
-    let (s, e) = place_in(guide?, x)?;
-    let (t, f) = place_in(guide?, y)?;
-    Some(s < t || (s == t && e <= f))
-}
-
-/// What is looked at: the region, the weights, and the last schedule that was found.
+/// What is looked at: the region, the weights, and the schedule that is followed.
 #[derive(Drop)]
-struct View<'a> {
-    look: &'a Look<'a>,
-    weights: &'a Weights,
-    guide: Option<&'a Assignment>,
+pub struct View<'a> {
+    pub look: &'a Look<'a>,
+    pub weights: &'a Weights,
+    pub guide: &'a Guide<'a>,
 }
 
-/// The pair of two members where their order is open: first the way of the last schedule, and without
-/// one that with more room.
+/// The pair of two members where their order is open: first the way of the schedule that is followed,
+/// and without one that with more room.
 #[tactic(auto, using(region::specs::laws::Present::there_within))]
 fn open_pair(view: &View<'_>, p: Seq, x: Itv, y: Itv) -> Option<Candidate> {
     let look = view.look;
@@ -75,7 +81,7 @@ fn open_pair(view: &View<'_>, p: Seq, x: Itv, y: Itv) -> Option<Candidate> {
     }
     let forth = slack(look, x, y).saturating_add(1);
     let back = slack(look, y, x).saturating_add(1);
-    let (first, second) = if is_sooner(view.guide, x, y).unwrap_or(back <= forth) {
+    let (first, second) = if view.guide.is_sooner(x, y).unwrap_or(back <= forth) {
         (x, y)
     } else {
         (y, x)
@@ -89,10 +95,14 @@ fn open_pair(view: &View<'_>, p: Seq, x: Itv, y: Itv) -> Option<Candidate> {
     })
 }
 
+fn product(x: i64, y: i64) -> i128 {
+    i128::from(x).saturating_mul(i128::from(y))
+}
+
 /// The tighter one; of two alike the first.
 fn tighter(best: Option<Candidate>, other: Candidate) -> Candidate {
     match best {
-        Some(b) if b.room.saturating_mul(other.weight) <= other.room.saturating_mul(b.weight) => b,
+        Some(b) if product(b.room, other.weight) <= product(other.room, b.weight) => b,
         _ => other,
     }
 }
@@ -129,18 +139,108 @@ fn tightest_in(
     best
 }
 
+fn open_with(look: &Look<'_>, p: Seq, x: Itv, later: &[Itv]) -> Option<Pair> {
+    if !is_there(look, x) {
+        return None;
+    }
+    for y in later {
+        if is_open_order(look, p, x, *y) {
+            return Some(Pair {
+                p,
+                first: x,
+                second: *y,
+            });
+        }
+    }
+    None
+}
+
+fn open_in(look: &Look<'_>, p: Seq, members: &[Itv]) -> Option<Pair> {
+    for i in 0..members.len() {
+        if let Some(pair) = open_with(look, p, members[i], &members[i + 1..]) {
+            return Some(pair);
+        }
+    }
+    None
+}
+
+/// Where a member stands in a row by when it may start.
+fn place_in(row: &[Place], place: Place) -> usize
+    ensures { result ≤ length row.now }
+{
+    for i in 0..row.len() {
+        if (place.est, place.lst) < (row[i].est, row[i].lst) {
+            return i;
+        }
+    }
+    row.len()
+}
+
+/// Two members that stand in a row, where their order is open.
+fn open_neighbours(look: &Look<'_>, p: Seq, x: Place, y: Place) -> Option<Neighbours> {
+    if !is_open_order(look, p, x.x, y.x) {
+        return None;
+    }
+    Some(Neighbours {
+        pair: Pair {
+            p,
+            first: x.x,
+            second: y.x,
+        },
+        first: x.est,
+        second: y.est,
+    })
+}
+
+/// The first neighbours of a row whose order is open.
+fn first_neighbours(look: &Look<'_>, p: Seq, row: &[Place]) -> Option<Neighbours> {
+    for i in 1..row.len() {
+        if let Some(found) = open_neighbours(look, p, row[i - 1], row[i]) {
+            return Some(found);
+        }
+    }
+    None
+}
+
+/// Those that may start sooner; of two alike the first.
+fn earlier(best: Option<Neighbours>, other: Neighbours) -> Neighbours {
+    match best {
+        Some(b) if (b.first, b.second) <= (other.first, other.second) => b,
+        _ => other,
+    }
+}
+
+fn tightest_neighbours(
+    view: &View<'_>,
+    p: Seq,
+    order: &[Itv],
+    best: Option<Candidate>,
+) -> Option<Candidate> {
+    let mut best = best;
+    for i in 1..order.len() {
+        if let Some(other) = open_pair(view, p, order[i - 1], order[i]) {
+            best = Some(tighter(best, other));
+        }
+    }
+    best
+}
+
 impl OpenPairs {
     /// The sequences of the model.
-    pub fn new(alloc: Global, model: &Model) -> Result<OpenPairs, NoMemory> {
+    pub fn new(alloc: Global, model: &Model, many: bool) -> Result<OpenPairs, NoMemory> {
         let mut sequences = Vec::new(alloc);
         for constraint in model.constraints() {
             if let Constraint::NoOverlap { p, .. } = constraint {
                 sequences.push(*p)?;
             }
         }
+        let mut row = Vec::new(alloc);
+        row.reserve(model.intervals().len())?;
         Ok(OpenPairs {
             sequences,
-            weights: Weights::new(alloc, model)?,
+            many,
+            seen: None,
+            row,
             closed: false,
         })
     }
@@ -150,30 +250,94 @@ impl OpenPairs {
         self.closed = false;
     }
 
-    /// Counts what a witness names that refuted a region.
-    pub fn blame(&mut self, model: &Model, w: &Witness<NoWitness>) {
-        self.weights.count(model, w);
+    fn first_open(&self, model: &Model, look: &Look<'_>) -> Option<Pair> {
+        for p in self.sequences.iter() {
+            if let Some(pair) = open_in(look, *p, members_of(model, *p)) {
+                return Some(pair);
+            }
+        }
+        None
+    }
+
+    /// Whether all orders of present members are known.
+    pub fn knows_all(&mut self, model: &Model, look: &Look<'_>) -> bool {
+        if self.closed {
+            return true;
+        }
+        if let Some(pair) = self.seen {
+            if is_open_order(look, pair.p, pair.first, pair.second) {
+                return false;
+            }
+        }
+        self.seen = self.first_open(model, look);
+        self.closed = self.seen.is_none();
+        self.closed
+    }
+
+    /// Puts the members that are present in a row, by when they may start.
+    #[tactic(auto, using(region::specs::laws::Present::there_within))]
+    fn fill_row(&mut self, look: &Look<'_>, members: &[Itv]) {
+        self.row.clear();
+        for x in members {
+            if !is_there(look, *x) {
+                continue;
+            }
+            let place = Place {
+                x: *x,
+                est: look.est(*x),
+                lst: look.lst(*x),
+            };
+            let at = place_in(self.row.as_slice(), place);
+            // There is room for all members.
+            let _ = self.row.insert(at, place);
+        }
+    }
+
+    /// The earliest of the pairs that are neighbours by when they may start.
+    fn earliest_neighbours(&mut self, model: &Model, look: &Look<'_>) -> Option<Pair> {
+        let mut best = None;
+        for i in 0..self.sequences.len() {
+            let Some(p) = self.sequences.get(i).copied() else {
+                break;
+            };
+            self.fill_row(look, members_of(model, p));
+            if let Some(other) = first_neighbours(look, p, self.row.as_slice()) {
+                best = Some(earlier(best, other));
+            }
+        }
+        Some(best?.pair)
+    }
+
+    /// The tightest of the pairs that are neighbours in the schedule for which the search goes.
+    fn tightest_straight(&self, view: &View<'_>) -> Option<Candidate> {
+        let mut best = None;
+        for p in self.sequences.iter() {
+            if let Some(order) = view.guide.straight_order(*p) {
+                best = tightest_neighbours(view, *p, order, best);
+            }
+        }
+        best
     }
 
     /// Of the pairs of present members whose order is open the tightest: the one with the least sum of
     /// four times the lesser slack of its two ways and once the greater, each and 1, for its weight.
-    pub fn tightest(
-        &mut self,
-        model: &Model,
-        look: &Look<'_>,
-        guide: Option<&Assignment>,
-    ) -> Option<Pair> {
+    /// While the search goes straight for a schedule, neighbours in it come before all others, which
+    /// mostly follow from them. Where there are many pairs, and there is no schedule to follow, so do
+    /// neighbours by when they may start.
+    pub fn tightest(&mut self, model: &Model, view: &View<'_>) -> Option<Pair> {
         if self.closed {
             return None;
         }
-        let view = View {
-            look,
-            weights: &self.weights,
-            guide,
-        };
-        let mut best = None;
-        for p in self.sequences.iter() {
-            best = tightest_in(&view, *p, members_of(model, *p), best);
+        if self.many && view.guide.schedule.is_none() {
+            if let Some(pair) = self.earliest_neighbours(model, view.look) {
+                return Some(pair);
+            }
+        }
+        let mut best = self.tightest_straight(view);
+        if best.is_none() {
+            for p in self.sequences.iter() {
+                best = tightest_in(view, *p, members_of(model, *p), best);
+            }
         }
         let Some(found) = best else {
             self.closed = true;

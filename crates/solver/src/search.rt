@@ -7,21 +7,22 @@ ghost use Rattle.std.specs.List.{list_all};
 ghost use Rattle.region.specs.Cells.{Region as Cells, is_fixed, is_settled};
 ghost use Rattle.region.specs.Guesses.{splits, with_guess, with_fact};
 ghost use Rattle.region.specs.Looks.{IsRegionOf};
-ghost use Rattle.refute_basic.specs.Served.{is_served};
 ghost use Rattle.kernel.specs.declared.types.Line.TheVariants as line_is;
 ghost use Rattle.kernel.specs.Steps.{best_of, step_at, left_after, found_in, opening};
 ghost use Rattle.engine.specs.Engines.{AreQuiet, AreAwake, IsCalm, IsFor};
 ghost use Rattle.engine.specs.Plain.{refutes_plain};
 ghost use Rattle.engine.specs.Runs.{Ends};
 ghost use Rattle.propagators.specs.Quiet.{IsQuietRegion};
-ghost use Rattle.solver.specs.Searching.{IsHolding, IsReady, Closes, RefutesIf, Derived, GoesOn, IsLogged, is_failed, is_capped, behind_in, left_in, state_in, node_in, CutsRegion};
+ghost use Rattle.solver.specs.Searching.{HasValue, IsHolding, IsReady, Closes, RefutesIf, Derived, GoesOn, IsLogged, QuietUnlessFailed, is_failed, is_capped, behind_in, left_in, state_in, node_in, CutsRegion};
 
 use crate::fault::SolveFault;
-use crate::leaf::leaf_line;
+use crate::guide::Guide;
+use crate::hints::Hints;
 use crate::mark::Mark;
 use crate::open_intervals::OpenIntervals;
 use crate::open_pairs::Pair;
 use crate::order::cut_orders;
+use crate::settled::settled_assignment;
 use crate::state::Search;
 use engine::{Engine, Lines, Propagator, Stop};
 use kernel::{Found, Line, NoWitness, Pending};
@@ -30,15 +31,34 @@ use sched_base::NoMemory;
 use sched_model::{Assignment, Model, value};
 use std::alloc::Global;
 
-fn is_capped(stop: &Stop) -> bool
+pub fn is_capped(stop: &Stop) -> bool
     ensures { result ≡ is_capped stop.now }
 {
     matches!(stop, Stop::Capped)
 }
 
+/// The schedule found last is followed, and before the first the one that was there from the start.
+fn guide_of<'a>(found: &'a Option<Found>, first: &'a Option<Assignment>) -> Guide<'a> {
+    if let Some(f) = found {
+        return Guide {
+            schedule: Some(&f.assignment),
+            straight: false,
+        };
+    }
+    Guide {
+        schedule: first.as_ref(),
+        straight: true,
+    }
+}
+
 impl<P: Propagator> Search<P> {
     /// The root of the model is the first region that waits.
-    pub fn new(alloc: Global, model: &Model, engine: Engine<P>) -> Result<Search<P>, NoMemory>
+    pub fn new(
+        alloc: Global,
+        model: &Model,
+        engine: Engine<P>,
+        hints: Hints,
+    ) -> Result<Search<P>, NoMemory>
         requires made { IsFor P.Propagator model.now engine }
         requires awake { AreAwake P.Propagator model.now engine }
         ensures ready { IfOk result (IsReady P.Propagator model.now) }
@@ -48,19 +68,79 @@ impl<P: Propagator> Search<P> {
     {
         // The model is valid by its type.
         let _ = model.intervals();
+        let Hints {
+            weights,
+            guide,
+            many_pairs,
+        } = hints;
         Ok(Search {
             region: Region::root(alloc, model)?,
             pending: Pending::new(alloc),
             marks: Vec::new(alloc),
             engine,
-            intervals: OpenIntervals::new(alloc, model)?,
+            intervals: OpenIntervals::new(alloc, model, weights, many_pairs)?,
             found: None,
             nodes: 0,
+            guide,
         })
     }
 
+    /// From the root of the model again, with what was found.
+    pub fn restart(&mut self, alloc: Global, model: &Model) -> Result<(), NoMemory>
+        requires { IsReady P.Propagator model.now self.old }
+        ensures ready { OnOk result (IsReady P.Propagator model.now self.new) }
+        ensures none { OnOk result (self.new.nodes ≡ 0) }
+    {
+        let _ = model.intervals();
+        self.region = Region::root(alloc, model)?;
+        self.pending = Pending::new(alloc);
+        self.marks = Vec::new(alloc);
+        self.engine.wake_all();
+        self.intervals.reopen(alloc, model)?;
+        self.nodes = 0;
+        Ok(())
+    }
+
+    /// Takes a solution from elsewhere, at the region as it is.
+    pub fn adopt(&mut self, found: Found)
+        ensures ready { (m : Data) → IsReady P.Propagator m self.old → HasValue m found → IsReady P.Propagator m self.new }
+        ensures nodes { self.new.nodes ≡ self.old.nodes }
+    {
+        self.found = Some(found);
+        self.engine.wake_best();
+    }
+
+    /// Whether all presences are known, and all orders of present members of sequences without
+    /// overlap.
+    pub fn knows_orders(&mut self, model: &Model) -> bool
+        ensures { self.new ≡ self.old }
+    {
+        let look = self.region.look(None, None);
+        self.intervals.knows_orders(model, &look)
+    }
+
+    /// What a next search begins with.
+    pub fn into_hints(self) -> Hints {
+        let Search {
+            intervals,
+            found,
+            guide,
+            ..
+        } = self;
+        let (weights, many_pairs) = intervals.into_weights();
+        let guide = match found {
+            None => guide,
+            Some(f) => Some(f.assignment),
+        };
+        Hints {
+            weights,
+            guide,
+            many_pairs,
+        }
+    }
+
     /// The value of the solution found last.
-    fn best(&self) -> Option<i64>
+    pub fn best(&self) -> Option<i64>
         ensures { result ≡ best_of self.now.found }
     {
         match &self.found {
@@ -70,13 +150,14 @@ impl<P: Propagator> Search<P> {
     }
 
     /// Derives what follows at the region.
-    fn derive<L: Lines>(&mut self, model: &Model, lines: &mut L) -> Result<Stop, SolveFault>
+    pub fn derive<L: Lines>(&mut self, model: &Model, lines: &mut L) -> Result<Stop, SolveFault>
         requires ready { IsReady P.Propagator model.now self.old }
         requires lines { L.ready lines.old }
         ensures ready { OnOk result (IsReady P.Propagator model.now self.new) }
         ensures lines { OnOk result (L.ready lines.new) }
         ensures nodes { self.new.nodes ≡ self.old.nodes }
         ensures stop { IfOk result (Ends (AreQuiet P.Propagator model.now self.new.region.region (best_of self.new.found)) model.now (best_of self.new.found) self.new.region.region) }
+        ensures settled { IfOk result (λ stop. IsTrue (is_settled self.new.region.region) → QuietUnlessFailed (AreQuiet P.Propagator model.now self.new.region.region (best_of self.new.found)) stop) }
         ensures found { self.new.found ≡ self.old.found }
         ensures derived { (from : L) → IsLogged L.Lines model.now from lines.old 0 (state_in true self.old)
             → Derived P.Propagator L.Lines model.now from lines.new self.new result }
@@ -117,38 +198,54 @@ impl<P: Propagator> Search<P> {
         ensures none { IfNone result (IsTrue (is_settled self.old.region.region)) }
     {
         let look = self.region.look(None, None);
-        let cut = self.intervals.choose(model, &look);
-        let guide = match &self.found {
-            None => None,
-            Some(f) => Some(&f.assignment),
-        };
-        let pair = self.intervals.tightest_pair(model, &look, cut, guide);
+        let guide = guide_of(&self.found, &self.guide);
+        let cut = self.intervals.choose(model, &look, &guide);
+        let pair = self.intervals.tightest_pair(model, &look, cut, &guide);
         self.pick(model, cut, pair)
     }
 
+    /// What is left of a region that isn't refuted: two parts, or the solution of a settled one, of
+    /// which all is quiet.
+    fn leave(&mut self, alloc: Global, model: &Model) -> Result<Line<NoWitness>, NoMemory>
+        requires ready { IsReady P.Propagator model.now self.old }
+        requires quiet { IsTrue (is_settled self.old.region.region) → IsQuietRegion model.now self.old.region.region (best_of self.old.found) }
+        ensures ready { IsReady P.Propagator model.now self.new }
+        ensures same { self.new ≡ record self.old { intervals = self.new.intervals } }
+        ensures line { IfOk result (Closes model.now self.old.region.region (best_of self.old.found) false) }
+    {
+        // The model is valid by its type.
+        let _ = model.intervals();
+        if let Some(g) = self.choose(model) {
+            return Ok(Line::Split(g));
+        }
+        let look = self.region.look(None, None);
+        Ok(Line::Sol(settled_assignment(alloc, model, &look)?))
+    }
+
     /// The line that ends the node.
-    fn closing(
+    pub fn closing(
         &mut self,
         alloc: Global,
         model: &Model,
         stop: Stop,
     ) -> Result<Line<NoWitness>, NoMemory>
-        requires served { IsTrue (is_served model.now) }
         requires ready { IsReady P.Propagator model.now self.old }
+        requires covers { (r : Cells) (best : Option ℤ) → IsRegionOf model.now r → AreQuiet P.Propagator model.now r best → IsQuietRegion model.now r best }
         requires stop { RefutesIf model.now self.old.region.region (best_of self.old.found) stop }
+        requires settled { IsTrue (is_settled self.old.region.region) → QuietUnlessFailed (AreQuiet P.Propagator model.now self.old.region.region (best_of self.old.found)) stop }
         ensures ready { IsReady P.Propagator model.now self.new }
         ensures same { self.new ≡ record self.old { intervals = self.new.intervals } }
         ensures line { IfOk result (Closes model.now self.old.region.region (best_of self.old.found) (is_failed stop)) }
     {
-        if let Stop::Failed(w) = stop {
-            self.intervals.blame(model, &w);
-            return Ok(Line::Fail(w));
+        match stop {
+            Stop::Failed(w) => {
+                let look = self.region.look(None, None);
+                self.intervals.blame(model, &look, &w);
+                Ok(Line::Fail(w))
+            }
+            Stop::Quiet => self.leave(alloc, model),
+            Stop::Capped => self.leave(alloc, model),
         }
-        if let Some(g) = self.choose(model) {
-            return Ok(Line::Split(g));
-        }
-        let best = self.best();
-        leaf_line(alloc, model, &self.region.look(None, best))
     }
 
     /// Goes to the newest region that waits; false where none does.
@@ -228,7 +325,7 @@ impl<P: Propagator> Search<P> {
     }
 
     /// What the line that ends the node leaves; false where no region is left.
-    fn close(
+    pub fn close(
         &mut self,
         model: &Model,
         line: Line<NoWitness>,
@@ -260,7 +357,6 @@ impl<P: Propagator> Search<P> {
         model: &Model,
         lines: &mut L,
     ) -> Result<bool, SolveFault>
-        requires served { IsTrue (is_served model.now) }
         requires covers { (r : Cells) (best : Option ℤ) → IsRegionOf model.now r → AreQuiet P.Propagator model.now r best → IsQuietRegion model.now r best }
         requires nodes { self.old.nodes < 2 ^ 63 }
         requires ready { IsReady P.Propagator model.now self.old }
@@ -287,7 +383,6 @@ impl<P: Propagator> Search<P> {
         nodes: u64,
         lines: &mut L,
     ) -> Result<bool, SolveFault>
-        requires served { IsTrue (is_served model.now) }
         requires covers { (r : Cells) (best : Option ℤ) → IsRegionOf model.now r → AreQuiet P.Propagator model.now r best → IsQuietRegion model.now r best }
         requires few { nodes ≤ 2 ^ 62 }
         requires none { self.old.nodes ≡ 0 }

@@ -1,14 +1,15 @@
 ghost use Rattle.std.specs.Prelude.{◌≡◌, ◌<◌, ◌≤◌, ◌^◌, ℤ, Option, true, IsTrue};
 ghost use Rattle.region.specs.Cells.{Region as Cells};
 ghost use Rattle.region.specs.Looks.{IsRegionOf};
-ghost use Rattle.refute_basic.specs.Served.{is_served};
 ghost use Rattle.engine.specs.Engines.{AreQuiet, AreAwake, IsFor};
 ghost use Rattle.propagators.specs.Quiet.{IsQuietRegion};
 ghost use Rattle.solver.specs.Solving.{Gives};
 
 use crate::answer::answer_from;
 use crate::fault::SolveFault;
+use crate::hints::Hints;
 use crate::log_lines::LogLines;
+use crate::preparing::prepare;
 use crate::state::Search;
 use engine::{Engine, Propagator};
 use kernel::{NoExtra, loses_nothing};
@@ -23,10 +24,10 @@ fn solve_with<P: Propagator, D: Desk>(
     alloc: Global,
     model: &Model,
     engine: Engine<P>,
+    hints: Hints,
     nodes: u64,
     desk: &mut D,
 ) -> Result<Solved, SolveFault>
-    requires served { IsTrue (is_served model.now) }
     requires made { IsFor P.Propagator model.now engine }
     requires awake { AreAwake P.Propagator model.now engine }
     requires covers { (r : Cells) (best : Option ℤ) → IsRegionOf model.now r → AreQuiet P.Propagator model.now r best → IsQuietRegion model.now r best }
@@ -35,7 +36,7 @@ fn solve_with<P: Propagator, D: Desk>(
     requires created { (D.state desk.old).created ≡ true }
     ensures { Gives model.now nodes result (D.state desk.old) (D.state desk.new) }
 {
-    let mut search = Search::new(alloc, model, engine)?;
+    let mut search = Search::new(alloc, model, engine, hints)?;
     let mut writer = LogWriter::new(alloc)?;
     writer.write_head(desk)?;
     let mut lines = LogLines { writer, desk };
@@ -51,30 +52,32 @@ fn solve_with<P: Propagator, D: Desk>(
     })
 }
 
-/// Looks for a best solution of a model that is served (`refute_basic::is_served` tells) by branch
-/// and bound, and writes the log of the search. It opens at most `nodes` nodes, and keeps one region
-/// with saves, so its memory grows with the depth of the search. At each node it derives until no
-/// propagator finds anything, or 16 lines for each cell of the region were put; what is left it
-/// splits. First an open presence, that of a part of an alternative which is present before all
-/// others, and of these parts the one that can be done soonest. Then the order of the tightest pair of
-/// present members of a sequence without overlap, counting more those that were often named where a
-/// region was refuted, and first as in the last schedule. Then a bound of the interval that was cut
-/// last, while it is open, or of the one with the greatest least start, its start before its end, at
-/// the middle, the earlier half first; and orders of other sequences last. `Fault` comes only where
-/// the desk failed; the log is then, as after `NoMemory`, a front part of a log's text.
+/// Looks for a best solution of a model by branch and bound, and writes the log of the search. It
+/// opens at most `nodes` nodes, after a preparation that looks at a fifth as many regions at most, and
+/// at no more than 20,000. It keeps one region with saves, so its memory grows with the depth of the
+/// search. At each node it derives until no propagator finds anything, or 16 lines for each cell of the
+/// region were put; what is left it splits. First an open presence, of the interval that was named most
+/// where regions were refuted. Then the order of the tightest pair of present members of a sequence
+/// without overlap, for the weights of both. Then a bound of the interval that was cut last, while it
+/// is open, or of the one with the greatest least start, its start before its end, at the middle; in a
+/// model with cumulative or state functions a bound of the one with the greatest weight for what is
+/// open of it. Orders of other sequences come last. What is tried first follows the last schedule. `Fault` comes only where the desk
+/// failed; the log is then, as after `NoMemory`, a front part of a log's text.
 pub fn solve<D: Desk>(
     alloc: Global,
     model: &Model,
     nodes: u64,
     desk: &mut D,
 ) -> Result<Solved, SolveFault>
-    requires served { IsTrue (is_served model.now) }
     requires some { 0 < nodes }
     requires few { nodes ≤ 2 ^ 62 }
     requires created { (D.state desk.old).created ≡ true }
     ensures { Gives model.now nodes result (D.state desk.old) (D.state desk.new) }
 {
+    let hints = prepare(alloc, model, nodes)?;
     let engine = start(alloc, model)?;
+    // The model is valid by its type.
+    let _ = model.intervals();
     covers();
-    solve_with(alloc, model, engine, nodes, desk)
+    solve_with(alloc, model, engine, hints, nodes, desk)
 }

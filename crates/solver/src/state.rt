@@ -3,6 +3,7 @@ use crate::open_intervals::OpenIntervals;
 use engine::{Engine, Propagator};
 use kernel::{Found, Pending};
 use region::Region;
+use sched_model::Assignment;
 
 /// A search under way: one region with saves, what waits behind it, what is known of each save, the
 /// engine, the intervals that may be open, the solution found last, and how many nodes were opened.
@@ -15,4 +16,6 @@ pub struct Search<P: Propagator> {
     pub intervals: OpenIntervals,
     pub found: Option<Found>,
     pub nodes: u64,
+    /// The schedule that is followed before the first is found.
+    pub guide: Option<Assignment>,
 }

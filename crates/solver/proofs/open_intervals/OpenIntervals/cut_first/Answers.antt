@@ -16,7 +16,7 @@ places-smaller-in_default c = fewer_left c.places.self.count c.leave.new.self.co
 pub places-smaller : goal.places-smaller
 places-smaller c = nearer c.places.self.count c.places.i (counts_in c.places.self c.self.inside.list.items c.self.inside.count c.places.i c.self.view_is c.places-test.true)
 
-pub returns-in_err-x-clause-none : goal.returns-in_err-x-clause-none
-returns-in_err-x-clause-none c =
+pub returns-in_err-best-clause-none : goal.returns-in_err-best-clause-none
+returns-in_err-best-clause-none c =
     if_none c.from_residual.result (none_open c.args.look.now.region c.places.self c.places.invariant.is
     (counts_out c.places.self c.self.inside.list.items c.self.inside.count c.places.i c.self.view_is c.places-test.false (c.places.invariant.none (search rules))))

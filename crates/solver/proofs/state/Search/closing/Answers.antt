@@ -1,19 +1,12 @@
-use Rattle.std.proofs.Common.{◌≡◌, Option, ℤ, sym, ap, subst, ◌∙◌}
-use Rattle.region.specs.Looks.{Seen}
+use Rattle.std.proofs.Common.{ap}
 use Rattle.kernel.specs.Steps.{best_of}
+use Rattle.engine.specs.Engines.{AreQuiet}
 use Rattle.solver.specs.Searching.{is_failed}
-use Rattle.solver.proofs.Ending.{leaf_closes}
+use Rattle.solver.proofs.Ending.{unless_failed}
 use Rattle.solver.proofs.state.Search.closing.Goals as goal
 
-pub returns : goal.returns
-returns g c =
-    let s = c.args.self.now in
-    let choose = c.in_default-choose.ensures in
-    record {
-      ready = choose.ready;
-      same = choose.same;
-      line = leaf_closes c.args.model.now s.region.region (best_of s.found) (is_failed c.args.stop) c.look.result c.leaf_line.result
-          (c.look.ensures.value ∙ ap (λ u. let l : Seen = record { region = u.region.region; best = c.best-best.result } in l) choose.same
-          ∙ ap (λ (b : Option ℤ). let l : Seen = record { region = s.region.region; best = b } in l) (c.best-best.ensures ∙ ap (λ u. best_of u.found) choose.same))
-          choose.none c.leaf_line.ensures;
-    }
+pub leave-requires-clause-quiet : goal.leave-requires-clause-quiet
+leave-requires-clause-quiet g c =
+    let r = c.args.self.now.region.region in
+    let best = best_of c.args.self.now.found in
+    λ settled. c.requires.covers r best c.requires.ready.holding.of.region (unless_failed (AreQuiet g.P.Propagator c.args.model.now r best) c.args.stop (ap is_failed c.in-Quiet.is) (c.requires.settled settled))

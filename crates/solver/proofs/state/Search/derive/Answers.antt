@@ -5,8 +5,9 @@ use Rattle.engine.specs.Engines.{IsCalm, AreQuiet}
 use Rattle.engine.specs.declared.stops.EngineFault.TheVariants as fault
 use Rattle.solver.specs.Faults.{passed_on}
 use Rattle.solver.specs.declared.state.Search.{Search}
-use Rattle.solver.specs.Searching.{IsSpent, IsAtNode}
+use Rattle.solver.specs.Searching.{QuietUnlessFailed, IsSpent, IsAtNode}
 use Rattle.solver.proofs.Deriving.{ArePlaces, err_is, derived_to, broke_stops, engine_causes, spent_by, derive_stops, node_with}
+use Rattle.solver.proofs.Ending.{settled_quiet}
 use Rattle.solver.proofs.Fixing.{derives_keep}
 use Rattle.solver.proofs.Keeping.{derived_ready}
 use Rattle.solver.proofs.state.Search.derive.Goals as goal
@@ -30,6 +31,13 @@ returns-clause-ready g c =
     let run = c.in_ok-run.ensures in
     derived_ready g.P.Propagator c.args.model.now c.args.self.now c.run.new.region c.run.new.self c.requires.ready (derives_keep run.ran.led.derive) run.of run.saved run.promised run.made
     (subst (λ b. IsCalm g.P.Propagator c.args.model.now c.run.new.region.region b c.run.new.self) c.best-best.ensures run.calm)
+
+pub returns-clause-settled : goal.returns-clause-settled
+returns-clause-settled g c =
+    let m = c.args.model.now in
+    let r = c.run.new.region.region in
+    let ran = c.in_ok-run.ensures.ran in
+    λ settled. subst (λ b. QuietUnlessFailed (AreQuiet g.P.Propagator m r b) c.in_ok-run.field-0) c.best-best.ensures (settled_quiet _ ran.n m c.best-best.result r c.in_ok-run.field-0 ran.ends ran.counts settled)
 
 pub returns-clause-derived : goal.returns-clause-derived
 returns-clause-derived g c =

@@ -13,7 +13,7 @@ returns-clause-ready g c = λ m ready quiet.
     let cell = c.in_ok-cell.ensures in
     let k : Mark = record { best = c.best.result; capped = c.args.capped; count = c.count.result } in
     let of = split_of m s.region c.split.new.region c.args.g ready.holding.of c.requires.splits cell.region cell.saved in
-    split_ready p m s (record { region = c.split.new.region; pending = c.split.new.self; marks = c.push.new.self; engine = c.wake.new.self; intervals = s.intervals; found = s.found; nodes = s.nodes })
+    split_ready p m s (record { region = c.split.new.region; pending = c.split.new.self; marks = c.push.new.self; engine = c.wake.new.self; intervals = s.intervals; found = s.found; nodes = s.nodes; guide = s.guide })
     c.args.g k ready c.requires.splits cell.region cell.saved cell.pending (search rules) c.count.ensures
     (λ spent. subst (λ b. AreQuiet p m s.region.region b) (sym c.best.ensures) (quiet spent))
     (c.wake.ensures.made m ready.holding.engine)
