@@ -1,6 +1,7 @@
 -- What checking a file has done, from what its steps did.
 use Rattle.sched_base.specs.declared.desk.Failed.{Failed}
 use Rattle.sched_base.specs.declared.desk.Port.TheVariants.{Out}
+use Rattle.cpo_elab.specs.Answers.Answer.{Accepted}
 use Rattle.commands.specs.declared.ended.Ended.TheVariants as end
 use Rattle.commands.specs.declared.stop.Stop.TheVariants as stop
 use Rattle.commands.specs.CheckText.{check_text}
@@ -18,7 +19,7 @@ use Rattle.checker.specs.declared.judging.CheckFault.{CheckFault}
 use Rattle.checker.specs.declared.judging.CheckFault.TheVariants as fault
 use Rattle.checker.specs.Judgement.{log_limit}
 use Rattle.checker.specs.Checking.{Checks, Judges, log_bytes, ReadsAtMost}
-use Rattle.commands.specs.Runs.{IfFile, FileServes, AcceptsLog, ReadsModel, ReadsLog}
+use Rattle.commands.specs.Runs.{IfFile, FileDeserves, AcceptsLog, ReadsModel, ReadsLog}
 use Rattle.commands.specs.Stops.{stop_of_check}
 use Rattle.commands.specs.Tries.{OnlyReads, OnlyJudges, JudgesFile, TriesCheck}
 
@@ -52,7 +53,7 @@ not_accepted m log fault.NoMemory u s o t opens checks = tt
 
 -- The model and its log were read, and the log is accepted.
 
-accepts : (m : Data) (model log : Bytes) (c : Checked) (old s t : State) → OnlyReads old s → FileServes old model m → JudgesFile m log (Ok c) s t → AcceptsLog model log c.verdict c.nodes old
+accepts : (m : Data) (model log : Bytes) (c : Checked) (old s t : State) → OnlyReads old s → FileDeserves old model (Accepted m) → JudgesFile m log (Ok c) s t → AcceptsLog model log c.verdict c.nodes old
 accepts m model log c old s t reads deserved judges = record {
   m = m;
   deserved = deserved;
@@ -67,7 +68,7 @@ log_read_behind : (log : Bytes) (old s t : State) → OnlyReads old s → ReadsL
 log_read_behind log old s t reads far = subst (λ (files : Option (List File)). ReadsLog log (record old { files = files }) t) (ap (λ (x : State). x.files) reads.only) far
 
 -- the text that says so was printed
-pub accept_printed : (m : Data) (model log bytes : Bytes) (c : Checked) (u : Unit {0}) (old s t w : State) → OnlyReads old s → s.faults ≡ old.faults → FileServes old model m → ReadsModel model old s → OnlyJudges s t → JudgesFile m log (Ok c) s t
+pub accept_printed : (m : Data) (model log bytes : Bytes) (c : Checked) (u : Unit {0}) (old s t w : State) → OnlyReads old s → s.faults ≡ old.faults → FileDeserves old model (Accepted m) → ReadsModel model old s → OnlyJudges s t → JudgesFile m log (Ok c) s t
     → bytes ≡ check_text c.verdict c.nodes → Writes Out bytes (Ok u) t w → TriesCheck model log (Ok end.Accepted) old w
 accept_printed m model log bytes c u old s t w reads kept deserved far judged judges spelt writes =
     let text : Bytes = check_text c.verdict c.nodes in
@@ -83,7 +84,7 @@ accept_printed m model log bytes c u old s t w reads kept deserved far judged ju
     })
 
 -- or a front part of it
-pub accept_half_printed : (m : Data) (model log bytes : Bytes) (c : Checked) (e : Failed) (old s t w : State) → OnlyReads old s → s.faults ≡ old.faults → FileServes old model m → OnlyJudges s t → JudgesFile m log (Ok c) s t
+pub accept_half_printed : (m : Data) (model log bytes : Bytes) (c : Checked) (e : Failed) (old s t w : State) → OnlyReads old s → s.faults ≡ old.faults → FileDeserves old model (Accepted m) → OnlyJudges s t → JudgesFile m log (Ok c) s t
     → bytes ≡ check_text c.verdict c.nodes → Writes Out bytes (Err e) t w → TriesCheck model log (Err stop.Fault) old w
 accept_half_printed m model log bytes c e old s t w reads kept deserved judged judges spelt writes =
     let text : Bytes = check_text c.verdict c.nodes in

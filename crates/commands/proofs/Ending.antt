@@ -19,7 +19,7 @@ use Rattle.sched_text.specs.Canonical.{canonical_text}
 use Rattle.commands.specs.CheckText.{check_text}
 use Rattle.commands.specs.Ended.{is_success}
 use Rattle.commands.specs.Told.{Tells, Reports, usage_line, fault_line, memory_line, refusal_line, log_line, too_long_line, unfit_line}
-use Rattle.commands.specs.Runs.{RunPromise, EveryRun, CommandPromise, HasFiles, FileRefuses, RefusesBy, FileDeserves, ShowsPart, LogPromise, HoldsBegunLog, CutShort, AnswerPromise, AcceptsPart, ending_of, SolveEnds, file_of, ReadsModel, ReadsLog, schedule_limit, ReadsSchedule, VerifiesPart}
+use Rattle.commands.specs.Runs.{RunPromise, EveryRun, CommandPromise, HasFiles, RefusesModel, FileDeserves, ShowsPart, LogPromise, HoldsBegunLog, CutShort, AnswerPromise, AcceptsPart, ending_of, SolveEnds, file_of, ReadsModel, ReadsLog, schedule_limit, ReadsSchedule, VerifiesPart}
 use Rattle.commands.specs.VerifyText.{verify_text}
 use Rattle.sched_model.specs.Solution.{objective_of}
 use Rattle.commands.specs.Runs.CutShort.{before_log, in_log, in_answer}
@@ -165,8 +165,8 @@ part_told : (model log text : Bytes) (old s new : State) → AcceptsPart model l
 part_told model log text old s new (inl out) reports = inl (ap (λ (x : State). x.out) reports.only ∙ out)
 part_told model log text old s new (inr part) reports = inr (part.0, part.1, part.2, subst (λ b. AppendedFrom (check_text part.0 part.1) old.out b) (sym (ap (λ (x : State). x.out) reports.only)) part.3)
 
-refuses : (IsDue : Refusal → Type 0) (old s new : State) → OnlyReads old s → (r : Refusal) → IsDue r → Reports (refusal_line r) s new → RefusesBy IsDue old new
-refuses IsDue old s new reads r due reports = record {
+refuses : (model : Bytes) (old s new : State) → OnlyReads old s → (r : Refusal) → FileDeserves old model (Refused r) → Reports (refusal_line r) s new → RefusesModel model old new
+refuses model old s new reads r due reports = record {
   refusal = r;
   due = due;
   told = tells_on (refusal_line r) old s new (ap (λ (x : State). x.err) reads.only) reads.later reports;
@@ -223,7 +223,7 @@ solve_stopped model log limit (stop.ModelRefused r) ended old s new tries (inl e
     let reads = tries.tried.0 in
     subst (λ x. RunPromise (Some (Solve model log limit)) x old new) (sym ends.0) (record {
       every = model_refused (Solve model log limit) (refusal_line r) old s new (ap (λ (x : State). x.out) reads.only) reads.later ends.1;
-      its_own = record { only = solve_only (refusal_line r) old s new tries.only ends.1; ends = refuses (FileRefuses old model) old s new reads r tries.tried.2 ends.1 };
+      its_own = record { only = solve_only (refusal_line r) old s new tries.only ends.1; ends = refuses model old s new reads r tries.tried.2 ends.1 };
       reads = λ no_fault enough. model_read model (refusal_line r) old s new tries.tried.3 ends.1;
     })
 solve_stopped model log limit (stop.ModelRefused r) ended old s new tries (inr ends) =
@@ -263,7 +263,7 @@ check_stopped model log (stop.ModelRefused r) ended old s new tries (inl ends) =
     let reads = tries.tried.0 in
     subst (λ x. RunPromise (Some (Check model log)) x old new) (sym ends.0) (record {
       every = model_refused (Check model log) (refusal_line r) old s new (ap (λ (x : State). x.out) reads.only) reads.later ends.1;
-      its_own = record { only = check_only (refusal_line r) old s new tries.only ends.1; ends = refuses (FileRefuses old model) old s new reads r tries.tried.2 ends.1 };
+      its_own = record { only = check_only (refusal_line r) old s new tries.only ends.1; ends = refuses model old s new reads r tries.tried.2 ends.1 };
       reads = λ no_fault enough. (model_read model (refusal_line r) old s new tries.tried.3 ends.1, λ served. absurd (served refl));
     })
 check_stopped model log (stop.ModelRefused r) ended old s new tries (inr ends) = subst (λ x. RunPromise (Some (Check model log)) x old new) (sym ends.0)
@@ -331,7 +331,7 @@ verify_stopped model schedule (stop.ModelRefused r) ended old s new tries (inl e
     let reads = tries.tried.0 in
     subst (λ x. RunPromise (Some (Verify model schedule)) x old new) (sym ends.0) (record {
       every = model_refused (Verify model schedule) (refusal_line r) old s new (ap (λ (x : State). x.out) reads.only) reads.later ends.1;
-      its_own = record { only = verify_only (refusal_line r) old s new tries.only ends.1; ends = refuses (λ k. FileDeserves old model (Refused k)) old s new reads r tries.tried.2 ends.1 };
+      its_own = record { only = verify_only (refusal_line r) old s new tries.only ends.1; ends = refuses model old s new reads r tries.tried.2 ends.1 };
       reads = λ no_fault enough. (model_read model (refusal_line r) old s new tries.tried.3 ends.1, λ read. absurd (read refl));
     })
 verify_stopped model schedule (stop.ModelRefused r) ended old s new tries (inr ends) = subst (λ x. RunPromise (Some (Verify model schedule)) x old new) (sym ends.0)
@@ -389,7 +389,7 @@ show_stopped model (stop.ModelRefused r) ended old s new tries (inl ends) =
     let reads = tries.tried.0 in
     subst (λ x. RunPromise (Some (Show model)) x old new) (sym ends.0) (record {
       every = model_refused (Show model) (refusal_line r) old s new (ap (λ (x : State). x.out) reads.only) reads.later ends.1;
-      its_own = record { only = show_only (refusal_line r) old s new tries.only ends.1; ends = refuses (λ k. FileDeserves old model (Refused k)) old s new reads r tries.tried.2 ends.1 };
+      its_own = record { only = show_only (refusal_line r) old s new tries.only ends.1; ends = refuses model old s new reads r tries.tried.2 ends.1 };
       reads = λ no_fault enough. model_read model (refusal_line r) old s new tries.tried.3 ends.1;
     })
 show_stopped model (stop.ModelRefused r) ended old s new tries (inr ends) = subst (λ x. RunPromise (Some (Show model)) x old new) (sym ends.0)

@@ -7,12 +7,13 @@ use Rattle.sched_base.specs.Calls.{Writes, Rose, appended}
 use Rattle.sched_model.specs.declared.types.Solved.{Solved}
 use Rattle.sched_model.specs.Data.{Data}
 use Rattle.textline.specs.Lines.{Bytes}
+use Rattle.cpo_elab.specs.Answers.Answer.{Accepted}
 use Rattle.commands.specs.declared.ended.Ended.{Ended}
 use Rattle.commands.specs.declared.stop.Stop.{Stop}
 use Rattle.commands.specs.declared.stop.Stop.TheVariants as stop
 use Rattle.sched_text.specs.Answers.{answer_text}
 use Rattle.commands.specs.Ended.{is_success}
-use Rattle.commands.specs.Runs.{FileServes, LogPromise, HoldsBegunLog, CutShort, ending_of, ReadsModel}
+use Rattle.commands.specs.Runs.{FileDeserves, LogPromise, HoldsBegunLog, CutShort, ending_of, ReadsModel}
 use Rattle.commands.specs.Runs.CutShort.{before_log, in_log, in_answer}
 use Rattle.commands.specs.Tries.{OnlyReads, BeginsSearch, Searches, TriesSolve}
 
@@ -29,7 +30,7 @@ pub begun_out : (m : Data) (log : Bytes) (old s t : State) → OnlyReads old s �
 begun_out m log old s t reads (inl same) = ap (λ (x : State). x.out) same ∙ ap (λ (x : State). x.out) reads.only
 begun_out m log old s t reads (inr begun) = ap (λ (x : State). x.out) begun.1 ∙ ap (λ (x : State). x.out) reads.only
 
-pub begun_cut : (m : Data) (limit : ℕ) (name log : Bytes) (old s t : State) → OnlyReads old s → FileServes old name m → BeginsSearch m log s t → CutShort name log limit old t
+pub begun_cut : (m : Data) (limit : ℕ) (name log : Bytes) (old s t : State) → OnlyReads old s → FileDeserves old name (Accepted m) → BeginsSearch m log s t → CutShort name log limit old t
 begun_cut m limit name log old s t reads deserved (inl same) =
     let is : t ≡ record old { model = s.model; faults = t.faults } = same ∙ ap (λ (x : State). record x { faults = t.faults }) reads.only in
     subst (CutShort name log limit old) (sym is) (before_log refl)
@@ -38,7 +39,7 @@ begun_cut m limit name log old s t reads deserved (inr begun) =
     (begun_out m log old s t reads (inr begun))
 
 -- the search came to no answer
-pub stopped : (m : Data) (limit : ℕ) (name log : Bytes) (e : Stop) (old s t : State) → OnlyReads old s → s.faults ≡ old.faults → FileServes old name m → Searches m log limit (Err e) s t → TriesSolve name log limit (Err e) old t
+pub stopped : (m : Data) (limit : ℕ) (name log : Bytes) (e : Stop) (old s t : State) → OnlyReads old s → s.faults ≡ old.faults → FileDeserves old name (Accepted m) → Searches m log limit (Err e) s t → TriesSolve name log limit (Err e) old t
 stopped m limit name log stop.Fault old s t reads kept deserved says = record {
   only = begun_only m log old s t reads says.3;
   later = omega (arith, reads.later, says.2);
@@ -65,7 +66,7 @@ answered_log : (m : Data) (log : Bytes) (limit : ℕ) (solved : Solved) (old s t
 answered_log m log limit solved old s t reads says = subst (λ b. LogPromise m limit solved b t.logged) (ap (λ (x : State). x.logged) reads.only) says.0
 
 -- it was printed
-pub printed : (m : Data) (limit : ℕ) (solved : Solved) (name log : Bytes) (ended : Ended) (u : Unit {0}) (old s t w : State) → OnlyReads old s → s.faults ≡ old.faults → FileServes old name m → ReadsModel name old s → Searches m log limit (Ok solved) s t
+pub printed : (m : Data) (limit : ℕ) (solved : Solved) (name log : Bytes) (ended : Ended) (u : Unit {0}) (old s t w : State) → OnlyReads old s → s.faults ≡ old.faults → FileDeserves old name (Accepted m) → ReadsModel name old s → Searches m log limit (Ok solved) s t
     → Writes Out (answer_text m solved) (Ok u) t w → ended ≡ ending_of solved.answer → is_success ended ≡ true → TriesSolve name log limit (Ok ended) old w
 printed m limit solved name log ended u old s t w reads kept deserved far says writes ending success =
     let text : Bytes = answer_text m solved in
@@ -84,7 +85,7 @@ printed m limit solved name log ended u old s t w reads kept deserved far says w
     })
 
 -- or a front part of it
-pub half_printed : (m : Data) (limit : ℕ) (solved : Solved) (name log : Bytes) (e : Failed) (old s t w : State) → OnlyReads old s → s.faults ≡ old.faults → FileServes old name m → Searches m log limit (Ok solved) s t
+pub half_printed : (m : Data) (limit : ℕ) (solved : Solved) (name log : Bytes) (e : Failed) (old s t w : State) → OnlyReads old s → s.faults ≡ old.faults → FileDeserves old name (Accepted m) → Searches m log limit (Ok solved) s t
     → Writes Out (answer_text m solved) (Err e) t w → TriesSolve name log limit (Err stop.Fault) old w
 half_printed m limit solved name log e old s t w reads kept deserved says writes =
     let text : Bytes = answer_text m solved in

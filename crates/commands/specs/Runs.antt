@@ -1,5 +1,5 @@
 -- What a run promises: which ending it has, and what it has done to the desk by then.
-use Rattle.std.specs.Prelude.{◌≡◌, ◌↔◌, ◌⊎◌, ℕ, ◌+◌, ◌≤◌, true, false, IsTrue, List, [], take, Option, Some, None, option_map, option_and_then, IfSome, IsSome, ⊤, if◌then◌else◌, ◌<◌, length, slice_get}
+use Rattle.std.specs.Prelude.{◌≡◌, ◌↔◌, ◌⊎◌, ℕ, ◌+◌, ◌≤◌, true, false, List, [], take, Option, Some, None, option_map, option_and_then, IfSome, IsSome, ⊤, if◌then◌else◌, ◌<◌, length, slice_get}
 use Rattle.sched_base.specs.declared.desk.File.{File}
 use Rattle.sched_base.specs.State.{State, bytes_of, with_log}
 use Rattle.sched_base.specs.Calls.{Rose, appended}
@@ -16,7 +16,6 @@ use Rattle.cpo_text.specs.declared.text.Refusal.{Refusal}
 use Rattle.cpo_elab.specs.Answers.{Answer}
 use Rattle.cpo_elab.specs.Answers.Answer.{Accepted, Refused}
 use Rattle.cpo_elab.specs.Deserves.{Deserves}
-use Rattle.refute_basic.specs.Served.{is_served}
 use Rattle.kernel.specs.declared.types.Verdict.{Verdict}
 use Rattle.kernel.specs.Steps.{LogState, opening}
 use Rattle.kernel.specs.Promises.{Means}
@@ -73,21 +72,6 @@ ReadsSchedule name old new = ReadsAtMost (schedule_limit + 1) (file_of old name)
 abbrev pub FileDeserves : State → Bytes → Answer → Type 0
 FileDeserves s name answer = IfFile s name (λ bytes. Deserves (model_bytes bytes) answer)
 
--- what is told of a text that deserves this: its refusal; or number 15 where its model isn't one that the search serves
-abbrev pub not_served : Refusal
-not_served = record { number = 15; statement = 0; at = 0 }
-
-abbrev pub refusal_in : Answer → Option Refusal
-refusal_in (Accepted m) = if is_served m then None else Some not_served
-refusal_in (Refused r) = Some r
-
--- the text in the file of this name deserves a model, which the search serves; or it is to be refused so
-abbrev pub FileServes : State → Bytes → Data → Type 0
-FileServes s name m = FileDeserves s name (Accepted m) × IsTrue (is_served m)
-
-abbrev pub FileRefuses : State → Bytes → Refusal → Type 0
-FileRefuses s name r = (answer : Answer) × FileDeserves s name answer × (refusal_in answer ≡ Some r)
-
 -- the desk tells its files, and this one is there
 abbrev pub HasFile : State → Bytes → Type 0
 HasFile s name = (files : List File) × (s.files ≡ Some files) × IsSome (bytes_of files name)
@@ -120,21 +104,12 @@ pub record EveryRun (command : Option Command) (result : Ended) (old new : State
   pub fault_told : result ≡ end.Fault → Tells fault_line old new
   pub memory_told : result ≡ end.NoMemory → Tells memory_line old new
 
--- A refusal that is due is told. Nothing else was opened, and no log was created.
-pub record RefusesBy (IsDue : Refusal → Type 0) (old new : State) : Type 0 where
+-- The refusal that the text of the model's file deserves is told. Nothing else was opened, and no log was created.
+pub record RefusesModel (model : Bytes) (old new : State) : Type 0 where
   pub refusal : Refusal
-  pub due : IsDue refusal
+  pub due : FileDeserves old model (Refused refusal)
   pub told : Tells (refusal_line refusal) old new
   pub only : new ≡ record old { model = new.model; err = new.err; faults = new.faults }
-
--- the one that the text deserves
-abbrev pub RefusesText : Bytes → State → State → Type 0
-RefusesText model old new = RefusesBy (λ r. FileDeserves old model (Refused r)) old new
-
--- That one; or the text deserves a model that has a sequence, or a constraint on a cumulative or a state function. Such a
--- model isn't served yet, and its refusal is number 15 at statement 0 and place 0.
-abbrev pub RefusesModel : Bytes → State → State → Type 0
-RefusesModel model old new = RefusesBy (FileRefuses old model) old new
 
 -- What `solve` promises.
 
@@ -173,8 +148,8 @@ ending_of (answer.Unfinished found) = end.Unfinished
 pub record AnswerPromise (model log : Bytes) (limit : ℕ) (result : Ended) (old new : State) : Type 0 where
   pub m : Data
   pub solved : Solved
-  -- the text of the model's file deserves this model, which is one that the search serves
-  pub deserved : FileServes old model m
+  -- the text of the model's file deserves this model
+  pub deserved : FileDeserves old model (Accepted m)
   -- the answer is so. Optimal: the schedule is a solution of this exact value, and no solution is better. Feasible: it is a
   -- solution. Infeasible: there is none. Unfinished: the schedule, if there is one, is a solution of this exact value
   pub answer : IsAnswer m solved.answer
@@ -198,9 +173,9 @@ pub data CutShort (model log : Bytes) (limit : ℕ) (old new : State) : Type 0 w
   -- no log was created, and nothing was printed
   before_log : new ≡ record old { model = new.model; err = new.err; faults = new.faults } → CutShort model log limit old new
   -- the log of the model that the text deserves was begun, and nothing was printed
-  in_log : (m : Data) → FileServes old model m → CreatesLog log old new → HoldsBegunLog m old.logged new.logged → new.out ≡ old.out → CutShort model log limit old new
+  in_log : (m : Data) → FileDeserves old model (Accepted m) → CreatesLog log old new → HoldsBegunLog m old.logged new.logged → new.out ≡ old.out → CutShort model log limit old new
   -- the log is whole, and a front part of the answer's text was printed
-  in_answer : (m : Data) (solved : Solved) → FileServes old model m → IsAnswer m solved.answer → CreatesLog log old new → LogPromise m limit solved old.logged new.logged
+  in_answer : (m : Data) (solved : Solved) → FileDeserves old model (Accepted m) → IsAnswer m solved.answer → CreatesLog log old new → LogPromise m limit solved old.logged new.logged
       → AppendedFrom (answer_text m solved) old.out new.out → CutShort model log limit old new
 
 -- by its ending; no other comes
@@ -224,7 +199,7 @@ pub record SolvePromise (model log : Bytes) (limit : ℕ) (result : Ended) (old 
 -- this count of nodes, and what the verdict says of the model is so, whoever wrote the log.
 pub record AcceptsLog (model log : Bytes) (v : Verdict) (n : ℕ) (s : State) : Type 0 where
   pub m : Data
-  pub deserved : FileServes s model m
+  pub deserved : FileDeserves s model (Accepted m)
   pub judged : IfFile s log (λ bytes. IsAccepted m (log_bytes bytes) v n × (IsTooLong m (log_bytes bytes) → ⊥))
   pub means : Means m v
 
@@ -237,8 +212,8 @@ pub record AcceptPromise (model log : Bytes) (old new : State) : Type 0 where
 
 -- it is refused at the first line that is wrong or missing, or is too long without one; this is told
 pub data RefusesLog (model log : Bytes) (old new : State) : Type 0 where
-  at_line : (m : Data) (k : ℕ) → FileServes old model m → IfFile old log (λ bytes. IsRefused m (log_bytes bytes) k × (IsTooLong m (log_bytes bytes) → ⊥)) → Tells (log_line k) old new → RefusesLog model log old new
-  too_long : (m : Data) → FileServes old model m → IfFile old log (λ bytes. IsTooLong m (log_bytes bytes)) → Tells too_long_line old new → RefusesLog model log old new
+  at_line : (m : Data) (k : ℕ) → FileDeserves old model (Accepted m) → IfFile old log (λ bytes. IsRefused m (log_bytes bytes) k × (IsTooLong m (log_bytes bytes) → ⊥)) → Tells (log_line k) old new → RefusesLog model log old new
+  too_long : (m : Data) → FileDeserves old model (Accepted m) → IfFile old log (λ bytes. IsTooLong m (log_bytes bytes)) → Tells too_long_line old new → RefusesLog model log old new
 
 -- after a fault nothing was printed, or a front part of the text of a log that is accepted
 abbrev pub AcceptsPart : Bytes → Bytes → State → State → Type 0
@@ -258,7 +233,7 @@ pub record CheckPromise (model log : Bytes) (result : Ended) (old new : State) :
   pub only : new ≡ record old { model = new.model; log = new.log; out = new.out; err = new.err; faults = new.faults }
   pub ends : CheckEnds model log result old new
 
--- What `verify` promises. It serves each model of the language.
+-- What `verify` promises.
 
 -- the schedule's bytes are within their limit, and spell this assignment
 abbrev pub SpellsWithin : Data → Bytes → Assignment → Type 0
@@ -311,7 +286,7 @@ VerifiesPart model schedule old new =
 -- by its ending; no other comes
 abbrev pub VerifyEnds : Bytes → Bytes → Ended → State → State → Type 0
 VerifyEnds model schedule end.Done old new = VerifiesSchedule model schedule old new
-VerifyEnds model schedule end.ModelRefused old new = RefusesText model old new
+VerifyEnds model schedule end.ModelRefused old new = RefusesModel model old new
 VerifyEnds model schedule end.ScheduleRefused old new = RefusesSchedule model schedule old new
 VerifyEnds model schedule end.Fault old new = VerifiesPart model schedule old new
 VerifyEnds model schedule end.NoMemory old new = new.out ≡ old.out
@@ -337,7 +312,7 @@ ShowsPart model old new = (new.out ≡ old.out) ⊎ ((m : Data) × FileDeserves 
 -- by its ending; no other comes
 abbrev pub ShowEnds : Bytes → Ended → State → State → Type 0
 ShowEnds model end.Done old new = ShowsModel model old new
-ShowEnds model end.ModelRefused old new = RefusesText model old new
+ShowEnds model end.ModelRefused old new = RefusesModel model old new
 ShowEnds model end.Fault old new = ShowsPart model old new
 ShowEnds model end.NoMemory old new = new.out ≡ old.out
 ShowEnds model _ old new = ⊥

@@ -1,5 +1,5 @@
 -- What each step of a command does to the desk on the way.
-use Rattle.std.specs.Prelude.{◌≡◌, ◌⊎◌, ℕ, ◌≤◌, true, false, IsTrue, List, Result, Ok, Err, ⊤, ◌+◌, Option, Some, None, take}
+use Rattle.std.specs.Prelude.{◌≡◌, ◌⊎◌, ℕ, ◌≤◌, true, List, Result, Ok, Err, ⊤, ◌+◌, Option, Some, None, take}
 use Rattle.sched_base.specs.State.{State, with_log, with_faults}
 use Rattle.sched_base.specs.Calls.{Rose}
 use Rattle.sched_model.specs.declared.types.Solved.{Solved}
@@ -7,7 +7,6 @@ use Rattle.sched_model.specs.declared.types.Assignment.{Assignment}
 use Rattle.sched_model.specs.Data.{Data}
 use Rattle.sched_model.specs.Solution.{IsSolution}
 use Rattle.cpo_elab.specs.Answers.Answer.{Accepted, Refused}
-use Rattle.refute_basic.specs.Served.{is_served}
 use Rattle.kernel.specs.Promises.{Means}
 use Rattle.textline.specs.Lines.{Bytes}
 use Rattle.checker.specs.declared.judging.Checked.{Checked}
@@ -20,7 +19,7 @@ use Rattle.commands.specs.declared.stop.Stop.{Stop}
 use Rattle.commands.specs.declared.stop.Stop.TheVariants as stop
 use Rattle.commands.specs.Ended.{is_success}
 use Rattle.commands.specs.Told.{Reports, fault_line, memory_line, refusal_line, log_line, too_long_line, unfit_line}
-use Rattle.commands.specs.Runs.{IfFile, FileDeserves, FileServes, FileRefuses, not_served, HasFile, LogPromise, HoldsBegunLog, AnswerPromise, CutShort, AcceptsPart, AcceptPromise, ShowsModel, ShowsPart, model_bytes, ReadsModel, ReadsLog, schedule_limit, ReadsSchedule, SpellsWithin, FailsFirst, IsUnfit, VerifiesSchedule, VerifiesPart, RefusalDue}
+use Rattle.commands.specs.Runs.{IfFile, FileDeserves, HasFile, LogPromise, HoldsBegunLog, AnswerPromise, CutShort, AcceptsPart, AcceptPromise, ShowsModel, ShowsPart, model_bytes, ReadsModel, ReadsLog, schedule_limit, ReadsSchedule, SpellsWithin, FailsFirst, IsUnfit, VerifiesSchedule, VerifiesPart, RefusalDue}
 
 -- Reading the model.
 
@@ -41,13 +40,6 @@ StopsText name old new stop.NoMemory = ⊤
 StopsText name old new (stop.ModelRefused r) = (new.faults ≡ old.faults) × FileDeserves old name (Refused r) × ReadsModel name old new
 StopsText name old new _ = ⊥
 
--- why there is no model that is served
-abbrev pub StopsReading : Bytes → State → State → Stop → Type 0
-StopsReading name old new stop.Fault = IsFault name old new
-StopsReading name old new stop.NoMemory = ⊤
-StopsReading name old new (stop.ModelRefused r) = (new.faults ≡ old.faults) × FileRefuses old name r × ReadsModel name old new
-StopsReading name old new _ = ⊥
-
 abbrev pub Fetches : Bytes → Result (List ℕ) Stop → State → State → Type 0
 Fetches name (Ok bytes) old new = (new.faults ≡ old.faults) × IfFile old name (λ bs. bytes ≡ model_bytes bs) × ReadsModel name old new
 Fetches name (Err s) old new = StopsText name old new s
@@ -55,15 +47,6 @@ Fetches name (Err s) old new = StopsText name old new s
 abbrev pub Reads : Bytes → Result Data Stop → State → State → Type 0
 Reads name (Ok m) old new = (new.faults ≡ old.faults) × FileDeserves old name (Accepted m) × ReadsModel name old new
 Reads name (Err s) old new = StopsText name old new s
-
--- the model, where it is served
-abbrev pub Serves : Data → Result Data Stop → Type 0
-Serves m (Ok k) = (k ≡ m) × IsTrue (is_served m)
-Serves m (Err s) = (s ≡ stop.ModelRefused not_served) × (is_served m ≡ false)
-
-abbrev pub Loads : Bytes → Result Data Stop → State → State → Type 0
-Loads name (Ok m) old new = (new.faults ≡ old.faults) × FileServes old name m × ReadsModel name old new
-Loads name (Err s) old new = StopsReading name old new s
 
 -- Searching with a log.
 
@@ -81,7 +64,7 @@ abbrev pub SolveTried : Bytes → Bytes → ℕ → Result Ended Stop → State 
 SolveTried model log limit (Ok ended) old new = (new.faults ≡ old.faults) × (is_success ended ≡ true) × AnswerPromise model log limit ended old new × ReadsModel model old new
 SolveTried model log limit (Err stop.Fault) old new = IsFault model old new × CutShort model log limit old new
 SolveTried model log limit (Err stop.NoMemory) old new = (new.out ≡ old.out) × CutShort model log limit old new
-SolveTried model log limit (Err (stop.ModelRefused r)) old new = OnlyReads old new × (new.faults ≡ old.faults) × FileRefuses old model r × ReadsModel model old new
+SolveTried model log limit (Err (stop.ModelRefused r)) old new = OnlyReads old new × (new.faults ≡ old.faults) × FileDeserves old model (Refused r) × ReadsModel model old new
 SolveTried model log limit (Err _) old new = ⊥
 
 pub record TriesSolve (model log : Bytes) (limit : ℕ) (result : Result Ended Stop) (old new : State) : Type 0 where
@@ -110,9 +93,9 @@ abbrev pub CheckTried : Bytes → Bytes → Result Ended Stop → State → Stat
 CheckTried model log (Ok ended) old new = (new.faults ≡ old.faults) × (ended ≡ end.Accepted) × AcceptPromise model log old new × ReadsModel model old new × ReadsLog log old new
 CheckTried model log (Err stop.Fault) old new = Rose old.faults new.faults × (old.calm ≡ true → HasFile old model → HasFile old log → ⊥) × AcceptsPart model log old new
 CheckTried model log (Err stop.NoMemory) old new = new.out ≡ old.out
-CheckTried model log (Err (stop.ModelRefused r)) old new = OnlyReads old new × (new.faults ≡ old.faults) × FileRefuses old model r × ReadsModel model old new
-CheckTried model log (Err (stop.LogRefused k)) old new = (new.out ≡ old.out) × ((m : Data) × FileServes old model m × IfFile old log (λ bytes. IsRefused m (log_bytes bytes) k × (IsTooLong m (log_bytes bytes) → ⊥))) × ReadsModel model old new × ReadsLog log old new
-CheckTried model log (Err stop.LogTooLong) old new = (new.out ≡ old.out) × ((m : Data) × FileServes old model m × IfFile old log (λ bytes. IsTooLong m (log_bytes bytes))) × ReadsModel model old new × ReadsLog log old new
+CheckTried model log (Err (stop.ModelRefused r)) old new = OnlyReads old new × (new.faults ≡ old.faults) × FileDeserves old model (Refused r) × ReadsModel model old new
+CheckTried model log (Err (stop.LogRefused k)) old new = (new.out ≡ old.out) × ((m : Data) × FileDeserves old model (Accepted m) × IfFile old log (λ bytes. IsRefused m (log_bytes bytes) k × (IsTooLong m (log_bytes bytes) → ⊥))) × ReadsModel model old new × ReadsLog log old new
+CheckTried model log (Err stop.LogTooLong) old new = (new.out ≡ old.out) × ((m : Data) × FileDeserves old model (Accepted m) × IfFile old log (λ bytes. IsTooLong m (log_bytes bytes))) × ReadsModel model old new × ReadsLog log old new
 CheckTried model log (Err (stop.ScheduleRefused r)) old new = ⊥
 
 pub record TriesCheck (model log : Bytes) (result : Result Ended Stop) (old new : State) : Type 0 where

@@ -5,7 +5,7 @@ ghost use Rattle.commands.specs.Tries.{JudgesFile, OnlyJudges, TriesCheck};
 
 use crate::accepted::check_bytes;
 use crate::ended::Ended;
-use crate::load::load;
+use crate::load::read;
 use crate::report::end_stopped;
 use crate::stop::Stop;
 use checker::{Checked, check};
@@ -32,7 +32,7 @@ fn judge_file<D: Desk>(
 fn check_file<D: Desk>(alloc: Global, desk: &mut D, name: &str, log: &str) -> Result<Ended, Stop>
     ensures { TriesCheck name.now log.now result (D.state desk.old) (D.state desk.new) }
 {
-    let model = load(alloc, desk, name)?;
+    let model = read(alloc, desk, name)?;
     let checked = judge_file(alloc, desk, &model, log)?;
     let text = check_bytes(alloc, checked)?;
     match desk.write(Port::Out, text.as_slice()) {

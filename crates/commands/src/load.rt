@@ -1,9 +1,7 @@
-ghost use Rattle.commands.specs.Tries.{Fetches, Loads, OnlyReads, Reads, Serves};
+ghost use Rattle.commands.specs.Tries.{Fetches, OnlyReads, Reads};
 
 use crate::stop::Stop;
 use cpo_elab::read_model;
-use cpo_text::Refusal;
-use refute_basic::is_served;
 use sched_base::{Desk, Inlet, List, read_up_to};
 use sched_model::Model;
 use std::alloc::Global;
@@ -29,32 +27,4 @@ pub fn read<D: Desk>(alloc: Global, desk: &mut D, name: &str) -> Result<Model, S
     let bytes = fetch(alloc, desk, name)?;
     let model = read_model(alloc, bytes.as_slice())?;
     Ok(model)
-}
-
-/// The refusal of a model that the search doesn't serve.
-const NOT_SERVED: Refusal = Refusal {
-    number: 15,
-    statement: 0,
-    at: 0,
-};
-
-/// The model, if the search serves it.
-fn served(model: Model) -> Result<Model, Stop>
-    ensures { Serves model result }
-{
-    if !is_served(&model) {
-        return Err(Stop::ModelRefused(NOT_SERVED));
-    }
-    Ok(model)
-}
-
-/// Reads the model's file, and the model that it holds, if the search serves that.
-pub fn load<D: Desk>(alloc: Global, desk: &mut D, name: &str) -> Result<Model, Stop>
-    ensures only { OnlyReads (D.state desk.old) (D.state desk.new) }
-    ensures loads { Loads name.now result (D.state desk.old) (D.state desk.new) }
-{
-    match read(alloc, desk, name) {
-        Ok(model) => served(model),
-        Err(stop) => Err(stop),
-    }
 }

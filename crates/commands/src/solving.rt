@@ -1,13 +1,12 @@
-ghost use Rattle.std.specs.Prelude.{◌≡◌, true, Some, IsTrue};
+ghost use Rattle.std.specs.Prelude.{◌≡◌, true, Some};
 ghost use Rattle.command_line.specs.Commands.{Solve};
 ghost use Rattle.command_line.specs.Found.{IsLimit};
-ghost use Rattle.refute_basic.specs.Served.{is_served};
 ghost use Rattle.commands.specs.Ended.{is_success};
 ghost use Rattle.commands.specs.Runs.{RunPromise, ending_of};
 ghost use Rattle.commands.specs.Tries.{Searches, TriesSolve};
 
 use crate::ended::Ended;
-use crate::load::load;
+use crate::load::read;
 use crate::report::end_stopped;
 use crate::stop::Stop;
 use sched_base::Desk;
@@ -36,8 +35,7 @@ fn search_logged<D: Desk>(
     log: &str,
     nodes: u32,
 ) -> Result<Solved, Stop>
-    requires limit { IsLimit nodes }
-    requires served { IsTrue (is_served model.now) }
+    requires { IsLimit nodes }
     ensures { Searches model.now log.now nodes result (D.state desk.old) (D.state desk.new) }
 {
     desk.create_log(log)?;
@@ -56,7 +54,7 @@ fn solve_file<D: Desk>(
     requires { IsLimit nodes }
     ensures { TriesSolve name.now log.now nodes result (D.state desk.old) (D.state desk.new) }
 {
-    let model = load(alloc, desk, name)?;
+    let model = read(alloc, desk, name)?;
     let solved = search_logged(alloc, desk, &model, log, nodes)?;
     match write_answer(&model, &solved, desk) {
         Ok(()) => Ok(ending(&solved.answer)),

@@ -6,23 +6,20 @@ use Rattle.commands.proofs.solving.solve_file.Goals as goal
 pub returns-in_err-solved : goal.returns-in_err-solved
 returns-in_err-solved g c =
     let old = g.D.Desk.state c.args.desk.now in
-    let read = g.D.Desk.state c.load.new.desk in
+    let read = g.D.Desk.state c.read.new.desk in
     let after = g.D.Desk.state c.search_logged.new.desk in
     let is : c.from_residual-in_err-solved.result ≡ Err c.in_err-solved.field-0.0 = search rules in
     subst (λ r. TriesSolve c.args.name.now c.args.log.now c.args.nodes r old after) (sym is)
-    (stopped c.in_ok-model.model c.args.nodes c.args.name.now c.args.log.now c.in_err-solved.field-0.0 old read after c.in_ok-model.ensures.only c.in_ok-model.ensures.loads.0 c.in_ok-model.ensures.loads.1 c.in_err-solved.ensures)
+    (stopped c.in_ok-model.model c.args.nodes c.args.name.now c.args.log.now c.in_err-solved.field-0.0 old read after c.in_ok-model.ensures.only c.in_ok-model.ensures.reads.0 c.in_ok-model.ensures.reads.1 c.in_err-solved.ensures)
 
 pub returns-in-Ok : goal.returns-in-Ok
 returns-in-Ok g c =
     printed c.in_ok-model.model c.args.nodes c.in_ok-solved.solved c.args.name.now c.args.log.now c.ending.result _
-    (g.D.Desk.state c.args.desk.now) (g.D.Desk.state c.load.new.desk) (g.D.Desk.state c.search_logged.new.desk) (g.D.Desk.state c.write_answer.new.desk)
-    c.in_ok-model.ensures.only c.in_ok-model.ensures.loads.0 c.in_ok-model.ensures.loads.1 c.in_ok-model.ensures.loads.2 c.in_ok-solved.ensures c.in-Ok.ensures c.ending.ensures.is c.ending.ensures.success
+    (g.D.Desk.state c.args.desk.now) (g.D.Desk.state c.read.new.desk) (g.D.Desk.state c.search_logged.new.desk) (g.D.Desk.state c.write_answer.new.desk)
+    c.in_ok-model.ensures.only c.in_ok-model.ensures.reads.0 c.in_ok-model.ensures.reads.1 c.in_ok-model.ensures.reads.2 c.in_ok-solved.ensures c.in-Ok.ensures c.ending.ensures.is c.ending.ensures.success
 
 pub returns : goal.returns
 returns g c =
     half_printed c.in_ok-model.model c.args.nodes c.in_ok-solved.solved c.args.name.now c.args.log.now _
-    (g.D.Desk.state c.args.desk.now) (g.D.Desk.state c.load.new.desk) (g.D.Desk.state c.search_logged.new.desk) (g.D.Desk.state c.write_answer.new.desk)
-    c.in_ok-model.ensures.only c.in_ok-model.ensures.loads.0 c.in_ok-model.ensures.loads.1 c.in_ok-solved.ensures c.in-Err.ensures
-
-pub search_logged-requires-clause-served : goal.search_logged-requires-clause-served
-search_logged-requires-clause-served g c = c.in_ok-model.ensures.loads.1.1
+    (g.D.Desk.state c.args.desk.now) (g.D.Desk.state c.read.new.desk) (g.D.Desk.state c.search_logged.new.desk) (g.D.Desk.state c.write_answer.new.desk)
+    c.in_ok-model.ensures.only c.in_ok-model.ensures.reads.0 c.in_ok-model.ensures.reads.1 c.in_ok-solved.ensures c.in-Err.ensures
