@@ -1,82 +1,63 @@
-//! Looks in which a witness of a span, an alternative or a synchronization is found, and looks in
-//! which none is, worked out by hand.
+//! Lines with witnesses of a span, an alternative or a synchronization, worked out by hand.
 use crate::refuting_tests::is_so;
-use cpo_elab::read_model;
-use refute_hier::{HierWitness, find_hier};
-use region::Region;
-use sched_base::NoMemory;
-use sched_model::Model;
-use std::alloc::Global;
 use std::test::Fail;
 
-/// Texts, and the witness that is found in the first region of the model.
-const FOUND: [(&str, Option<HierWitness>); 9] = [
-    ("a = intervalVar(size=1,start=0,end=1);", None),
+/// Models of a few lines, and whether the witness of the line refutes.
+const SMALL: [(&str, &str, bool); 8] = [
+    // a part that is as the whole
     (
         "a = intervalVar(size=1,start=0,end=1); b = intervalVar(size=1,start=0,end=1); span(a,[b]); alternative(a,[b]); synchronize(a,[b]);",
-        None,
+        "f SPAN 0 2 0\n",
+        false,
     ),
     // no part starts with it
     (
         "a = intervalVar(size=2,start=0,end=2); b = intervalVar(size=1,start=1,end=2); span(a,[b]);",
-        Some(HierWitness::Span { c: 0, r: 2, i: 0 }),
+        "f SPAN 0 2 0\n",
+        true,
     ),
     // its second part ends after it
     (
         "a = intervalVar(size=1,start=0,end=1); b = intervalVar(size=1,start=0,end=1); c = intervalVar(size=2,start=0,end=2); span(a,[b,c]);",
-        Some(HierWitness::Span { c: 0, r: 5, i: 1 }),
+        "f SPAN 0 5 1\n",
+        true,
     ),
     // whether it is present is open, and both parts are
     (
         "a = intervalVar(optional); b = intervalVar(); c = intervalVar(); alternative(a,[b,c]);",
-        Some(HierWitness::Alt {
-            c: 0,
-            r: 2,
-            i: 0,
-            j: 1,
-        }),
+        "f ALT 0 2 0 1\n",
+        true,
     ),
     // one part is open, and may be the one
     (
         "a = intervalVar(); b = intervalVar(optional); c = intervalVar(); alternative(a,[b,c]);",
-        None,
-    ),
-    // no part can stand as it does
-    (
-        "a = intervalVar(start=5..9); b = intervalVar(optional,start=0..4); c = intervalVar(optional,end=0..4); alternative(a,[b,c]);",
-        Some(HierWitness::Alt {
-            c: 0,
-            r: 3,
-            i: 0,
-            j: 0,
-        }),
+        "f ALT 0 2 0 1\n",
+        false,
     ),
     // of the second constraint
     (
         "a = intervalVar(size=1,start=0,end=1); b = intervalVar(size=1,start=0,end=1); c = intervalVar(size=1,start=1,end=2); synchronize(a,[b]); synchronize(a,[b,c]);",
-        Some(HierWitness::Sync { c: 1, i: 1 }),
+        "f SYNC 1 1\n",
+        true,
+    ),
+    (
+        "a = intervalVar(size=1,start=0,end=1); b = intervalVar(size=1,start=0,end=1); c = intervalVar(size=1,start=1,end=2); synchronize(a,[b]); synchronize(a,[b,c]);",
+        "f SYNC 0 1\n",
+        false,
     ),
     // it may be absent
     (
         "a = intervalVar(optional,size=1,start=0,end=1); b = intervalVar(size=1,start=1,end=2); synchronize(a,[b]);",
-        None,
+        "f SYNC 0 0\n",
+        false,
     ),
 ];
 
-fn found_at(alloc: Global, model: &Model) -> Result<Option<HierWitness>, NoMemory> {
-    let region = Region::root(alloc, model)?;
-    Ok(find_hier(model, &region.look(None, None)))
-}
-
-fn found_in(alloc: Global, text: &str) -> Result<Option<HierWitness>, Fail> {
-    let model = read_model(alloc, text.as_bytes())?;
-    Ok(found_at(alloc, &model)?)
-}
-
 #[test]
-fn finds_witnesses(rt: HostRuntime) -> Result<(), Fail> {
-    for (text, wanted) in FOUND {
-        assert_eq!(rt; found_in(rt.alloc(), text)?, wanted, "{text}");
+fn small_rows(rt: HostRuntime) -> Result<(), Fail> {
+    for (n, row) in SMALL.iter().enumerate() {
+        let (text, line, want) = *row;
+        assert!(rt; is_so(rt.alloc(), text, None, line, want)?, "row {n}");
     }
     Ok(())
 }

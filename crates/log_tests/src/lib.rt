@@ -5,6 +5,8 @@
 #![tactic(auto)]
 
 #[cfg(test)]
+mod function_tests;
+#[cfg(test)]
 mod hier_tests;
 #[cfg(test)]
 mod judging_tests;

@@ -5,9 +5,11 @@ ghost use Rattle.region.specs.Looks.{IsRegionOf};
 use crate::lines::{guess_of, line, witness_of};
 use cpo_elab::read_model;
 use kernel::{Line, NoExtra, NoWitness, Witness};
-use refute_basic::{Basic, BasicWitness, find_leaf, is_served, settled_slot};
+use refute_basic::{Basic, BasicWitness, settled_slot};
+use refute_cumul::OnCumul;
 use refute_hier::Hier;
 use refute_seq::OnSequence;
+use refute_state::OnState;
 use region::{Guess, Look, Refuter, Region, is_tight, refutes, tighten};
 use sched_base::{Itv, NoMemory};
 use sched_model::{Model, Slot};
@@ -208,9 +210,17 @@ fn shown_by(
             Some(*g),
             w,
         )),
+        Line::Derive(g, Witness::Cumul(w)) => {
+            Some(shows::<OnCumul>(model, region, best, Some(*g), w))
+        }
+        Line::Derive(g, Witness::State(w)) => {
+            Some(shows::<OnState>(model, region, best, Some(*g), w))
+        }
         Line::Fail(Witness::Basic(w)) => Some(shows::<Basic>(model, region, best, None, w)),
         Line::Fail(Witness::Hier(w)) => Some(shows::<Hier>(model, region, best, None, w)),
         Line::Fail(Witness::Seq(w)) => Some(shows::<OnSequence>(model, region, best, None, w)),
+        Line::Fail(Witness::Cumul(w)) => Some(shows::<OnCumul>(model, region, best, None, w)),
+        Line::Fail(Witness::State(w)) => Some(shows::<OnState>(model, region, best, None, w)),
         _ => None,
     }
 }
@@ -323,51 +333,6 @@ fn weakens_guesses(rt: HostRuntime) -> Result<(), Fail> {
     Ok(())
 }
 
-/// A model, the best value so far, and the leaf that is found at the root.
-type Leaf = (&'static str, Option<i64>, Option<(u32, u32)>);
-
-const FOUND: [Leaf; 8] = [
-    (NO_ROOM, None, Some((0, 0))),
-    (PLACED, None, None),
-    (BEHIND_ITSELF, None, Some((1, 0))),
-    (ABSENT, None, Some((1, 0))),
-    (EARLY, None, None),
-    (EARLY, Some(1), Some((2, 0))),
-    (LATE, None, None),
-    (LATE, Some(1), Some((2, 0))),
-];
-
-fn finds(model: &Model, look: &Look<'_>, leaf: Option<(u32, u32)>) -> bool
-    requires { IsRegionOf model.now look.now.region }
-{
-    if !look.settled() {
-        return false;
-    }
-    match find_leaf(model, look) {
-        Some(BasicWitness::Leaf { k, u }) => leaf == Some((k, u)),
-        Some(_) => false,
-        None => leaf.is_none(),
-    }
-}
-
-fn finds_at(alloc: Global, model: &Model, row: &Leaf) -> Result<bool, NoMemory> {
-    let region = Region::root(alloc, model)?;
-    Ok(finds(model, &region.look(None, row.1), row.2))
-}
-
-fn finds_in(alloc: Global, row: &Leaf) -> Result<bool, Fail> {
-    let model = read_model(alloc, row.0.as_bytes())?;
-    Ok(finds_at(alloc, &model, row)?)
-}
-
-#[test]
-fn finds_leaves(rt: HostRuntime) -> Result<(), Fail> {
-    for (n, row) in FOUND.iter().enumerate() {
-        assert!(rt; finds_in(rt.alloc(), row)?, "row {n}");
-    }
-    Ok(())
-}
-
 fn slot_at(look: &Look<'_>) -> Option<Slot> {
     if look.len() == 0 {
         return None;
@@ -389,31 +354,5 @@ fn slot_in(alloc: Global, text: &str) -> Result<Option<Slot>, Fail> {
 fn settled_slots(rt: HostRuntime) -> Result<(), Fail> {
     let slot = Some(Slot::Present { s: 0, e: 1 });
     assert_eq!(rt; slot_in(rt.alloc(), PLACED)?, slot);
-    Ok(())
-}
-
-/// Texts, and whether the search takes their models.
-const SERVED: [(&str, bool); 9] = [
-    ("", true),
-    ("a = intervalVar(); span(a,[]);", true),
-    ("a = intervalVar(); alternative(a,[a]);", true),
-    ("a = intervalVar(); synchronize(a,[a]);", true),
-    (BEHIND_ITSELF, true),
-    (ABSENT, true),
-    (EARLY, true),
-    ("a = intervalVar(); p = sequenceVar([]);", true),
-    ("a = intervalVar(); pulse(a,1) <= 2;", false),
-];
-
-fn is_served_in(alloc: Global, text: &str) -> Result<bool, Fail> {
-    let model = read_model(alloc, text.as_bytes())?;
-    Ok(is_served(&model))
-}
-
-#[test]
-fn served_models(rt: HostRuntime) -> Result<(), Fail> {
-    for (text, served) in SERVED {
-        assert_eq!(rt; is_served_in(rt.alloc(), text)?, served, "{text}");
-    }
     Ok(())
 }

@@ -169,7 +169,7 @@ fn walked_logs(rt: HostRuntime) -> Result<(), Fail> {
 }
 
 /// Texts that are refused, and how.
-const REFUSED: [(&str, &str); 10] = [
+const REFUSED: [(&str, &str); 9] = [
     ("a = intervalVar(); $", "1 statement 2 at 19"),
     ("a = intervalVar()", "2 statement 1 at 0"),
     (
@@ -188,11 +188,6 @@ const REFUSED: [(&str, &str); 10] = [
         "12 statement 3 at 39",
     ),
     ("search = intervalVar();", "14 statement 1 at 0"),
-    // not served yet
-    (
-        "a = intervalVar(size=2); pulse(a,1) <= 1;",
-        "15 statement 0 at 0",
-    ),
 ];
 
 /// Texts that are read, all of one model: an interval of size 1 that may start from 1 to 5.

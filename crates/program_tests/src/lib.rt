@@ -6,6 +6,8 @@
 #[cfg(test)]
 mod command_tests;
 #[cfg(test)]
+mod function_tests;
+#[cfg(test)]
 mod model_tests;
 #[cfg(test)]
 mod sequence_tests;

@@ -143,30 +143,35 @@ const OVEN: &str =
     "change = transitionMatrix([[0, 4], [6, 0]]);\noven = stateFunction(change);\nrye = intervalVar(size=5, end=0..40);\nwheat = intervalVar(size=3, end=0..40);\nrolls = intervalVar(size=2, end=0..40);\nalwaysEqual(oven, rye, 0);\nalwaysEqual(oven, wheat, 1, 1, 1);\nalwaysEqual(oven, rolls, 1);\nsweep = intervalVar(size=1, end=0..40);\nalwaysNoState(oven, sweep);     // it is swept while it is off\nminimize(max([endOf(rye), endOf(wheat), endOf(rolls)]));\n";
 
 const PAINT_SHOP: &str =
-    "// Two parts: each is cut on saw A or B, then painted in one booth by a crew of two.\n// The booth is cleaned between colours: 3 units from red to blue, 1 from blue to red.\n// It is read today, and not solved yet: cumulative functions come later.\ncut1 = intervalVar(size=1..9);\ncut1A = intervalVar(optional, size=4);\ncut1B = intervalVar(optional, size=6);\ncut2 = intervalVar();\ncut2A = intervalVar(optional, size=3);\ncut2B = intervalVar(optional, size=5);\npaint1 = intervalVar(size=2);\npaint2 = intervalVar(size=2);\nalternative(cut1, [cut1A, cut1B]);\nalternative(cut2, [cut2A, cut2B]);\nnoOverlap([cut1A, cut2A]);\nnoOverlap([cut1B, cut2B]);\nM = transitionMatrix([[0,3],[1,0]]);\nbooth = sequenceVar([paint1, paint2], types=[0,1]);\nnoOverlap(booth, M);\nendBeforeStart(cut1, paint1);\nendBeforeStart(cut2, paint2);\ncrew = pulse(cut1,1) + pulse(cut2,1) + pulse(paint1,1) + pulse(paint2,1);\ncrew <= 2;   /* two workers */\nminimize(max([endOf(paint1), endOf(paint2)]));\n";
+    "// Two parts: each is cut on saw A or B, then painted in one booth by a crew of two.\n// The booth is cleaned between colours: 3 units from red to blue, 1 from blue to red.\ncut1 = intervalVar(size=1..9);\ncut1A = intervalVar(optional, size=4);\ncut1B = intervalVar(optional, size=6);\ncut2 = intervalVar();\ncut2A = intervalVar(optional, size=3);\ncut2B = intervalVar(optional, size=5);\npaint1 = intervalVar(size=2);\npaint2 = intervalVar(size=2);\nalternative(cut1, [cut1A, cut1B]);\nalternative(cut2, [cut2A, cut2B]);\nnoOverlap([cut1A, cut2A]);\nnoOverlap([cut1B, cut2B]);\nM = transitionMatrix([[0,3],[1,0]]);\nbooth = sequenceVar([paint1, paint2], types=[0,1]);\nnoOverlap(booth, M);\nendBeforeStart(cut1, paint1);\nendBeforeStart(cut2, paint2);\ncrew = pulse(cut1,1) + pulse(cut2,1) + pulse(paint1,1) + pulse(paint2,1);\ncrew <= 2;   /* two workers */\nminimize(max([endOf(paint1), endOf(paint2)]));\n";
 
-/// Models that aren't served yet.
-const UNSERVED: [&str; 4] = [
-    OVEN,
-    PAINT_SHOP,
-    "a = intervalVar(size=3); f = pulse(a,2); f <= 4; minimize(endOf(a));",
-    "s = stateFunction(); a = intervalVar(size=2); alwaysEqual(s,a,0);",
+/// Models with cumulative and state functions, the status of `solve`, and how its answer begins and
+/// ends.
+const WITH_FUNCTIONS: [SolvedRow; 4] = [
+    (OVEN, 0, "optimal 12\nnodes ", "\nend\n"),
+    (
+        PAINT_SHOP,
+        0,
+        "optimal 8\nnodes ",
+        "\ncut1 0 6\ncut1A absent\ncut1B 0 6\ncut2 0 3\ncut2A 0 3\ncut2B absent\npaint1 6 8\npaint2 3 5\norder booth paint2 paint1\norder #1 cut2A\norder #2 cut1B\nend\n",
+    ),
+    (
+        "a = intervalVar(size=3); f = pulse(a,2); f <= 4; minimize(endOf(a));",
+        0,
+        "optimal 3\nnodes ",
+        "\na 0 3\nend\n",
+    ),
+    (
+        "s = stateFunction(); a = intervalVar(size=2); alwaysEqual(s,a,0);",
+        0,
+        "feasible\nnodes ",
+        "\na 0 2\nstate s 0 2 0\nend\n",
+    ),
 ];
 
-fn all_unserved(alloc: Global, words: &[&str], texts: &[&str]) -> Result<bool, NoMemory> {
-    for text in texts {
-        if !refuses(alloc, words, text, "15 statement 0 at 0")? {
-            return Ok(false);
-        }
-    }
-    Ok(true)
-}
-
 #[test]
-fn unserved_models(rt: HostRuntime) -> Result<(), Fail> {
-    let alloc = rt.alloc();
-    assert!(rt; all_unserved(alloc, &SOLVE, &UNSERVED)?);
-    assert!(rt; all_unserved(alloc, &CHECK, &UNSERVED)?);
+fn solved_with_functions(rt: HostRuntime) -> Result<(), Fail> {
+    assert!(rt; solves_all(rt.alloc(), &WITH_FUNCTIONS)?);
     Ok(())
 }
 

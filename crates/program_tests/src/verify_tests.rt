@@ -89,7 +89,7 @@ fn broken(rt: HostRuntime) -> Result<(), Fail> {
     Ok(())
 }
 
-/// A sequence, which the search doesn't serve yet, and no objective.
+/// A sequence, and no objective.
 const IN_ORDER: &str =
     "x = intervalVar(optional,size=2); y = intervalVar(size=3); noOverlap([x,y]);\n";
 
