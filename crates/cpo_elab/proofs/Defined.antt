@@ -5,7 +5,7 @@ use Rattle.std.proofs.lemmas.Bool.Decides.{nat_tests}
 use Rattle.std.proofs.lemmas.List.{length-map}
 use Rattle.std.proofs.lemmas.Bool.{and_parts, and_from}
 use Rattle.base_laws.specs.laws.Items.{all_push}
-use Rattle.base_laws.specs.laws.Truth.{all_three}
+use Rattle.base_laws.specs.laws.Truth.{all_three, all_four}
 use Rattle.sched_model.specs.declared.types.SequenceDef.{SequenceDef}
 use Rattle.sched_model.specs.declared.types.CumulDef.{CumulDef}
 use Rattle.sched_model.specs.Data.{Data, with_interval, with_matrix, with_sequence, with_cumul, with_state}
@@ -30,7 +30,6 @@ use Rattle.cpo_elab.proofs.Amounts.{types_small, cells_small, cell_number}
 use Rattle.cpo_elab.proofs.Intervals.{with_all, plain_fits}
 use Rattle.cpo_elab.proofs.Functions.{parts_well_made}
 use Rattle.cpo_elab.proofs.Extends.{extends_interval, extends_matrix, extends_sequence, extends_cumul, extends_state}
-use Rattle.cpo_elab.proofs.Growing.{all_four}
 use Rattle.cpo_elab.proofs.Kept.{kept}
 use Rattle.cpo_elab.proofs.Facts.{Facts}
 use Rattle.cpo_elab.specs.lemmas.Intervals.{name_kept}

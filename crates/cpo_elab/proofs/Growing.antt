@@ -2,7 +2,7 @@
 use Rattle.std.proofs.Common.{◌≡◌, ℕ, zero, suc, ℤ, pos, Bool, true, not, ◌&&◌, List, [], ◌∷◌, map, length, slice_index_or, Option, Some, None, is_some, nat_lt, int_le, refl, ap, subst, ◌∙◌}
 use Rattle.std.specs.List.{list_all}
 use Rattle.std.proofs.lemmas.Bool.{and_parts, and_from}
-use Rattle.base_laws.specs.laws.Truth.{three_true, four_true, all_three}
+use Rattle.base_laws.specs.laws.Truth.{three_true, four_true, all_three, all_four, all_five}
 use Rattle.base_laws.specs.laws.Items.{all_weaker}
 use Rattle.sched_base.specs.declared.ids.Itv.{Itv}
 use Rattle.sched_base.specs.declared.ids.Seq.{Seq}
@@ -120,12 +120,6 @@ held_in p q r s t h =
     let fourth = and_parts (p && q && r) s last.0 in
     let three = three_true p q r fourth.0 in
     (three.0, three.1, three.2, fourth.1, last.1)
-
-pub all_five : (p q r s t : Bool) → p ≡ true → q ≡ true → r ≡ true → s ≡ true → t ≡ true → (p && q && r && s && t) ≡ true
-all_five p q r s t first second third fourth fifth = and_from (p && q && r && s) t (and_from (p && q && r) s (all_three p q r first second third) fourth) fifth
-
-pub all_four : (p q r s : Bool) → p ≡ true → q ≡ true → r ≡ true → s ≡ true → (p && q && r && s) ≡ true
-all_four p q r s first second third fourth = and_from (p && q && r) s (all_three p q r first second third) fourth
 
 over_grows : (m n : Data) → Extends m n → (a : Itv) (xs : List Itv) → (is_itv m a && are_parts m xs) ≡ true → (is_itv n a && are_parts n xs) ≡ true
 over_grows m n more a xs h = let parts = and_parts (is_itv m a) (are_parts m xs) h in and_from (is_itv n a) (are_parts n xs) (itv_grows m n more a parts.0) (parts_grow m n more xs parts.1)

@@ -29,7 +29,7 @@ use Rattle.cpo_text.specs.declared.tree.Statement.TheVariants.{Constrain}
 use Rattle.cpo_elab.specs.Held.{logic_held, members_written}
 use Rattle.cpo_elab.specs.Elaborated.{expr_of, constraint_of, named_itself, with_unnamed, with_written, after}
 use Rattle.cpo_elab.specs.Drafts.{capped}
-use Rattle.cpo_elab.proofs.Truth.{same_bool}
+use Rattle.base_laws.specs.laws.Truth.{same_truth}
 
 below : (n k : ℕ) → nat_lt n k ≡ true → n < k
 below n k h = grind (arith, nat_tests)
@@ -54,7 +54,7 @@ nodes_constraint m c = let more = sum_by_push nodes_of m.constraints c in omega 
 -- one more thing of each kind
 
 pub room_interval : (m : Data) (d : IntervalDef) → is_within_limits m ≡ true → (nat_lt (length m.intervals) 2000 && nat_le (cell_count m) 999995) ≡ is_within_limits (with_interval d m)
-room_interval m d valid = same_bool (nat_lt (length m.intervals) 2000 && nat_le (cell_count m) 999995) (is_within_limits (with_interval d m)) there back where
+room_interval m d valid = same_truth (nat_lt (length m.intervals) 2000 && nat_le (cell_count m) 999995) (is_within_limits (with_interval d m)) there back where
   there : (nat_lt (length m.intervals) 2000 && nat_le (cell_count m) 999995) ≡ true → is_within_limits (with_interval d m) ≡ true
   there h =
       let p = and_parts (nat_lt (length m.intervals) 2000) (nat_le (cell_count m) 999995) h in let l = limits_of m valid in let few = below (length m.intervals) 2000 p.0 in let cells = at_most (cell_count m) 999995 p.1 in
@@ -75,7 +75,7 @@ room_interval m d valid = same_bool (nat_lt (length m.intervals) 2000 && nat_le 
 
 pub room_sequence : (m : Data) (d : SequenceDef) (n : ℕ) → is_within_limits m ≡ true → length d.members ≡ n
     → (nat_lt (length m.sequences) 200 && nat_le (cell_count m + pair_count n) 1000000) ≡ is_within_limits (with_sequence d m)
-room_sequence m d n valid is = ap (λ k. nat_lt (length m.sequences) 200 && nat_le (cell_count m + pair_count k) 1000000) (sym is) ∙ same_bool (nat_lt (length m.sequences) 200 && nat_le (cell_count m + pair_count (length d.members)) 1000000) (is_within_limits (with_sequence d m)) there back where
+room_sequence m d n valid is = ap (λ k. nat_lt (length m.sequences) 200 && nat_le (cell_count m + pair_count k) 1000000) (sym is) ∙ same_truth (nat_lt (length m.sequences) 200 && nat_le (cell_count m + pair_count (length d.members)) 1000000) (is_within_limits (with_sequence d m)) there back where
   there : (nat_lt (length m.sequences) 200 && nat_le (cell_count m + pair_count (length d.members)) 1000000) ≡ true → is_within_limits (with_sequence d m) ≡ true
   there h =
       let p = and_parts (nat_lt (length m.sequences) 200) (nat_le (cell_count m + pair_count (length d.members)) 1000000) h in let l = limits_of m valid in let few = below (length m.sequences) 200 p.0 in let cells = at_most (cell_count m + pair_count (length d.members)) 1000000 p.1 in
@@ -96,7 +96,7 @@ room_sequence m d n valid is = ap (λ k. nat_lt (length m.sequences) 200 && nat_
       (is_at_most (cell_count m + pair_count (length d.members)) 1000000 (omega (arith, l.cells, cells_sequence m d)))
 
 pub room_matrix : (m : Data) (d : MatrixDef) → is_within_limits m ≡ true → nat_lt (length m.matrices) 200 ≡ is_within_limits (with_matrix d m)
-room_matrix m d valid = same_bool (nat_lt (length m.matrices) 200) (is_within_limits (with_matrix d m)) there back where
+room_matrix m d valid = same_truth (nat_lt (length m.matrices) 200) (is_within_limits (with_matrix d m)) there back where
   there : nat_lt (length m.matrices) 200 ≡ true → is_within_limits (with_matrix d m) ≡ true
   there h = let l = limits_of m valid in let few = below (length m.matrices) 200 h in
       within_limits (with_matrix d m) (record {
@@ -114,7 +114,7 @@ room_matrix m d valid = same_bool (nat_lt (length m.matrices) 200) (is_within_li
   back h = let l = limits_of (with_matrix d m) h in is_below (length m.matrices) 200 (omega (arith, l.matrices, length-append m.matrices (d ∷ [])))
 
 pub room_state : (m : Data) (d : StateDef) → is_within_limits m ≡ true → nat_lt (length m.states) 200 ≡ is_within_limits (with_state d m)
-room_state m d valid = same_bool (nat_lt (length m.states) 200) (is_within_limits (with_state d m)) there back where
+room_state m d valid = same_truth (nat_lt (length m.states) 200) (is_within_limits (with_state d m)) there back where
   there : nat_lt (length m.states) 200 ≡ true → is_within_limits (with_state d m) ≡ true
   there h = let l = limits_of m valid in let few = below (length m.states) 200 h in
       within_limits (with_state d m) (record {
@@ -133,7 +133,7 @@ room_state m d valid = same_bool (nat_lt (length m.states) 200) (is_within_limit
 
 pub room_cumul : (m : Data) (d : CumulDef) → is_within_limits m ≡ true
     → (nat_lt (length m.cumuls) 2000 && nat_le (node_total m + length d.parts) 100000) ≡ is_within_limits (with_cumul d m)
-room_cumul m d valid = same_bool (nat_lt (length m.cumuls) 2000 && nat_le (node_total m + length d.parts) 100000) (is_within_limits (with_cumul d m)) there back where
+room_cumul m d valid = same_truth (nat_lt (length m.cumuls) 2000 && nat_le (node_total m + length d.parts) 100000) (is_within_limits (with_cumul d m)) there back where
   there : (nat_lt (length m.cumuls) 2000 && nat_le (node_total m + length d.parts) 100000) ≡ true → is_within_limits (with_cumul d m) ≡ true
   there h =
       let p = and_parts (nat_lt (length m.cumuls) 2000) (nat_le (node_total m + length d.parts) 100000) h in let l = limits_of m valid in let few = below (length m.cumuls) 2000 p.0 in let nodes = at_most (node_total m + length d.parts) 100000 p.1 in
@@ -184,7 +184,7 @@ constraint_back m c h = let l = limits_of (with_constraint c m) h in
 -- `last` is the test of the nodes, which says nothing where the constraint has none
 room_constraint : (m : Data) (c : Constraint) (k : ℕ) (last : Bool) → nodes_of c ≡ k → (is_within_limits m ≡ true → last ≡ nat_le (node_total m + k) 100000)
     → ((nat_lt (length m.constraints) 20000 && is_within_limits m) && last) ≡ is_within_limits (with_constraint c m)
-room_constraint m c k last is tests = same_bool ((nat_lt (length m.constraints) 20000 && is_within_limits m) && last) (is_within_limits (with_constraint c m)) there back where
+room_constraint m c k last is tests = same_truth ((nat_lt (length m.constraints) 20000 && is_within_limits m) && last) (is_within_limits (with_constraint c m)) there back where
   there : ((nat_lt (length m.constraints) 20000 && is_within_limits m) && last) ≡ true → is_within_limits (with_constraint c m) ≡ true
   there h =
       let p = and_parts (nat_lt (length m.constraints) 20000 && is_within_limits m) last h in let q = and_parts (nat_lt (length m.constraints) 20000) (is_within_limits m) p.0 in
@@ -257,6 +257,6 @@ unfolding capped
 room_back room total count n sums is fits = omega (arith, sums, is, fits)
 
 pub node_rooms : (room total count n : ℕ) → room + total ≡ 100000 → count ≡ capped n → nat_le count room ≡ nat_le (total + n) 100000
-node_rooms room total count n sums is = same_bool (nat_le count room) (nat_le (total + n) 100000)
+node_rooms room total count n sums is = same_truth (nat_le count room) (nat_le (total + n) 100000)
     (λ h. is_at_most (total + n) 100000 (room_there room total count n sums is (at_most count room h)))
     (λ h. is_at_most count room (room_back room total count n sums is (at_most (total + n) 100000 h)))

@@ -41,12 +41,11 @@ use Rattle.cpo_elab.proofs.Amounts.{int_small, delay_small, ordered, spans, amou
 use Rattle.cpo_elab.proofs.Functions.{parts_well_made}
 use Rattle.cpo_elab.proofs.Expressions.{expr_made}
 use Rattle.cpo_elab.proofs.Extends.{Extends, extends_itself, extends_cumul, window_grows}
-use Rattle.cpo_elab.proofs.Growing.{all_four, all_five}
 use Rattle.cpo_elab.proofs.Kept.{limits_without, with_constraint_valid}
 use Rattle.cpo_elab.proofs.Defined.{list_valid, unnamed_valid}
 use Rattle.cpo_elab.proofs.Facts.{Facts}
 use Rattle.cpo_elab.specs.lemmas.Names.{right_cum, lone_right}
-use Rattle.base_laws.specs.laws.Truth.{all_three}
+use Rattle.base_laws.specs.laws.Truth.{all_three, all_four, all_five}
 
 -- what a constraint writes without a name
 

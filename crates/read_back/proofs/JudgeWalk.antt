@@ -23,7 +23,7 @@ use Rattle.read_back.specs.Written.{IsWritten, is_written, is_one_bound, sequenc
 use Rattle.read_back.specs.Laws.{ExpressionsReturn, FactorsReturn, ExpressionsNameIntervals}
 use Rattle.read_back.proofs.Members.{listing}
 use Rattle.read_back.proofs.Items.{item_at, item}
-use Rattle.read_back.proofs.Truth.{five, the_other}
+use Rattle.read_back.proofs.Truth.{the_other}
 use Rattle.read_back.proofs.JudgeFrame.{Leads, lead}
 use Rattle.read_back.proofs.JudgeLimits.{front_to}
 use Rattle.read_back.proofs.JudgeMiddle.{mid, Middle, named_seq, Leaves}
@@ -32,6 +32,7 @@ use Rattle.read_back.proofs.JudgeOrders.{first_stays, last_stays, before_stays, 
 use Rattle.read_back.proofs.JudgeOverlaps.{overlap_named, overlap_listed}
 use Rattle.read_back.proofs.JudgeFunctions.{Level, cumul_named, cumul_unnamed}
 use Rattle.read_back.proofs.JudgeLeft.{named, Left, front_left, none_left, named_there, is_named, same_left, used}
+use Rattle.base_laws.specs.laws.Truth.{five_true}
 
 -- what holds of the whole model
 pub record Whole (m : Data) : Type 0 where
@@ -121,7 +122,7 @@ overlap_by m w us vs f p o direct ds true here it flag h ls lc = overlap_above m
 
 level_of : (m : Data) (k : Cum) (x : Window) (lo hi : ℤ) → is_constraint m (constraint.CumulIn k x lo hi) ≡ true → is_one_bound x lo hi ≡ true → (nat_lt k.0 (length m.cumuls) ≡ true) × Level m x lo hi
 level_of m k x lo hi it one =
-    let parts = five (nat_lt k.0 (length m.cumuls)) (is_window m x) (is_small lo) (is_small hi) (int_le lo hi) it in
+    let parts = five_true (nat_lt k.0 (length m.cumuls)) (is_window m x) (is_small lo) (is_small hi) (int_le lo hi) it in
     (parts.0, record { there = parts.1; low = parts.2; high = parts.3; order = parts.4; one = one })
 
 named_function : (m : Data) (us : List SequenceDef) (vs : List CumulDef) (f : List Constraint) (k : Cum) (x : Window) (lo hi : ℤ) (d : CumulDef) (o : Option (List ℕ))

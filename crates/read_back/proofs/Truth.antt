@@ -4,12 +4,9 @@ use Rattle.std.specs.List.{list_all, list_any}
 use Rattle.std.proofs.lemmas.Bool.Decides.{nat_tests}
 use Rattle.std.proofs.lemmas.List.Folds.{list_all-append}
 use Rattle.std.proofs.lemmas.Bool.{and_parts, and_from, or_from}
-use Rattle.base_laws.specs.laws.Truth.{four_true}
+use Rattle.base_laws.specs.laws.Truth.{four_true, five_true}
 
 -- both of two, and all of more
-
-pub five : (p q r s t : Bool) → (p && q && r && s && t) ≡ true → (p ≡ true) × (q ≡ true) × (r ≡ true) × (s ≡ true) × (t ≡ true)
-five p q r s t h = let last = and_parts (p && q && r && s) t h in let rest = four_true p q r s last.0 in (rest.0, rest.1, rest.2, rest.3, last.1)
 
 -- one of two, and none
 

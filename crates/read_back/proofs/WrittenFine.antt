@@ -17,8 +17,8 @@ use Rattle.sched_model.specs.Valid.{IsValid, is_constraint, is_seq, fits_types}
 use Rattle.cpo_text.specs.Runs.{left_out_words}
 use Rattle.cpo_elab.specs.Numbered.{is_named_sequence, is_named_cumul}
 use Rattle.read_back.specs.Written.{is_written_expr, is_named_at, is_written, sequences_in, cumuls_in}
-use Rattle.read_back.proofs.Truth.{five}
 use Rattle.read_back.proofs.WrittenPlaces.{Counted, are_within}
+use Rattle.base_laws.specs.laws.Truth.{five_true}
 
 -- no word that the language leaves out
 abbrev pub is_kept : List ℕ → Bool
@@ -104,7 +104,7 @@ cumul_within m (First p a) h = refl
 cumul_within m (Last p a) h = refl
 cumul_within m (Before p a b) h = refl
 cumul_within m (Prev p a b) h = refl
-cumul_within m (CumulIn f w lo hi) h = and_from (nat_lt f.0 (length m.cumuls)) true (five (nat_lt f.0 (length m.cumuls)) _ _ _ _ h).0 refl
+cumul_within m (CumulIn f w lo hi) h = and_from (nat_lt f.0 (length m.cumuls)) true (five_true (nat_lt f.0 (length m.cumuls)) _ _ _ _ h).0 refl
 cumul_within m (AlwaysEqual g a v i j) h = refl
 cumul_within m (AlwaysNoState g a) h = refl
 

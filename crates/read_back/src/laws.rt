@@ -12,7 +12,7 @@ fn deserved_models_are_written()
 }
 
 /// Stands for a law: a text that says the words of some statements is read as these.
-fn said_text_is_read()
+pub fn said_text_is_read()
     ensures { SaidIsRead }
 {}
 
@@ -42,7 +42,7 @@ fn canonical_text_is_said()
 }
 
 /// Stands for a law: the statements of the canonical text are judged to be the model.
-fn canonical_statements_are_judged()
+pub fn canonical_statements_are_judged()
     ensures { CanonicalIsJudged }
 {
     expressions_return();

@@ -8,4 +8,4 @@
 
 mod laws;
 
-pub use laws::canonical_text_reads_back;
+pub use laws::{canonical_statements_are_judged, canonical_text_reads_back, said_text_is_read};

@@ -2,6 +2,7 @@ pub mod Orders
 pub mod Cells
 pub mod Claims
 pub mod Guesses
+pub mod Topics
 pub mod Looks
 pub mod Tight
 pub mod Points

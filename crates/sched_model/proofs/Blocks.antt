@@ -21,7 +21,8 @@ use Rattle.sched_model.specs.Data.{Data, parts_of}
 use Rattle.sched_model.specs.Cumulative.{begin_of, corners, is_in_window, is_level_at, level_at, shape_at, signed}
 use Rattle.sched_model.specs.Changes.{changes_in, changes_inside, is_inside, keep_inside, keeps_at, rise, sum_until, window_span}
 use Rattle.sched_model.specs.laws.Corners.{at_corners, every_moment, every_moment_of}
-use Rattle.sched_model.proofs.Moments.{parts_until, until_permuted, until_same}
+use Rattle.sched_model.proofs.Moments.{parts_until, until_same}
+use Rattle.sched_model.specs.laws.Sums.{until_permuted}
 use Rattle.sched_model.specs.laws.Words.{implied, if_implied}
 
 pub on_some : {A : Type 0} (o : Option A) (P Q : Type 0) → (P → Q) → OnSome o P → OnSome o Q

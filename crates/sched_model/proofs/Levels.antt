@@ -22,12 +22,3 @@ level_by m a f w lo hi t lo' hi' t' z z' is b inside parts sum within same_t sam
 
 pub level_fails : (m : Data) (a : Assignment) (f : Cum) (w : Window) (lo hi t : ℤ) → t ≡ begin_of a w → false ≡ is_level_at m a f w lo hi t → false ≡ list_all (is_level_at m a f w lo hi) (corners m a f w)
 level_fails m a f w lo hi t begin h = ap (λ b. b && list_all (is_level_at m a f w lo hi) (flat_map (λ i. changes_of a i.shape) (parts_of m f))) (h ∙ ap (is_level_at m a f w lo hi) begin)
-
--- one more part in the sum, and the end
-pub sum_turn : {X : Type 0} (f : X → ℤ) (xs : List X) (i : ℕ) (d : X) (z sum sum' whole : ℤ) → sum +ℤ total (map f (drop i xs)) ≡ whole → i < length xs → z ≡ f (get_or xs i d) → sum' ≡ sum +ℤ z
-    → sum' +ℤ total (map f (drop (i + 1) xs)) ≡ whole
-sum_turn f xs i d z sum sum' whole before within is next =
-    sym (at_drop_more (λ ys. sum +ℤ total (map f ys)) xs i d within ∙ ap (λ y. sum +ℤ (y +ℤ total (map f (drop (i + 1) xs)))) (sym is) ∙ regroup sum z (total (map f (drop (i + 1) xs))) sum' next) ∙ before
-
-pub sum_end : {X : Type 0} (f : X → ℤ) (xs : List X) (i : ℕ) (sum whole : ℤ) → sum +ℤ total (map f (drop i xs)) ≡ whole → length xs ≤ i → sum ≡ whole
-sum_end f xs i sum whole before past = let none : sum ≡ sum +ℤ pos 0 = omega (arith, ints) in none ∙ sym (at_drop_all (λ ys. sum +ℤ total (map f ys)) xs i past) ∙ before

@@ -9,6 +9,7 @@ use Rattle.sched_model.specs.declared.types.Assignment.{Assignment}
 use Rattle.sched_model.specs.Words.{◌implies◌, is_empty, is_least, is_greatest}
 use Rattle.sched_model.specs.Value.{is_present, present_of, start_of, end_of}
 use Rattle.sched_model.specs.Hierarchy.{spans, is_only, is_alternative, is_synchronized, stand_alike}
+use Rattle.base_laws.specs.laws.Truth.{nor}
 
 any_put : {X Y : Type 0} (f : X → Y) (p : Y → Bool) (b : Bool) (x : X) (xs : List X) → list_any p (map f (cond b (x ∷ xs) xs)) ≡ ((b && p (f x)) || list_any p (map f xs))
 any_put f p true x xs = refl
@@ -50,13 +51,9 @@ empty_put : {X : Type 0} (b : Bool) (x : X) (xs : List X) → is_empty (cond b (
 empty_put true x xs = refl
 empty_put false x xs = refl
 
-not_or : (p q : Bool) → (not p && not q) ≡ not (p || q)
-not_or true q = refl
-not_or false q = refl
-
 pub none_present : (a : Assignment) (xs : List Itv) → is_empty (present_of a xs) ≡ not (list_any (is_present a) xs)
 none_present a [] = refl
-none_present a (x ∷ xs) = empty_put (is_present a x) x (present_of a xs) ∙ ap (λ b. not (is_present a x) && b) (none_present a xs) ∙ not_or (is_present a x) (list_any (is_present a) xs)
+none_present a (x ∷ xs) = empty_put (is_present a x) x (present_of a xs) ∙ ap (λ b. not (is_present a x) && b) (none_present a xs) ∙ nor (is_present a x) (list_any (is_present a) xs)
 
 pub only_first : (a : Assignment) (x b : Itv) (bs : List Itv) → is_only a x (b ∷ bs) ≡ (stand_alike a b x && is_empty bs)
 only_first a x b [] = and_true (stand_alike a b x)

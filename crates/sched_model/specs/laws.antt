@@ -11,3 +11,5 @@ pub mod Names
 pub mod Listed
 pub mod Words
 pub mod Domain
+pub mod Totals
+pub mod Sums

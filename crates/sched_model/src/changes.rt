@@ -124,7 +124,8 @@ fn fill(changes: &mut Changes, a: &Assignment, parts: &[Part], span: Span) -> Op
     Some(())
 }
 
-fn sort(changes: &mut [Change])
+/// Puts changes in the order of their moments.
+pub fn sort_changes(changes: &mut [Change])
     ensures moved { IsPermutation changes.old changes.new }
     ensures in_order { IsInOrder changes.new }
 {
@@ -136,7 +137,7 @@ pub fn fill_sorted(changes: &mut Changes, a: &Assignment, parts: &[Part], span: 
     ensures { OnSome result (IsPermutation (changes_inside span (changes_in a.now parts.now)) changes.new.items × IsInOrder changes.new.items) }
 {
     fill(changes, a, parts, span)?;
-    sort(changes.as_mut_slice());
+    sort_changes(changes.as_mut_slice());
     Some(())
 }
 

@@ -20,6 +20,7 @@ mod values;
 mod whole;
 
 pub use bounds::{is_between, is_moment, is_small};
+pub use changes::{Change, sort_changes};
 pub use distances::distance;
 pub use domain::in_domain;
 pub use hulls::hull;

@@ -1,8 +1,10 @@
 -- Which item stands at a place of a list, and where the first stands that passes.
-use Rattle.std.proofs.Common.{◌≡◌, ℕ, zero, suc, ◌+◌, Bool, true, false, not, ◌||◌, cond, List, [], ◌∷◌, ◌++◌, length, slice_get, position, Option, Some, None, is_some, is_none, unwrap_or, nat_lt, refl, ap, ◌∙◌, arith, ◌<◌, get_or, sym}
+use Rattle.std.proofs.Common.{◌≡◌, ◌≢◌, ℕ, zero, suc, ◌+◌, Bool, true, false, not, ◌||◌, cond, List, [], ◌∷◌, ◌++◌, length, slice_get, position, Option, Some, None, is_some, is_none, unwrap_or, nat_lt, refl, ap, ◌∙◌, arith, ◌<◌, get_or, sym, subst, inl, inr}
 use Rattle.std.proofs.Math.Seq.{get_or-append_seam}
 use Rattle.std.specs.List.{position_or_len, list_any}
+use Rattle.std.proofs.lemmas.Bool.{cases_eq}
 use Rattle.std.proofs.lemmas.Bool.Decides.{nat_tests}
+use Rattle.std.proofs.lemmas.List.{get_or_append_left}
 use Rattle.base_laws.specs.laws.Numbers.{none_below_zero, one_less}
 
 -- what is not something is nothing
@@ -75,3 +77,10 @@ there (y ∷ xs) (suc n) x d h at = there xs n x d (omega (arith, h)) at
 -- the item that was put last is read at the length before
 pub newest : {X : Type 0} (n : ℕ) (xs : List X) (x d : X) → n ≡ length xs → get_or (xs ++ x ∷ []) n d ≡ x
 newest n xs x d is = ap (λ k. get_or (xs ++ x ∷ []) k d) is ∙ get_or-append_seam xs x [] d
+
+-- a list that has what is wanted at each place has it with one more
+pub each_pushed : {X : Type 0} (wanted : ℕ → List X) (n : ℕ) (t : List (List X)) (v : List X) → length t ≡ n → ((k : ℕ) → k < n → get_or t k [] ≡ wanted k) → v ≡ wanted n → (k : ℕ) → k < n + 1 → get_or (t ++ v ∷ []) k [] ≡ wanted k
+each_pushed wanted n t v size so_far is k below = elim (cases_eq k n) [
+  | inl last ↦ subst (λ (i : ℕ). get_or (t ++ v ∷ []) i [] ≡ wanted i) (sym last) (newest n t v [] (sym size) ∙ is)
+  | inr other ↦ (let apart : k ≢ n = other in let less : k < n = omega (arith, below, apart) in get_or_append_left t (v ∷ []) [] k (omega (arith, less, size)) ∙ so_far k less)
+]

@@ -11,7 +11,7 @@ use Rattle.sched_model.specs.Data.{same, has}
 use Rattle.sched_model.specs.Names.{all_names, own_names, names_step, names_of, Each}
 use Rattle.sched_model.specs.laws.Held.{composed}
 
-has_left : (xs ys : List Itv) (x : Itv) → has xs x ≡ true → has (xs ++ ys) x ≡ true
+pub has_left : (xs ys : List Itv) (x : Itv) → has xs x ≡ true → has (xs ++ ys) x ≡ true
 has_left [] ys x h = cc
 has_left (z ∷ zs) ys x h = by_case (same x z) (has_left zs ys x) h
   where
@@ -19,7 +19,7 @@ has_left (z ∷ zs) ys x h = by_case (same x z) (has_left zs ys x) h
     by_case true f h = refl
     by_case false f h = f h
 
-has_right : (xs ys : List Itv) (x : Itv) → has ys x ≡ true → has (xs ++ ys) x ≡ true
+pub has_right : (xs ys : List Itv) (x : Itv) → has ys x ≡ true → has (xs ++ ys) x ≡ true
 has_right [] ys x h = h
 has_right (z ∷ zs) ys x h = by_case (same x z) (has_right zs ys x h)
   where

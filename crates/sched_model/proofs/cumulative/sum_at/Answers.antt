@@ -2,8 +2,8 @@ use Rattle.std.proofs.Common.{◌≡◌, ◌∙◌, ap, arith, map, rules, to_z,
 use Rattle.std.proofs.lemmas.Int.{ints}
 use Rattle.sched_model.specs.Words.{total}
 use Rattle.sched_model.specs.Cumulative.{shape_at, signed}
-use Rattle.sched_model.proofs.Levels.{sum_end, sum_turn}
 use Rattle.sched_model.proofs.cumulative.sum_at.Goals as goal
+use Rattle.sched_model.specs.laws.Totals.{sum_turn, sum_end}
 
 pub loop-part-preserved : goal.loop-part-preserved
 loop-part-preserved c = record {

@@ -1,0 +1,14 @@
+pub mod Times
+pub mod Sums
+pub mod Ects
+pub mod Cuts
+pub mod NotEndCuts
+pub mod EdgeCuts
+pub mod Mirror
+pub mod Sound
+pub mod Back
+pub mod Standing
+pub mod Moved
+pub mod Laws
+pub mod Witnesses
+pub mod Placing
