@@ -1,7 +1,9 @@
 ghost use Rattle.std.specs.Prelude.{◌≡◌, ◌+◌, ◌≤◌, ◌<◌, ◌++◌, ◌∷◌, [], length, IfOk, IsOk, OnOk, OnErr, slice_set, slice_index_or, ℤ};
 ghost use Rattle.trail.specs.Trail.{Regains};
 
-use crate::entry::{Entry, put, rewind};
+use crate::entry::Entry;
+use crate::log::Log;
+use crate::saves::{put, rewind};
 use sched_base::NoMemory;
 use std::alloc::Global;
 use std::marker::Model;
@@ -13,12 +15,12 @@ use std::marker::Model;
 #[derive(Drop)]
 pub struct Cells {
     list: Vec<i64>,
-    log: Vec<Entry>,
+    log: Log,
     saves: usize,
 }
 
 impl Model for Cells {
-    ghost use Rattle.std.specs.Prelude.{◌≡◌, ◌-◌, length, vec_len, vec_capacity};
+    ghost use Rattle.std.specs.Prelude.{◌≡◌, ◌-◌, length};
     ghost use Rattle.trail.specs.Trail.{Trail};
     ghost use Rattle.trail.specs.Entries.{IsLog, promises, saved_lists};
 
@@ -28,10 +30,10 @@ impl Model for Cells {
       list = c.list.items;
       saved = saved_lists c.log.items c.list.items;
       promised = promises c.log.items;
-      spare = vec_capacity c.log - vec_len c.log;
+      spare = c.log.room - length c.log.items;
     } };
 
-    ghost invariant = { λ c. IsLog (length c.list.items) (vec_capacity c.log) c.log.items
+    ghost invariant = { λ c. IsLog (length c.list.items) c.log.room c.log.items
         × (c.saves ≡ length (promises c.log.items)) };
 }
 
@@ -43,7 +45,7 @@ impl Cells {
     {
         Ok(Cells {
             list: Vec::from_slice(alloc, first)?,
-            log: Vec::new(alloc),
+            log: Log::new(alloc)?,
             saves: 0,
         })
     }
@@ -69,7 +71,7 @@ impl Cells {
     }
 
     /// Writes one cell. Without a save it takes no memory.
-    #[tactic(auto, using(crate::proofs::Log::log_written, crate::proofs::Log::log_set, crate::proofs::Log::log_grown, crate::proofs::Log::lists_written, crate::proofs::Log::lists_unsaved, crate::proofs::Log::promises_write, crate::proofs::Log::saved_count))]
+    #[tactic(auto, using(crate::proofs::Saved::log_written, crate::proofs::Saved::log_set, crate::proofs::Saved::log_grown, crate::proofs::Saved::lists_written, crate::proofs::Saved::lists_unsaved, crate::proofs::Saved::promises_write, crate::proofs::Saved::saved_count))]
     pub fn set(&mut self, i: usize, v: i64) -> Result<(), NoMemory>
         requires { i < length self.old.list }
         ensures ok { OnOk result (self.new
@@ -92,7 +94,7 @@ impl Cells {
     }
 
     /// Puts the list on the stack of saved lists.
-    #[tactic(auto, using(crate::proofs::Log::log_saved, crate::proofs::Log::log_grown, crate::proofs::Log::saved_save, crate::proofs::Log::promises_save, crate::proofs::Log::promises_within))]
+    #[tactic(auto, using(crate::proofs::Saved::log_saved, crate::proofs::Saved::log_grown, crate::proofs::Saved::saved_save, crate::proofs::Saved::promises_save, crate::proofs::Saved::promises_within))]
     pub fn save(&mut self) -> Result<(), NoMemory>
         ensures ok { OnOk result (self.new ≡ record self.old {
           saved = self.old.saved ++ self.old.list ∷ [];
@@ -110,7 +112,7 @@ impl Cells {
     }
 
     /// Takes the list that was saved last from the stack.
-    #[tactic(auto, using(crate::proofs::Log::saved_count))]
+    #[tactic(auto, using(crate::proofs::Saved::saved_count))]
     pub fn undo(&mut self)
         requires { 0 < length self.old.saved }
         ensures list { self.old.saved ≡ self.new.saved ++ self.new.list ∷ [] }
@@ -121,14 +123,16 @@ impl Cells {
     }
 
     /// Makes room for so many entries.
-    #[tactic(auto, using(crate::proofs::Log::log_grown))]
+    #[tactic(auto, using(crate::proofs::Saved::log_grown))]
     pub fn reserve(&mut self, n: usize) -> Result<(), NoMemory>
         ensures ok { OnOk result (n ≤ self.new.spare) }
         ensures same { self.new ≡ record self.old { spare = self.new.spare } }
         ensures grows { self.old.spare ≤ self.new.spare }
         ensures given { n ≤ self.old.spare → IsOk result }
     {
-        self.log.reserve(n)?;
+        while self.log.room() - self.log.len() < n {
+            self.log.grow()?;
+        }
         Ok(())
     }
 
@@ -136,11 +140,11 @@ impl Cells {
     pub fn spare(&self) -> usize
         ensures { result ≡ self.now.spare }
     {
-        self.log.capacity() - self.log.len()
+        self.log.room() - self.log.len()
     }
 
     /// How many lists are saved.
-    #[tactic(auto, using(crate::proofs::Log::saved_count))]
+    #[tactic(auto, using(crate::proofs::Saved::saved_count))]
     pub fn saves(&self) -> usize
         ensures { result ≡ length self.now.saved }
     {

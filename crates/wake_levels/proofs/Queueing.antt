@@ -1,10 +1,9 @@
 -- The lists of queues of which one is changed.
-use Rattle.std.proofs.Common.{◌≡◌, ℕ, zero, suc, ◌+◌, ◌<◌, List, [], ◌∷◌, length, set, drop, replicate, get_or, slice_get, Option, option_map, Some, None, refl, sym, ap, arith, ◌∙◌}
-use Rattle.std.specs.Prelude.{IfSome, IfNone}
-use Rattle.iqueue.specs.Queue.{Queue, woken, AreDistinctBelow}
+use Rattle.std.proofs.Common.{◌≡◌, ℕ, zero, suc, ◌+◌, ◌<◌, List, [], ◌∷◌, length, set, replicate, get_or, slice_get, map, Some, None, refl, sym, ap, arith, ◌∙◌}
+use Rattle.iqueue.specs.Queue.{Queue, without, woken, AreDistinctBelow}
 use Rattle.wake_levels.specs.declared.levels.Turn.{Turn}
-use Rattle.wake_levels.specs.Waking.{Waking, next_level, first_turn, without_first, woken_on}
-use Rattle.wake_levels.specs.Queues.{lists_of, AreBelow}
+use Rattle.wake_levels.specs.Waking.{Waking, next_level, first_turn, without_on_all, woken_on}
+use Rattle.wake_levels.specs.Queues.{lists_of, AreBelow, queue_without}
 
 abbrev pub waking : ℕ → List (List ℕ) → Waking
 waking n kss = record { below = n; levels = kss }
@@ -57,41 +56,44 @@ no_turn [] all = refl
 no_turn ([] ∷ kss) all = rw (no_turn kss (λ j less. all (suc j) (omega (arith, less)))) refl
 no_turn ((k ∷ ks) ∷ kss) all = let none : k ∷ ks ≡ [] = all 0 (omega arith) in cc
 
--- the levels where the first number of the first queue that has one is taken
-pub taken_rest : (q w : Queue) (o : Option ℕ) → IfSome o (λ k. q ≡ record w { list = k ∷ w.list }) → IfNone o ((q.list ≡ []) × (w ≡ q)) → w ≡ record q { list = drop 1 q.list }
-taken_rest q w None some none = rw (none.1) (ap (λ (ks : List ℕ). record q { list = ks }) (none.0 ∙ sym (ap (drop 1) none.0)))
-taken_rest q w (Some k) some none = rw some refl
+-- queues of which the first ones are without a number
+abbrev pub unwoken_below : ℕ → ℕ → List Queue → List Queue
+unwoken_below k zero qs = qs
+unwoken_below k (suc i) [] = []
+unwoken_below k (suc i) (q ∷ qs) = queue_without k q ∷ unwoken_below k i qs
 
-lists_set : (qs : List Queue) (i : ℕ) (w : Queue) → lists_of (set qs i w) ≡ set (lists_of qs) i w.list
-lists_set [] i w = refl
-lists_set (q ∷ qs) zero w = refl
-lists_set (q ∷ qs) (suc i) w = ap (λ kss. q.list ∷ kss) (lists_set qs i w)
+pub unwoken_all : (k i : ℕ) (qs : List Queue) → i ≡ length qs → unwoken_below k i qs ≡ map (queue_without k) qs
+unwoken_all k zero [] is = refl
+unwoken_all k zero (q ∷ qs) is = absurd (omega (arith, is))
+unwoken_all k (suc i) [] is = refl
+unwoken_all k (suc i) (q ∷ qs) is = ap (λ ps. queue_without k q ∷ ps) (unwoken_all k i qs (omega (arith, is)))
 
-abbrev turn_in : Turn → Option Turn → Turn
-turn_in t None = t
-turn_in t (Some u) = u
+pub below_unwoken : (n k i : ℕ) (qs : List Queue) → AreBelow n qs → AreBelow n (unwoken_below k i qs)
+below_unwoken n k zero qs are = are
+below_unwoken n k (suc i) [] are = are
+below_unwoken n k (suc i) (q ∷ qs) are = (are.0, below_unwoken n k i qs are.1)
 
-level_is : (k j n : ℕ) → Some (turn_of k 0) ≡ Some (turn_of j n) → 0 ≡ n
-level_is k j n h = ap (λ o. (turn_in (turn_of k 0) o).level) h
+unwoken_next : (k i : ℕ) (qs : List Queue) (q : Queue) → i < length qs → q ≡ get_or (unwoken_below k i qs) i q → set (unwoken_below k i qs) i (queue_without k q) ≡ unwoken_below k (suc i) qs
+unwoken_next k i [] q within at = absurd (omega (arith, within))
+unwoken_next k zero (p ∷ qs) q within at = ap (λ r. queue_without k r ∷ qs) at
+unwoken_next k (suc i) (p ∷ qs) q within at = ap (λ ps. queue_without k p ∷ ps) (unwoken_next k i qs q (omega (arith, within)) at)
 
-later_level : (o : Option Turn) (k n : ℕ) → option_map next_level o ≡ Some (turn_of k n) → (i : ℕ) × (i + 1 ≡ n) × (o ≡ Some (turn_of k i))
-later_level None k n h = cc
-later_level (Some u) k n h =
-    let same : next_level u ≡ turn_of k n = ap (turn_in u) h in
-    (u.level, ap (λ (t : Turn). t.level) same, ap (λ (j : ℕ). Some (turn_of j u.level)) (ap (λ (t : Turn). t.k) same))
+pub unwoken_more : (k i : ℕ) (qs : List Queue) (q w : Queue) → i < length qs → q ≡ get_or (unwoken_below k i qs) i q → w ≡ record q { list = without k q.list } → set (unwoken_below k i qs) i w ≡ unwoken_below k (i + 1) qs
+unwoken_more k i qs q w within at is =
+    let next : suc i ≡ i + 1 = omega arith in
+    ap (set (unwoken_below k i qs) i) is ∙ unwoken_next k i qs q within at ∙ ap (λ j. unwoken_below k j qs) next
 
-taken_lists : (kss : List (List ℕ)) (k n : ℕ) (ks : List ℕ) → first_turn kss ≡ Some (turn_of k n) → ks ≡ drop 1 (get_or kss n []) → set kss n ks ≡ without_first kss
-taken_lists [] k n ks turn is = cc
-taken_lists ((j ∷ js) ∷ kss) k zero ks turn is = ap (λ hs. hs ∷ kss) is
-taken_lists ((j ∷ js) ∷ kss) k (suc n) ks turn is = let zero' = level_is j k (suc n) turn in absurd (omega (arith, zero'))
-taken_lists ([] ∷ kss) k zero ks turn is = let u = later_level (first_turn kss) k 0 turn in absurd (omega (arith, u.1))
-taken_lists ([] ∷ kss) k (suc n) ks turn is =
-    let u = later_level (first_turn kss) k (suc n) turn in
-    let same : u.0 ≡ n = omega (arith, u.1) in
-    ap (λ hss. [] ∷ hss) (taken_lists kss k n ks (u.2 ∙ ap (λ (i : ℕ). Some (turn_of k i)) same) is)
+pub lists_without : (k : ℕ) (qs : List Queue) → lists_of (map (queue_without k) qs) ≡ without_on_all k (lists_of qs)
+lists_without k [] = refl
+lists_without k (q ∷ qs) = ap (λ kss. without k q.list ∷ kss) (lists_without k qs)
 
-pub taken_at : (qs : List Queue) (t : Turn) (q w : Queue) → t.level < length qs → first_turn (lists_of qs) ≡ Some t → q ≡ get_or qs t.level q → w ≡ record q { list = drop 1 q.list } → lists_of (set qs t.level w) ≡ without_first (lists_of qs)
-taken_at qs t q w within turn at is = lists_set qs t.level w ∙ taken_lists (lists_of qs) t.k t.level w.list turn (ap (λ (q : Queue). q.list) is ∙ sym (ap (drop 1) (list_at qs t.level q within at)))
+pub below_without : (n k : ℕ) (qs : List Queue) → AreBelow n qs → AreBelow n (map (queue_without k) qs)
+below_without n k [] are = are
+below_without n k (q ∷ qs) are = (are.0, below_without n k qs are.1)
+
+pub some_without : (k : ℕ) (qs : List Queue) → 0 < length qs → 0 < length (map (queue_without k) qs)
+some_without k [] some = some
+some_without k (q ∷ qs) some = omega arith
 
 pub some_queues : (qs : List Queue) (i : ℕ) (w : Queue) → 0 < length qs → 0 < length (set qs i w)
 some_queues qs i w some = omega (arith, some, set_count qs i w)

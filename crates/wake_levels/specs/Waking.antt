@@ -1,6 +1,6 @@
 -- What contracts see of the numbers that are awake: a list for each level, the most urgent first.
-use Rattle.std.specs.Prelude.{ℕ, zero, suc, ◌+◌, ◌*◌, Bool, false, ◌||◌, List, [], ◌∷◌, length, Option, Some, None, option_map}
-use Rattle.iqueue.specs.Queue.{is_in, woken}
+use Rattle.std.specs.Prelude.{ℕ, zero, suc, ◌+◌, ◌*◌, Bool, false, ◌||◌, List, [], ◌∷◌, length, Option, Some, None, option_map, map}
+use Rattle.iqueue.specs.Queue.{is_in, without, woken}
 use Rattle.wake_levels.specs.declared.levels.Turn.{Turn}
 
 pub record Waking : Type 0 where
@@ -28,14 +28,12 @@ first_turn [] = None
 first_turn ([] ∷ kss) = option_map next_level (first_turn kss)
 first_turn ((k ∷ ks) ∷ kss) = Some (record { k = k; level = 0 })
 
--- the levels without it
-abbrev pub without_first : List (List ℕ) → List (List ℕ)
-without_first [] = []
-without_first ([] ∷ kss) = [] ∷ without_first kss
-without_first ((k ∷ ks) ∷ kss) = ks ∷ kss
-
 -- with a number last on a level, where it isn't on it
 abbrev pub woken_on : ℕ → ℕ → List (List ℕ) → List (List ℕ)
 woken_on k level [] = []
 woken_on k zero (ks ∷ kss) = woken k ks ∷ kss
 woken_on k (suc level) (ks ∷ kss) = ks ∷ woken_on k level kss
+
+-- without a number, whatever levels it is on
+abbrev pub without_on_all : ℕ → List (List ℕ) → List (List ℕ)
+without_on_all k kss = map (without k) kss

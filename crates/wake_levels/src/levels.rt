@@ -1,5 +1,6 @@
-ghost use Rattle.std.specs.Prelude.{◌≡◌, ◌<◌, [], ◌∷◌, ℕ, length, replicate, All, IsTrue, IfOk, IfSome};
-ghost use Rattle.wake_levels.specs.Waking.{is_awake, first_turn, without_first, woken_on};
+ghost use Rattle.std.specs.Prelude.{◌≡◌, ◌<◌, [], ◌∷◌, ℕ, length, map, replicate, All, IsTrue, IfOk, IfSome};
+ghost use Rattle.wake_levels.specs.Queues.{AreBelow, queue_without};
+ghost use Rattle.wake_levels.specs.Waking.{is_awake, first_turn, without_on_all, woken_on};
 ghost use Rattle.wake_levels.specs.Calm.{WakesEach};
 
 use iqueue::WakeQueue;
@@ -45,6 +46,15 @@ fn empty_queues(alloc: Global, n: u32, levels: usize) -> Result<Vec<WakeQueue>, 
     Ok(queues)
 }
 
+fn unwake_each(queues: &mut [WakeQueue], k: u32)
+    requires { (n : ℕ) × AreBelow n queues.old × (k < n) }
+    ensures { queues.new ≡ map (queue_without k) queues.old }
+{
+    for level in 0..queues.len() {
+        queues[level].unwake(k);
+    }
+}
+
 impl WakeLevels {
     /// No number below `n` awake, on so many levels.
     pub fn new(alloc: Global, n: u32, levels: usize) -> Result<WakeLevels, NoMemory>
@@ -85,15 +95,6 @@ impl WakeLevels {
         None
     }
 
-    /// The number that has its turn leaves its level. Where there is none nothing changes.
-    pub fn drop_first(&mut self)
-        ensures { self.new ≡ record self.old { levels = without_first self.old.levels } }
-    {
-        if let Some(t) = self.first() {
-            let _ = self.queues[t.level].take();
-        }
-    }
-
     /// Puts a number last on a level, where it isn't on it.
     pub fn wake(&mut self, k: u32, level: usize)
         requires below { k < self.old.below }
@@ -101,6 +102,14 @@ impl WakeLevels {
         ensures { self.new ≡ record self.old { levels = woken_on k level self.old.levels } }
     {
         self.queues[level].wake(k);
+    }
+
+    /// Takes a number from each level that it is on. The others stay in their order.
+    pub fn unwake(&mut self, k: u32)
+        requires { k < self.old.below }
+        ensures { self.new ≡ record self.old { levels = without_on_all k self.old.levels } }
+    {
+        unwake_each(&mut self.queues, k);
     }
 
     /// Wakes every number, on the level that is its home as `wake_each` does.

@@ -1,9 +1,8 @@
 -- What keeps those that aren't awake quiet.
-use Rattle.std.specs.Prelude.{◌≡◌, ℕ, ◌<◌, true, false, IsTrue, length, Some, None}
+use Rattle.std.specs.Prelude.{◌≡◌, ℕ, ◌<◌, false, IsTrue, length, None}
 use Rattle.std.proofs.Common.{refl, sym, subst, ◌∙◌, arith}
 use Rattle.std.proofs.lemmas.Bool.{true≢false}
-use Rattle.wake_levels.specs.declared.levels.Turn.{Turn}
-use Rattle.wake_levels.specs.Waking.{Waking, is_awake, first_turn, without_first, woken_on}
+use Rattle.wake_levels.specs.Waking.{Waking, is_awake, first_turn, without_on_all, woken_on}
 use Rattle.wake_levels.specs.Calm.{IsCalm}
 use Rattle.wake_levels.specs.laws.Turning.{kept_on, has_on, none_in, kept_without, count_without}
 use Rattle.base_laws.specs.laws.Truth.{fails_before}
@@ -25,16 +24,16 @@ calm_more n quiet a b calm below kept = record {
   others = λ j within asleep. calm.others j within (fails_before (is_awake a j) (is_awake b j) (kept j) asleep);
 }
 
--- the turn of one that is quiet may be dropped
-pub calm_dropped : (n : ℕ) (quiet : ℕ → Type 0) (a : Waking) (t : Turn) → first_turn a.levels ≡ Some t → quiet t.k → IsCalm n quiet a → IsCalm n quiet (record a { levels = without_first a.levels })
-calm_dropped n quiet a t turn here calm = calm_but t.k n quiet a (record a { levels = without_first a.levels }) calm refl (kept_without a.levels t turn) (λ asleep. here)
+-- one that is quiet may leave every level
+pub calm_unwoken : (k n : ℕ) (quiet : ℕ → Type 0) (a : Waking) → quiet k → IsCalm n quiet a → IsCalm n quiet (record a { levels = without_on_all k a.levels })
+calm_unwoken k n quiet a here calm = calm_but k n quiet a (record a { levels = without_on_all k a.levels }) calm refl (λ j other. kept_without k j a.levels other) (λ asleep. here)
 
--- and the turn of any may be put off to another level
-pub calm_later : (n level : ℕ) (quiet : ℕ → Type 0) (a : Waking) (t : Turn) → first_turn a.levels ≡ Some t → level < length a.levels → IsCalm n quiet a
-    → IsCalm n quiet (record a { levels = woken_on t.k level (without_first a.levels) })
-calm_later n level quiet a t turn within calm = calm_but t.k n quiet a (record a { levels = woken_on t.k level (without_first a.levels) }) calm refl
-    (λ j other awake. kept_on t.k level j (without_first a.levels) (kept_without a.levels t turn j other awake))
-    (λ asleep. absurd (true≢false (sym (has_on t.k level (without_first a.levels) (omega (arith, within, count_without a.levels))) ∙ asleep)))
+-- and any may be put off to one level
+pub calm_later : (k n level : ℕ) (quiet : ℕ → Type 0) (a : Waking) → level < length a.levels → IsCalm n quiet a
+    → IsCalm n quiet (record a { levels = woken_on k level (without_on_all k a.levels) })
+calm_later k n level quiet a within calm = calm_but k n quiet a (record a { levels = woken_on k level (without_on_all k a.levels) }) calm refl
+    (λ j other awake. kept_on k level j (without_on_all k a.levels) (kept_without k j a.levels other awake))
+    (λ asleep. absurd (true≢false (sym (has_on k level (without_on_all k a.levels) (omega (arith, within, count_without k a.levels))) ∙ asleep)))
 
 -- where none is awake all are quiet
 pub all_quiet : (n : ℕ) (quiet : ℕ → Type 0) (a : Waking) → first_turn a.levels ≡ None → IsCalm n quiet a → (k : ℕ) → k < n → quiet k

@@ -1,13 +1,13 @@
--- What a wake, and what a turn that is dropped, do to the levels.
+-- What a wake, and what taking a number from them, do to the levels.
 use Rattle.std.specs.Prelude.{◌≡◌, ℕ, zero, suc, ◌+◌, ◌-◌, ◌*◌, ◌<◌, ◌≤◌, Bool, true, false, ◌||◌, List, [], ◌∷◌, length, Option, Some, None, nat_eq, option_map}
 use Rattle.std.proofs.Common.{refl, sym, ap, ◌∙◌, arith}
 use Rattle.std.proofs.lemmas.Bool.Decides.{nat_tests}
 use Rattle.std.proofs.lemmas.List.{length_push}
 use Rattle.std.proofs.lemmas.Bool.{or_left, or_right}
-use Rattle.iqueue.specs.Queue.{is_in, woken}
+use Rattle.iqueue.specs.Queue.{is_in, without, woken}
 use Rattle.iqueue.specs.laws.Ends.{in_end, in_push}
 use Rattle.wake_levels.specs.declared.levels.Turn.{Turn}
-use Rattle.wake_levels.specs.Waking.{is_in_any, weight, next_level, first_turn, without_first, woken_on}
+use Rattle.wake_levels.specs.Waking.{is_in_any, weight, next_level, first_turn, without_on_all, woken_on}
 
 or_map : (p q s t : Bool) → (p ≡ true → s ≡ true) → (q ≡ true → t ≡ true) → (p || q) ≡ true → (s || t) ≡ true
 or_map true q s t f g h = or_left s t (f refl)
@@ -64,12 +64,6 @@ none_in [] none k = refl
 none_in ([] ∷ kss) none k = none_in kss (no_turn (first_turn kss) none) k
 none_in ((j ∷ ks) ∷ kss) none k = cc
 
--- and dropping changes nothing
-pub dropped_none : (kss : List (List ℕ)) → first_turn kss ≡ None → without_first kss ≡ kss
-dropped_none [] none = refl
-dropped_none ([] ∷ kss) none = ap (λ jss. [] ∷ jss) (dropped_none kss (no_turn (first_turn kss) none))
-dropped_none ((k ∷ ks) ∷ kss) none = cc
-
 -- the turn behind an empty level
 later_turn : (o : Option Turn) (t : Turn) → option_map next_level o ≡ Some t → (u : Turn) × (o ≡ Some u) × (t ≡ next_level u)
 later_turn None t h = cc
@@ -78,7 +72,7 @@ later_turn (Some u) t h = (u, refl, cc)
 here_turn : (k : ℕ) (t : Turn) → Some (record { k = k; level = 0 }) ≡ Some t → (t.k ≡ k) × (t.level ≡ 0)
 here_turn k t h = (cc, cc)
 
--- of the levels without a turn every other number is awake as before
+-- what stands behind the first number
 not_first : (j k : ℕ) (ks : List ℕ) → (j ≡ k → ⊥) → is_in j (k ∷ ks) ≡ true → is_in j ks ≡ true
 not_first j k ks other h = by_case (nat_eq j k) refl h
   where
@@ -86,32 +80,65 @@ not_first j k ks other h = by_case (nat_eq j k) refl h
     by_case true is e = absurd (other (grind (arith, nat_tests)))
     by_case false is e = e
 
-pub kept_without : (kss : List (List ℕ)) (t : Turn) → first_turn kss ≡ Some t → (j : ℕ) → (j ≡ t.k → ⊥) → is_in_any j kss ≡ true → is_in_any j (without_first kss) ≡ true
-kept_without [] t turn j other h = cc
-kept_without ([] ∷ kss) t turn j other h = let u = later_turn (first_turn kss) t turn in kept_without kss u.0 u.1 j (λ e. other (e ∙ sym (ap (λ (v : Turn). v.k) u.2))) h
-kept_without ((k ∷ ks) ∷ kss) t turn j other h =
-    or_map (is_in j (k ∷ ks)) (is_in_any j kss) (is_in j ks) (is_in_any j kss) (not_first j k ks (λ e. other (e ∙ sym (here_turn k t turn).0))) (λ e. e) h
+-- a list without a number
+record Shrinks (k : ℕ) (ks new : List ℕ) : Type 0 where
+  kept : (j : ℕ) → (j ≡ k → ⊥) → is_in j ks ≡ true → is_in j new ≡ true
+  few : length new ≤ length ks
 
-pub count_without : (kss : List (List ℕ)) → length (without_first kss) ≡ length kss
-count_without [] = refl
-count_without ([] ∷ kss) = ap suc (count_without kss)
-count_without ((k ∷ ks) ∷ kss) = refl
+shrinks : (k : ℕ) (ks : List ℕ) → Shrinks k ks (without k ks)
+shrinks k [] = record { kept = λ j other h. h; few = omega arith }
+shrinks k (i ∷ ks) = by_case (nat_eq k i) refl (shrinks k ks)
+  where
+    by_case : (b : Bool) → nat_eq k i ≡ b → Shrinks k ks (without k ks) → Shrinks k (i ∷ ks) (without k (i ∷ ks))
+    by_case true is rest = rw is (record { kept = λ j other h. not_first j i ks (λ e. other (let same : k ≡ i = grind (arith, nat_tests) in e ∙ sym same)) h; few = omega arith })
+    by_case false is rest = rw is (record { kept = λ j other h. or_map (nat_eq j i) (is_in j ks) (nat_eq j i) (is_in j (without k ks)) (λ e. e) (rest.kept j other) h; few = omega (arith, rest.few) })
+
+-- of the levels without a number every other is awake as before
+pub kept_without : (k j : ℕ) (kss : List (List ℕ)) → (j ≡ k → ⊥) → is_in_any j kss ≡ true → is_in_any j (without_on_all k kss) ≡ true
+kept_without k j [] other h = h
+kept_without k j (ks ∷ kss) other h = or_map (is_in j ks) (is_in_any j kss) (is_in j (without k ks)) (is_in_any j (without_on_all k kss)) ((shrinks k ks).kept j other) (kept_without k j kss other) h
+
+pub count_without : (k : ℕ) (kss : List (List ℕ)) → length (without_on_all k kss) ≡ length kss
+count_without k [] = refl
+count_without k (ks ∷ kss) = ap suc (count_without k kss)
+
+mul_less : (c a b : ℕ) → a ≤ b → c * a ≤ c * b
+mul_less zero a b h = omega arith
+mul_less (suc c) a b h = let rest = mul_less c a b h in omega (arith, rest, h)
+
+-- and they weigh no more
+light_level : (k : ℕ) (ks new : List ℕ) (kss : List (List ℕ)) → length new ≤ length ks → (length (without_on_all k kss) + 1) * length new ≤ (length kss + 1) * length ks
+light_level k ks new kss few =
+    let same : (length (without_on_all k kss) + 1) * length new ≡ (length kss + 1) * length new = ap (λ (n : ℕ). (n + 1) * length new) (count_without k kss) in
+    let less = mul_less (length kss + 1) (length new) (length ks) few in
+    omega (arith, same, less)
+
+light_without : (k : ℕ) (kss : List (List ℕ)) → weight (without_on_all k kss) ≤ weight kss
+light_without k [] = omega arith
+light_without k (ks ∷ kss) = omega (arith, light_level k ks (without k ks) kss (shrinks k ks).few, light_without k kss)
 
 mul_one : (c a : ℕ) → c * suc a ≡ c * a + c
 mul_one c a = omega arith
 
--- and they weigh less
-pub weight_without : (kss : List (List ℕ)) (t : Turn) → first_turn kss ≡ Some t → (t.level < length kss) × (weight (without_first kss) + (length kss - t.level) ≡ weight kss)
+without_head : (k j : ℕ) (ks : List ℕ) → k ≡ j → without k (j ∷ ks) ≡ ks
+without_head k j ks e = let same : nat_eq k j ≡ true = grind (arith, nat_tests) in rw same refl
+
+-- less, where the number has its turn
+pub weight_without : (kss : List (List ℕ)) (t : Turn) → first_turn kss ≡ Some t → (t.level < length kss) × (weight (without_on_all t.k kss) + (length kss - t.level) ≤ weight kss)
 weight_without [] t turn = cc
 weight_without ([] ∷ kss) t turn =
     let u = later_turn (first_turn kss) t turn in
     let rest = weight_without kss u.0 u.1 in
     let level : t.level ≡ u.0.level + 1 = ap (λ (v : Turn). v.level) u.2 in
-    (omega (arith, rest.0, level), let none = mul_none (length (without_first kss) + 1) in let zero' = mul_none (length kss + 1) in omega (arith, rest.0, rest.1, level, none, zero'))
+    let number : t.k ≡ u.0.k = ap (λ (v : Turn). v.k) u.2 in
+    let same : weight (without_on_all t.k kss) ≡ weight (without_on_all u.0.k kss) = ap (λ (n : ℕ). weight (without_on_all n kss)) number in
+    (omega (arith, rest.0, level), let none = mul_none (length (without_on_all t.k kss) + 1) in let zero' = mul_none (length kss + 1) in omega (arith, rest.0, rest.1, level, same, none, zero'))
   where
     mul_none : (c : ℕ) → c * 0 ≡ 0
     mul_none c = omega arith
 weight_without ((k ∷ ks) ∷ kss) t turn =
-    let level : t.level ≡ 0 = (here_turn k t turn).1 in
+    let here = here_turn k t turn in
     let one = mul_one (length kss + 1) (length ks) in
-    (omega (arith, level), omega (arith, level, one))
+    let gone : length (without t.k (k ∷ ks)) ≡ length ks = ap length (without_head t.k k ks here.0) in
+    let level = light_level t.k ks (without t.k (k ∷ ks)) kss (omega (arith, gone)) in
+    (omega (arith, here.1), omega (arith, here.1, one, level, light_without t.k kss))
