@@ -56,10 +56,6 @@ pub if_none : {A : Type 0} (P : Type 0) (o : Option A) → o ≡ None → IfNone
 if_none P None e h = h
 if_none P (Some x) e h = cc
 
-pub if_some : {A : Type 0} (Q : A → Type 0) (o : Option A) (w : A) → o ≡ Some w → IfSome o Q → Q w
-if_some Q None w e h = cc
-if_some Q (Some x) w e h = let same : x ≡ w = cc in subst Q same h
-
 -- extra witnesses
 
 pub no_count : {W : Type 0} (numbers : W → List ℤ) (valid : W → Bool) → AreTold numbers valid → (old : List Bytes) → NoneStands count_words is_count old → NoneWhole (extra_words numbers) valid old

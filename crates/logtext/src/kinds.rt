@@ -11,7 +11,14 @@ const BASIC: [&[u8]; 6] = [b"SIZE", b"ARC", b"CYCLE", b"EXPR", b"OBJ", b"LEAF"];
 const HIER: [&[u8]; 4] = [b"SPAN", b"ALT", b"SYNC", b"SEQREL"];
 
 /// The words of the kinds in `refute_seq`, by their places there.
-const SEQ: [&[u8]; 2] = [b"PAIR", b"TRIPLE"];
+const SEQ: [&[u8]; 6] = [
+    b"PAIR",
+    b"TRIPLE",
+    b"OVERLOAD",
+    b"EDGE",
+    b"NOTEND",
+    b"DETECT",
+];
 
 /// The word of the kind in `refute_cumul`.
 const CUMUL: [&[u8]; 1] = [b"POINT"];
@@ -66,7 +73,7 @@ pub fn seq_place(word: &[u8]) -> Option<usize>
 
 /// The word of the kind at a place in `refute_seq`.
 pub fn seq_word(place: usize) -> &'static [u8]
-    requires { place < 2 }
+    requires { place < 6 }
     ensures { result.now ≡ get_or seq_kinds place [] }
 {
     SEQ[place]

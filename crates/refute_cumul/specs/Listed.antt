@@ -1,5 +1,5 @@
 -- The guesses under which whoever derives asks a witness, and which witnesses they ask.
-use Rattle.std.specs.Prelude.{Bool, true, false, List, [], ◌∷◌, ◌++◌, Option, Some, slice_get}
+use Rattle.std.specs.Prelude.{Bool, true, List, [], ◌∷◌, ◌++◌, Option, Some, slice_get}
 use Rattle.std.specs.List.{flat_map}
 use Rattle.sched_base.specs.declared.ids.Itv.{Itv}
 use Rattle.sched_model.specs.declared.types.Shape.{Shape}
@@ -9,11 +9,10 @@ use Rattle.sched_model.specs.declared.types.Window.{Window}
 use Rattle.sched_model.specs.declared.types.Window.TheVariants.{During}
 use Rattle.sched_model.specs.declared.types.Constraint.{Constraint}
 use Rattle.sched_model.specs.declared.types.Constraint.TheVariants.{CumulIn}
-use Rattle.sched_model.specs.Data.{Data, has, parts_of}
-use Rattle.region.specs.declared.types.Topic.{Topic}
-use Rattle.region.specs.declared.types.Topic.TheVariants.{One, Two}
+use Rattle.sched_model.specs.Data.{Data, parts_of}
 use Rattle.region.specs.declared.types.Guess.{Guess}
 use Rattle.region.specs.Guesses.{topic}
+use Rattle.region.specs.Topics.{asks_each}
 use Rattle.refute_cumul.specs.declared.witness.CumulWitness.{CumulWitness}
 use Rattle.refute_cumul.specs.declared.witness.CumulWitness.TheVariants.{Point}
 
@@ -35,11 +34,6 @@ names_in is w = window_names w ++ flat_map (λ i. shape_names i.shape) is
 abbrev pub names_of : Data → Option Constraint → List Itv
 names_of m (Some (CumulIn f w lo hi)) = names_in (parts_of m f) w
 names_of m _ = []
-
--- the presence or a bound of one of these intervals
-abbrev pub asks_each : List Itv → Topic → Bool
-asks_each xs (One x c) = has xs x
-asks_each xs (Two p x y) = false
 
 abbrev pub lists : Data → CumulWitness → Guess → Bool
 lists m (Point c t u) g = asks_each (names_of m (slice_get m.constraints c)) (topic g)

@@ -1,26 +1,15 @@
 -- The profile of a cumulative function: the moments at which its load changes, and the load from each of them on.
-use Rattle.std.specs.Prelude.{◌≡◌, ℕ, zero, suc, ◌+◌, ◌<◌, ◌≤◌, ℤ, pos, ◌≤ℤ◌, ◌<ℤ◌, Bool, not, if◌then◌else◌, List, [], ◌∷◌, length, map, int_le, int_lt, slice_index_or}
+use Rattle.std.specs.Prelude.{◌≡◌, ℕ, zero, suc, ◌+◌, ◌<◌, ◌≤◌, ℤ, pos, ◌≤ℤ◌, ◌<ℤ◌, Bool, if◌then◌else◌, List, [], ◌∷◌, length, int_le, slice_index_or}
 use Rattle.std.specs.List.{flat_map}
 use Rattle.sched_model.specs.declared.types.Shape.TheVariants.{Pulse, Step}
 use Rattle.sched_model.specs.declared.types.Shape.{Shape}
 use Rattle.sched_model.specs.declared.types.Part.{Part}
-use Rattle.sched_model.specs.Words.{total}
-use Rattle.sched_model.specs.Cumulative.{signed}
 use Rattle.region.specs.Cells.{Region}
-use Rattle.refute_cumul.specs.declared.changes.Change.{Change}
+use Rattle.sched_model.specs.declared.changes.Change.{Change}
+use Rattle.sched_model.specs.Changes.{change, pulse_changes}
 use Rattle.refute_cumul.specs.declared.profile.Level.{Level}
 use Rattle.refute_cumul.specs.declared.reach.Reach.{Reach}
 use Rattle.refute_cumul.specs.Loads.{bounded, load}
-
-abbrev pub change : ℤ → Bool → ℤ → Change
-change t minus h = record { t = t; minus = minus; h = h }
-
-abbrev pub rise : Change → ℤ
-rise c = signed c.minus c.h
-
--- a pulse that isn't empty goes up and comes down
-abbrev pub pulse_changes : Bool → ℤ → ℤ → ℤ → List Change
-pulse_changes minus u v h = if int_lt u v then change u minus h ∷ change v (not minus) h ∷ [] else []
 
 -- those of a part with fixed moments, and of all parts
 abbrev pub shape_changes : Bool → Shape → List Change
@@ -33,14 +22,6 @@ part_changes i = shape_changes i.minus i.shape
 
 abbrev pub load_changes : Region → Bool → List Part → List Change
 load_changes r below is = flat_map (λ i. part_changes (bounded r below i)) is
-
--- the sum of the changes until t
-abbrev pub sum_until : ℤ → List Change → ℤ
-sum_until t cs = total (map (λ c. if int_le c.t t then rise c else pos 0) cs)
-
--- no change is later than the next
-abbrev pub IsInOrder : List Change → Type 0
-IsInOrder cs = (k : ℕ) (d : Change) → k + 1 < length cs → (slice_index_or cs k d).t ≤ℤ (slice_index_or cs (k + 1) d).t
 
 -- the level at a moment is that of the last place until then, and z before the first
 abbrev pub level_from : ℤ → List Level → ℤ → ℤ

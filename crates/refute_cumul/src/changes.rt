@@ -2,19 +2,12 @@
 ghost use Rattle.std.specs.Prelude.{◌≡◌, ◌+◌, ◌*◌, ◌≤◌, ◌<◌, ◌++◌, ◌∷◌, [], ℤ, length, vec_len, vec_capacity};
 ghost use Rattle.std.specs.List.Sorted.{IsPermutation};
 ghost use Rattle.refute_cumul.specs.Loads.{bounded, load};
-ghost use Rattle.refute_cumul.specs.Profiles.{IsInOrder, part_changes, shape_changes, pulse_changes, load_changes, sum_until};
+ghost use Rattle.sched_model.specs.Changes.{IsInOrder, pulse_changes, sum_until};
+ghost use Rattle.refute_cumul.specs.Profiles.{part_changes, shape_changes, load_changes};
 
 use crate::levels::bounded;
 use region::Look;
-use sched_model::{Part, Shape};
-
-/// A change of a load: from the moment `t` on it is `h` units more, or with `minus` less.
-#[derive(Clone, Copy, Debug, PartialEq, Eq)]
-pub struct Change {
-    pub t: i64,
-    pub minus: bool,
-    pub h: i64,
-}
+use sched_model::{Change, Part, Shape, sort_changes};
 
 fn add(changes: &mut Vec<Change>, c: Change)
     requires room { vec_len changes.old < vec_capacity changes.old }
@@ -71,19 +64,12 @@ fn gather(changes: &mut Vec<Change>, look: &Look<'_>, below: bool, parts: &[Part
 }
 
 /// Sorts them by their moments.
-fn sort(changes: &mut [Change])
-    ensures moved { IsPermutation changes.old changes.new }
-    ensures in_order { IsInOrder changes.new }
-{
-    changes.sort_unstable_by_key(|c| c.t);
-}
-
 fn sort_all(changes: &mut Vec<Change>)
     ensures moved { IsPermutation changes.old.items changes.new.items }
     ensures in_order { IsInOrder changes.new.items }
     ensures room { vec_capacity changes.new ≡ vec_capacity changes.old }
 {
-    sort(changes.as_mut_slice());
+    sort_changes(changes.as_mut_slice());
 }
 
 /// The changes of all parts by their moments.

@@ -2,14 +2,15 @@
 ghost use Rattle.std.specs.Prelude.{◌≡◌, ◌*◌, ◌≤◌, ◌≤ℤ◌, ◌+ℤ◌, ◌-ℤ◌, ◌^◌, ℤ, neg_ℤ, pos, length, vec_capacity, slice_get, int_le, IfOk, IfSome, IfNone};
 ghost use Rattle.std.specs.Ordering.{int_eq};
 ghost use Rattle.sched_model.specs.Words.{passes};
-ghost use Rattle.refute_cumul.specs.Profiles.{IsInOrder, IsRising, IsProfileOf, AreReaches, IsPlaceOf, IsAbove, IsNeverAbove, IsFirstAbove, StaysBelow, level_before, level_in, sum_until, rise};
+ghost use Rattle.refute_cumul.specs.Profiles.{IsRising, IsProfileOf, AreReaches, IsPlaceOf, IsAbove, IsNeverAbove, IsFirstAbove, StaysBelow, level_before, level_in};
+ghost use Rattle.sched_model.specs.Changes.{IsInOrder, rise, sum_until};
 
-use crate::changes::{Change, gather_sorted};
+use crate::changes::gather_sorted;
 use crate::levels::signed;
 use crate::reach::{Reach, reach_all};
 use region::Look;
 use sched_base::NoMemory;
-use sched_model::Part;
+use sched_model::{Change, Part};
 use std::alloc::Global;
 
 /// The level from the moment `t` on.
@@ -190,6 +191,22 @@ impl Profile {
             to,
             limit,
         )
+    }
+
+    /// Where the run of moments from one on ends, before another at the latest, at which the level is
+    /// above a limit: a hint, of which nothing is promised.
+    pub fn run_end(&self, from: i64, to: i64, limit: i128) -> i64 {
+        let levels = self.levels.as_slice();
+        let k = places_until(levels, from);
+        for level in &levels[k..] {
+            if level.t >= to {
+                return to;
+            }
+            if level.level <= limit {
+                return level.t;
+            }
+        }
+        to
     }
 
     /// How many parts there is room for.

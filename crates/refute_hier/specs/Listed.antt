@@ -4,12 +4,13 @@ use Rattle.sched_base.specs.declared.ids.Itv.{Itv}
 use Rattle.sched_base.specs.declared.ids.Seq.{Seq}
 use Rattle.sched_model.specs.declared.types.Constraint.{Constraint}
 use Rattle.sched_model.specs.declared.types.Constraint.TheVariants as constraint
-use Rattle.sched_model.specs.Data.{Data, same, has}
+use Rattle.sched_model.specs.Data.{Data, same}
 use Rattle.region.specs.declared.types.Claim.TheVariants.{Present, Absent}
 use Rattle.region.specs.declared.types.Topic.{Topic}
 use Rattle.region.specs.declared.types.Topic.TheVariants.{One, Two}
 use Rattle.region.specs.declared.types.Guess.{Guess}
 use Rattle.region.specs.Guesses.{topic}
+use Rattle.region.specs.Topics.{asks_each}
 use Rattle.refute_hier.specs.declared.witness.HierWitness.{HierWitness}
 use Rattle.refute_hier.specs.declared.witness.HierWitness.TheVariants.{Span, Alt, Sync, SeqRel}
 
@@ -19,11 +20,6 @@ family_of (Some (constraint.Span a parts)) = a ∷ parts
 family_of (Some (constraint.Alternative a parts)) = a ∷ parts
 family_of (Some (constraint.Synchronize a parts)) = a ∷ parts
 family_of _ = []
-
--- the presence or a bound of one of these intervals
-abbrev pub asks_each : List Itv → Topic → Bool
-asks_each xs (One x c) = has xs x
-asks_each xs (Two p x y) = false
 
 -- the same, but not that it is absent
 abbrev pub asks_present : List Itv → Topic → Bool

@@ -1,19 +1,12 @@
 //! SEQREL: relations of the members of a sequence.
 ghost use Rattle.std.specs.Prelude.{◌≡◌};
 ghost use Rattle.sched_model.specs.Data.{members_of};
-ghost use Rattle.refute_hier.specs.SeqRel.{stand, seqrel_of, seqrel_row, related_in};
+ghost use Rattle.refute_hier.specs.SeqRel.{seqrel_of, seqrel_row, related_in};
 
-use crate::parts::shows_present;
-use region::{Look, OrderCell};
+use refute_basic::stand;
+use region::Look;
 use sched_base::{Itv, Seq, at};
 use sched_model::{Constraint, Model};
-
-/// Whether two members are present, and the first is told to stand before the second.
-fn stand(look: &Look<'_>, p: Seq, x: Itv, y: Itv) -> bool
-    ensures { result ≡ stand look.now.region p x y }
-{
-    shows_present(look, x) && shows_present(look, y) && look.order(p, x, y) == OrderCell::Forward
-}
 
 /// Whether a member stands where the relation has nobody.
 pub fn seqrel_of(look: &Look<'_>, x: Itv, relation: &Constraint) -> bool

@@ -1,1 +1,5 @@
 pub mod Rowing
+pub mod Sides
+pub mod Walking
+pub mod SetReading
+pub mod KindReading

@@ -2,6 +2,7 @@ pub mod Witness
 pub mod Standing
 pub mod Pair
 pub mod Triple
+pub mod Sets
 pub mod OnSequence
 pub mod Listed
 pub mod Order

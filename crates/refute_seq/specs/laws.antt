@@ -1,8 +1,13 @@
+pub mod SetNumbers
 pub mod Spelling
 pub mod Triple
 pub mod Pair
+pub mod Tasks
+pub mod Few
+pub mod Sets
 pub mod Sound
 pub mod Alike
+pub mod SetsAlike
 pub mod Known
 pub mod Settled
 pub mod Placed

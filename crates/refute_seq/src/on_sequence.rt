@@ -1,7 +1,15 @@
+ghost use Rattle.std.specs.Prelude.{◌≡◌};
+ghost use Rattle.region.specs.Looks.{IsRegionOf};
+ghost use Rattle.refute_seq.specs.OnSequence.{row_of};
+
+use crate::detect::detect;
+use crate::edge::edge;
+use crate::not_end::not_end;
+use crate::overload::overload;
 use crate::pair::pair;
 use crate::triple::triple;
 use crate::witness::SeqWitness;
-use region::{Look, Refuter};
+use region::{Look, Numbers, Refuter};
 use sched_model::Model;
 
 /// The refuter of this crate's kinds.
@@ -17,13 +25,42 @@ impl Refuter for OnSequence {
     ghost refuting = { refutes };
 
     fn refutes(model: &Model, look: &Look<'_>, w: &SeqWitness) -> bool {
-        match *w {
-            SeqWitness::Pair { c, a, b, k } => pair(model, look, c, a, b, k),
-            SeqWitness::Triple { p, x, y, z } => triple(look, p, x, y, z),
-        }
+        w.valid() && row(model, look, w)
     }
 
     ghost valid = { refuting_valid };
 
     ghost sound = { sound_law };
+}
+
+fn row(model: &Model, look: &Look<'_>, w: &SeqWitness) -> bool
+    requires { IsRegionOf model.now look.now.region }
+    ensures { result ≡ row_of model.now look.now w.now }
+{
+    match w {
+        SeqWitness::Pair { c, a, b, k } => pair(model, look, *c, *a, *b, *k),
+        SeqWitness::Triple { p, x, y, z } => triple(look, *p, *x, *y, *z),
+        SeqWitness::Overload { c, s } => overload(model, look, *c, s.as_slice()),
+        SeqWitness::Edge {
+            c,
+            side,
+            i,
+            s,
+            u,
+            v,
+        } => edge(
+            model,
+            look,
+            *c,
+            *side,
+            *i,
+            s.as_slice(),
+            u.as_slice(),
+            v.as_slice(),
+        ),
+        SeqWitness::NotEnd { c, side, i, s } => {
+            not_end(model, look, *c, *side, *i, s.as_slice())
+        }
+        SeqWitness::Detect { c, side, i, s } => detect(model, look, *c, *side, *i, s.as_slice()),
+    }
 }

@@ -14,6 +14,7 @@ use Rattle.sched_model.specs.declared.types.Slot.{Slot}
 use Rattle.sched_model.specs.declared.types.Constraint.{Constraint}
 use Rattle.refute_state.specs.declared.stretch.Stretch.{Stretch}
 use Rattle.refute_state.specs.Canonical.{stretch_of, empty_of}
+use Rattle.region.specs.laws.Lists.{both_true}
 
 none_step : {X Y : Type 0} (h : X → Option Y) (cs : List X) (k : ℕ) (d : X) (ys whole : List Y) → ys ++ filter_map h (drop k cs) ≡ whole → k < length cs → None ≡ h (get_or cs k d) → ys ++ filter_map h (drop (k + 1) cs) ≡ whole
 none_step h cs k d ys whole before within is =
@@ -44,10 +45,6 @@ gap_step ss g = some_step (empty_of ss g)
 -- a function more
 pub function_step : (f : ℕ → List Segment) (n : ℕ) (xs zs : List (List Segment)) (y : List Segment) → xs ≡ map f (range_with_len 0 n) → zs ≡ xs ++ y ∷ [] → y ≡ f n → zs ≡ map f (range_with_len 0 (n + 1))
 function_step f n xs zs y before made is = made ∙ ap (λ ys. ys ++ y ∷ []) before ∙ ap (λ z. map f (range_with_len 0 n) ++ z ∷ []) is ∙ sym (map-range_with_len_more f 0 n n (omega arith))
-
-both_true : (p q : Bool) → (p && q) ≡ true → (p ≡ true) × (q ≡ true)
-both_true true q h = (refl, h)
-both_true false q h = cc
 
 fifth : (a b c d e f g h : Bool) → (a && b && c && d && e && f && g && h) ≡ true → e ≡ true
 fifth true true true true true f g h p = refl

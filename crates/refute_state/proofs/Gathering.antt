@@ -5,13 +5,7 @@ use Rattle.std.proofs.Common.{refl, sym, ap, ◌∙◌, arith}
 use Rattle.std.proofs.lemmas.List.Elements.{filter-append}
 use Rattle.sched_model.specs.Data.{Data}
 use Rattle.refute_state.specs.Gathered.{demands_at, demands_below, demands_of}
-
-range_more : (a n : ℕ) → range_with_len a (n + 1) ≡ range_with_len a n ++ (a + n) ∷ []
-range_more a zero = ap (λ k. k ∷ []) (omega arith)
-range_more a (suc n) =
-    let one_more : suc n + 1 ≡ suc (n + 1) = omega arith in
-    let same : a + 1 + n ≡ a + suc n = omega arith in
-    ap (range_with_len a) one_more ∙ ap (λ xs. a ∷ xs) (range_more (a + 1) n) ∙ ap (λ k. a ∷ (range_with_len (a + 1) n ++ k ∷ [])) same
+use Rattle.base_laws.specs.laws.Lists.{range_more}
 
 filtered_one : (p : ℕ → Bool) (n : ℕ) (b : Bool) → p n ≡ b → filter p (n ∷ []) ≡ (if b then n ∷ [] else [])
 filtered_one p n true is = ap (λ b. if b then n ∷ [] else []) is

@@ -16,7 +16,7 @@ use Rattle.refute_hier.specs.declared.witness.HierWitness.{HierWitness}
 use Rattle.refute_hier.specs.declared.witness.HierWitness.TheVariants.{Span, Alt, Sync, SeqRel}
 use Rattle.refute_hier.specs.Witness.{numbers_of as hier_numbers}
 use Rattle.refute_seq.specs.declared.witness.SeqWitness.{SeqWitness}
-use Rattle.refute_seq.specs.declared.witness.SeqWitness.TheVariants.{Pair, Triple}
+use Rattle.refute_seq.specs.declared.witness.SeqWitness.TheVariants.{Pair, Triple, Overload, Edge, NotEnd, Detect}
 use Rattle.refute_seq.specs.Witness.{numbers_of as seq_numbers}
 use Rattle.refute_cumul.specs.declared.witness.CumulWitness.{CumulWitness}
 use Rattle.refute_cumul.specs.declared.witness.CumulWitness.TheVariants.{Point}
@@ -98,6 +98,10 @@ hier_placed (SeqRel c x) = refl
 pub seq_placed : (w : SeqWitness) → is_placed seq_kinds (seq_numbers w) ≡ true
 seq_placed (Pair c a b k) = refl
 seq_placed (Triple p x y z) = refl
+seq_placed (Overload c s) = refl
+seq_placed (Edge c side i s u v) = refl
+seq_placed (NotEnd c side i s) = refl
+seq_placed (Detect c side i s) = refl
 
 pub cumul_placed : (w : CumulWitness) → is_placed cumul_kinds (cumul_numbers w) ≡ true
 cumul_placed (Point c t u) = refl
@@ -144,14 +148,14 @@ low_of (Extra w) = 0
 low_of (Basic w) = 1
 low_of (Hier w) = 7
 low_of (Seq w) = 11
-low_of (Cumul w) = 13
-low_of (State w) = 14
+low_of (Cumul w) = 17
+low_of (State w) = 18
 
 abbrev pub many_of : {W : Type 0} → Witness W → ℕ
 many_of (Extra w) = 1
 many_of (Basic w) = 6
 many_of (Hier w) = 4
-many_of (Seq w) = 2
+many_of (Seq w) = 6
 many_of (Cumul w) = 1
 many_of (State w) = 2
 
@@ -175,10 +179,10 @@ hier_word = word_from (codes "EXTRA" ∷ basic_kinds) hier_kinds (seq_kinds ++ (
 seq_word : (k : ℕ) → k < length seq_kinds → get_or first_words (11 + k) [] ≡ get_or seq_kinds k []
 seq_word = word_from (codes "EXTRA" ∷ (basic_kinds ++ hier_kinds)) seq_kinds (cumul_kinds ++ state_kinds)
 
-cumul_word : (k : ℕ) → k < length cumul_kinds → get_or first_words (13 + k) [] ≡ get_or cumul_kinds k []
+cumul_word : (k : ℕ) → k < length cumul_kinds → get_or first_words (17 + k) [] ≡ get_or cumul_kinds k []
 cumul_word = word_from (codes "EXTRA" ∷ (basic_kinds ++ (hier_kinds ++ seq_kinds))) cumul_kinds state_kinds
 
-state_word : (k : ℕ) → k < length state_kinds → get_or first_words (14 + k) [] ≡ get_or state_kinds k []
+state_word : (k : ℕ) → k < length state_kinds → get_or first_words (18 + k) [] ≡ get_or state_kinds k []
 state_word = word_from (codes "EXTRA" ∷ (basic_kinds ++ (hier_kinds ++ (seq_kinds ++ cumul_kinds)))) state_kinds []
 
 -- where the words of a table stand there, a witness of its kinds begins with one of them
@@ -230,16 +234,16 @@ no_seq numbers w k us other within e =
     let same = same_place_from numbers w (11 + k) us (omega (arith, within)) (ap (λ v. v ∷ us) (seq_word k within) ∙ e) in
     let few = (begins numbers w).within in absurd (omega (arith, same, within, few))
 
-pub no_cumul : {W : Type 0} (numbers : W → List ℤ) (w : Witness W) (k : ℕ) (us : List Bytes) → (low_of w ≡ 13 → ⊥) → k < length cumul_kinds → get_or cumul_kinds k [] ∷ us ≡ witness_words numbers w → ⊥
+pub no_cumul : {W : Type 0} (numbers : W → List ℤ) (w : Witness W) (k : ℕ) (us : List Bytes) → (low_of w ≡ 17 → ⊥) → k < length cumul_kinds → get_or cumul_kinds k [] ∷ us ≡ witness_words numbers w → ⊥
 no_cumul numbers (Cumul w) k us other within e = other refl
 no_cumul numbers w k us other within e =
-    let same = same_place_from numbers w (13 + k) us (omega (arith, within)) (ap (λ v. v ∷ us) (cumul_word k within) ∙ e) in
+    let same = same_place_from numbers w (17 + k) us (omega (arith, within)) (ap (λ v. v ∷ us) (cumul_word k within) ∙ e) in
     let few = (begins numbers w).within in absurd (omega (arith, same, within, few))
 
-pub no_state : {W : Type 0} (numbers : W → List ℤ) (w : Witness W) (k : ℕ) (us : List Bytes) → (low_of w ≡ 14 → ⊥) → k < length state_kinds → get_or state_kinds k [] ∷ us ≡ witness_words numbers w → ⊥
+pub no_state : {W : Type 0} (numbers : W → List ℤ) (w : Witness W) (k : ℕ) (us : List Bytes) → (low_of w ≡ 18 → ⊥) → k < length state_kinds → get_or state_kinds k [] ∷ us ≡ witness_words numbers w → ⊥
 no_state numbers (State w) k us other within e = other refl
 no_state numbers w k us other within e =
-    let same = same_place_from numbers w (14 + k) us (omega (arith, within)) (ap (λ v. v ∷ us) (state_word k within) ∙ e) in
+    let same = same_place_from numbers w (18 + k) us (omega (arith, within)) (ap (λ v. v ∷ us) (state_word k within) ∙ e) in
     let few = (begins numbers w).within in absurd (omega (arith, same, within, few))
 
 pub no_extra : {W : Type 0} (numbers : W → List ℤ) (w : Witness W) (us : List Bytes) → (low_of w ≡ 0 → ⊥) → codes "EXTRA" ∷ us ≡ witness_words numbers w → ⊥

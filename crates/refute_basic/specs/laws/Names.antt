@@ -9,14 +9,11 @@ use Rattle.refute_basic.specs.declared.arc_name.ArcName.{ArcName}
 use Rattle.refute_basic.specs.Witness.{name_numbers, is_name}
 use Rattle.sched_model.specs.laws.Small.{small_number}
 use Rattle.sched_model.specs.Bounds.{is_number}
+use Rattle.region.specs.laws.Spelled.{one_signed}
 
 pub four_each : (is : List ArcName) → length (flat_map name_numbers is) ≡ 4 * length is
 four_each [] = refl
 four_each (i ∷ is) = omega (arith, four_each is)
-
-pub next_small : (z : ℤ) (zs : List ℤ) → is_small z ≡ true → AreSmall zs → AreSmall (z ∷ zs)
-next_small z zs first rest zero d within = first
-next_small z zs first rest (suc i) d within = rest i d (omega (arith, within))
 
 pub names_small : (is : List ArcName) → list_all is_name is ≡ true → AreSmall (flat_map name_numbers is)
 names_small [] h = none_small
@@ -28,10 +25,10 @@ names_small (j ∷ js) h =
     let four = both_true _ (is_number j.z) two.0 in
     let three = both_true _ (is_number j.y) four.0 in
     let pair = both_true (is_number j.kind) (is_number j.x) three.0 in
-    next_small (pos j.kind) (pos j.x ∷ pos j.y ∷ pos j.z ∷ flat_map name_numbers js) (small_number j.kind pair.0)
-    (next_small (pos j.x) (pos j.y ∷ pos j.z ∷ flat_map name_numbers js) (small_number j.x pair.1)
-    (next_small (pos j.y) (pos j.z ∷ flat_map name_numbers js) (small_number j.y three.1)
-    (next_small (pos j.z) (flat_map name_numbers js) (small_number j.z four.1) (names_small js two.1))))
+    one_signed (pos j.kind) (pos j.x ∷ pos j.y ∷ pos j.z ∷ flat_map name_numbers js) (small_number j.kind pair.0)
+    (one_signed (pos j.x) (pos j.y ∷ pos j.z ∷ flat_map name_numbers js) (small_number j.x pair.1)
+    (one_signed (pos j.y) (pos j.z ∷ flat_map name_numbers js) (small_number j.y three.1)
+    (one_signed (pos j.z) (flat_map name_numbers js) (small_number j.z four.1) (names_small js two.1))))
 
 made : (a b c d e f g h : ℕ) → a ≡ b → c ≡ d → e ≡ f → g ≡ h → let first : ArcName = record { kind = a; x = c; y = e; z = g } in let second : ArcName = record { kind = b; x = d; y = f; z = h } in first ≡ second
 made a b c d e f g h kind x y z = rw (kind, x, y, z) refl

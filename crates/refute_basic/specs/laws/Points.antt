@@ -28,6 +28,7 @@ use Rattle.region.specs.Looks.{IsRegionOf, is_narrowed}
 use Rattle.region.specs.laws.Lists.{both_true}
 use Rattle.look_hull.specs.LookHull.{unless_empty, unless_absent, start_look, end_look, size_look, presence_look, range_of_listed, truth_range, surely_true, surely_false, compare_range, not_range, and_range, or_range, implies_range, look_step, look_hull}
 use Rattle.refute_basic.specs.Leaf.{settled_alone, has_size, all_sized}
+use Rattle.base_laws.specs.laws.Truth.{nor}
 
 -- the range of one number
 abbrev pub point : ℤ → Ends
@@ -157,10 +158,6 @@ any_true (z ∷ zs) = rw (true_at z, any_true zs) refl
 neither : (b c : Bool) → (not b || not c) ≡ not (b && c)
 neither true c = refl
 neither false c = refl
-
-nor : (b c : Bool) → (not b && not c) ≡ not (b || c)
-nor true c = refl
-nor false c = refl
 
 any_false : (zs : List ℤ) → list_any surely_false (map point zs) ≡ not (list_all is_true zs)
 any_false [] = refl

@@ -12,9 +12,10 @@ use Rattle.refute_basic.specs.declared.witness.BasicWitness.{BasicWitness}
 use Rattle.refute_basic.specs.declared.witness.BasicWitness.TheVariants.{Size, Arc, Cycle, Expr, Obj, Leaf}
 use Rattle.refute_basic.specs.Witness.{name_numbers, numbers_of, is_name, is_valid}
 use Rattle.refute_basic.specs.Basic.{refutes, row_of}
-use Rattle.refute_basic.specs.laws.Names.{four_each, next_small, names_small, names_told}
+use Rattle.refute_basic.specs.laws.Names.{four_each, names_small, names_told}
 use Rattle.sched_model.specs.laws.Small.{small_number}
 use Rattle.sched_model.specs.Bounds.{is_number}
+use Rattle.region.specs.laws.Spelled.{one_signed}
 
 pub few_numbers : (w : BasicWitness) → IsTrue (is_valid w) → length (numbers_of w) < 2 ^ 32
 few_numbers (Size x) h = omega arith
@@ -47,7 +48,7 @@ small_numbers (Size x) h = one_small 0 x refl h
 small_numbers (Arc c d) h = let two = both_true (is_number c) (is_number d) h in two_small 1 c d refl two.0 two.1
 small_numbers (Cycle arcs) h =
     let two = both_true (is_number (2 + 4 * length arcs)) (list_all is_name arcs) h in
-    next_small (pos 2) (pos (length arcs) ∷ flat_map name_numbers arcs) (small_number 2 refl) (next_small (pos (length arcs)) (flat_map name_numbers arcs) (small_number (length arcs) (fewer (length arcs) two.0)) (names_small arcs two.1))
+    one_signed (pos 2) (pos (length arcs) ∷ flat_map name_numbers arcs) (small_number 2 refl) (one_signed (pos (length arcs)) (flat_map name_numbers arcs) (small_number (length arcs) (fewer (length arcs) two.0)) (names_small arcs two.1))
   where
     fewer : (n : ℕ) → is_number (2 + 4 * n) ≡ true → is_number n ≡ true
     fewer n h = grind (arith, nat_tests)

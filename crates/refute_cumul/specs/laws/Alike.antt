@@ -21,6 +21,7 @@ use Rattle.region.specs.laws.OneSequence.{same_self}
 use Rattle.refute_cumul.specs.Levels.{shape_min, shape_max, part_min, part_max, level_min, level_max, is_surely_in}
 use Rattle.refute_cumul.specs.Point.{leaves, point_case, point_of, point_row}
 use Rattle.refute_cumul.specs.Listed.{shape_names, window_names, names_in, names_of}
+use Rattle.sched_model.specs.laws.Names.{has_left, has_right}
 
 -- the same is known of each of these intervals in two regions
 abbrev pub SameEach : Region → Region → List Itv → Type 0
@@ -29,14 +30,6 @@ SameEach r q xs = (x : Itv) → has xs x ≡ true → bounds_of r x ≡ bounds_o
 or_more : (p q r : Bool) → (p || q) ≡ true → (q ≡ true → r ≡ true) → (p || r) ≡ true
 or_more true q r h more = refl
 or_more false q r h more = more h
-
-has_left : (xs ys : List Itv) (x : Itv) → has xs x ≡ true → has (xs ++ ys) x ≡ true
-has_left [] ys x h = cc
-has_left (z ∷ zs) ys x h = or_more (same x z) (has zs x) (has (zs ++ ys) x) h (has_left zs ys x)
-
-has_right : (xs ys : List Itv) (x : Itv) → has ys x ≡ true → has (xs ++ ys) x ≡ true
-has_right [] ys x h = h
-has_right (z ∷ zs) ys x h = or_right (same x z) (has (zs ++ ys) x) (has_right zs ys x h)
 
 pub left_same : (r q : Region) (xs ys : List Itv) → SameEach r q (xs ++ ys) → SameEach r q xs
 left_same r q xs ys each x here = each x (has_left xs ys x here)

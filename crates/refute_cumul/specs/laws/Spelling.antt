@@ -7,7 +7,7 @@ use Rattle.sched_model.specs.Data.{Data}
 use Rattle.region.specs.Looks.{Seen}
 use Rattle.region.specs.Spelled.{AreSmall}
 use Rattle.region.specs.laws.Lists.{both_true}
-use Rattle.region.specs.laws.Spelled.{no_more, one_more}
+use Rattle.region.specs.laws.Spelled.{no_more, one_more, one_signed}
 use Rattle.refute_cumul.specs.declared.witness.CumulWitness.{CumulWitness}
 use Rattle.refute_cumul.specs.declared.witness.CumulWitness.TheVariants.{Point}
 use Rattle.refute_cumul.specs.Witness.{numbers_of, is_valid}
@@ -15,11 +15,6 @@ use Rattle.refute_cumul.specs.OnCumul.{refutes, row_of}
 
 pub few_numbers : (w : CumulWitness) → IsTrue (is_valid w) → length (numbers_of w) < 2 ^ 32
 few_numbers (Point c t u) h = omega arith
-
--- a moment is as small as it is valid
-one_signed : (z : ℤ) (zs : List ℤ) → is_small z ≡ true → AreSmall zs → AreSmall (z ∷ zs)
-one_signed z zs first rest zero d within = first
-one_signed z zs first rest (suc i) d within = rest i d (omega (arith, within))
 
 pub small_numbers : (w : CumulWitness) → IsTrue (is_valid w) → AreSmall (numbers_of w)
 small_numbers (Point c t u) h =

@@ -1,7 +1,7 @@
 -- The rows look at no more than the bounds of the interval of a constraint and of its parts, or than the presence and the
 -- orders of the members that a relation compares.
-use Rattle.std.specs.Prelude.{◌≡◌, ℕ, zero, suc, Bool, true, false, ◌&&◌, ◌||◌, List, [], ◌∷◌, Option, Some, None, slice_get}
-use Rattle.std.proofs.Common.{refl, sym, ap, ◌∙◌}
+use Rattle.std.specs.Prelude.{◌≡◌, ℕ, zero, suc, true, ◌&&◌, ◌||◌, List, [], ◌∷◌, Option, Some, None, slice_get}
+use Rattle.std.proofs.Common.{refl, ap, ◌∙◌}
 use Rattle.std.proofs.lemmas.Bool.{or_left, or_right}
 use Rattle.sched_base.specs.declared.ids.Itv.{Itv}
 use Rattle.sched_base.specs.declared.ids.Seq.{Seq}
@@ -9,17 +9,17 @@ use Rattle.sched_model.specs.declared.types.Constraint.{Constraint}
 use Rattle.sched_model.specs.declared.types.Constraint.TheVariants as constraint
 use Rattle.sched_model.specs.Words.{passes}
 use Rattle.sched_model.specs.Data.{Data, same, has}
-use Rattle.region.specs.Orders.{SequenceCells, is_before, known_order, order_in, says_forward}
-use Rattle.region.specs.Cells.{Region, bounds_of, cells_of, says_present, says_absent}
+use Rattle.region.specs.Cells.{Region, bounds_of, says_present, says_absent}
 use Rattle.region.specs.Looks.{Seen}
 use Rattle.region.specs.laws.OneSequence.{same_self}
+use Rattle.refute_basic.specs.laws.Alike.{SameTwo, stand_alike}
 use Rattle.refute_hier.specs.declared.parts.Role.{Role}
 use Rattle.refute_hier.specs.declared.parts.Role.TheVariants.{IsThere, StartsBefore, EndsAfter, Clashes, MayStart, MayEnd, MayMatch}
 use Rattle.refute_hier.specs.Parts.{plays, plays_in, is_there, is_away, at_part, some_part}
 use Rattle.refute_hier.specs.Span.{span_case, span_of, span_row}
 use Rattle.refute_hier.specs.Alt.{alt_case, alt_of, alt_row}
 use Rattle.refute_hier.specs.Sync.{sync_case, sync_of, sync_row}
-use Rattle.refute_hier.specs.SeqRel.{stand, seqrel_of, seqrel_row}
+use Rattle.refute_hier.specs.SeqRel.{seqrel_of, seqrel_row}
 use Rattle.refute_hier.specs.Listed.{family_of}
 
 -- the same is known of each of these intervals in two regions
@@ -141,27 +141,6 @@ sync_alike m l k c i each = at (slice_get m.constraints c) each
     at (Some (constraint.AlwaysEqual g x v p q)) each = refl
     at (Some (constraint.AlwaysNoState g x)) each = refl
 
--- two members are as present in two regions, and stand alike
-pub record SameTwo (r q : Region) (p : Seq) (x y : Itv) : Type 0 where
-  pub first : (bounds_of r x).presence ≡ (bounds_of q x).presence
-  pub second : (bounds_of r y).presence ≡ (bounds_of q y).presence
-  pub order : order_in (cells_of r p) x y ≡ order_in (cells_of q p) x y
-
-forward_told : (s : SequenceCells) (x y : Itv) → is_before s x y ≡ says_forward (order_in s x y)
-forward_told s x y = of (is_before s x y) (is_before s y x)
-  where
-    of : (b c : Bool) → b ≡ says_forward (known_order b c)
-    of true c = refl
-    of false true = refl
-    of false false = refl
-
-two_alike : (r q : Region) (p : Seq) (x y : Itv) → SameTwo r q p x y → stand r p x y ≡ stand q p x y
-two_alike r q p x y h =
-    let one : is_there r x ≡ is_there q x = ap says_present h.first in
-    let other : is_there r y ≡ is_there q y = ap says_present h.second in
-    let order : is_before (cells_of r p) x y ≡ is_before (cells_of q p) x y = forward_told (cells_of r p) x y ∙ ap says_forward h.order ∙ sym (forward_told (cells_of q p) x y) in
-    rw (one, other, order) refl
-
 -- SEQREL reads how each two members stand that the relation compares, beside one more
 abbrev pub SameRelated : Region → Region → Itv → Option Constraint → Type 0
 SameRelated r q x (Some (constraint.First p a)) = SameTwo r q p x a
@@ -171,7 +150,7 @@ SameRelated r q x (Some (constraint.Prev p a b)) = SameTwo r q p b a × SameTwo 
 SameRelated r q x _ = Unit {0}
 
 prev_alike : (r q : Region) (p : Seq) (a b x : Itv) → SameTwo r q p b a × SameTwo r q p a x × SameTwo r q p x b → seqrel_of r x (constraint.Prev p a b) ≡ seqrel_of q x (constraint.Prev p a b)
-prev_alike r q p a b x h = rw (two_alike r q p b a h.0, two_alike r q p a x h.1, two_alike r q p x b h.2) refl
+prev_alike r q p a b x h = rw (stand_alike r q p b a h.0, stand_alike r q p a x h.1, stand_alike r q p x b h.2) refl
 
 pub seqrel_alike : (m : Data) (l k : Seen) (c x : ℕ) → SameRelated l.region k.region (record { 0 = x }) (slice_get m.constraints c) → seqrel_row m l c x ≡ seqrel_row m k c x
 seqrel_alike m l k c x each = at (slice_get m.constraints c) each
@@ -181,9 +160,9 @@ seqrel_alike m l k c x each = at (slice_get m.constraints c) each
 
     at : (o : Option Constraint) → SameRelated l.region k.region one o → passes (seqrel_of l.region one) o ≡ passes (seqrel_of k.region one) o
     at None h = refl
-    at (Some (constraint.First p a)) h = two_alike l.region k.region p one a h
-    at (Some (constraint.Last p a)) h = two_alike l.region k.region p a one h
-    at (Some (constraint.Before p a b)) h = ap (λ t. same one b && t) (two_alike l.region k.region p b a h)
+    at (Some (constraint.First p a)) h = stand_alike l.region k.region p one a h
+    at (Some (constraint.Last p a)) h = stand_alike l.region k.region p a one h
+    at (Some (constraint.Before p a b)) h = ap (λ t. same one b && t) (stand_alike l.region k.region p b a h)
     at (Some (constraint.Prev p a b)) h = prev_alike l.region k.region p a b one h
     at (Some (constraint.Temporal from to equal u v z)) h = refl
     at (Some (constraint.Logic e)) h = refl

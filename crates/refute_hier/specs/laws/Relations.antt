@@ -1,11 +1,10 @@
 -- Relations of the members of a sequence: a witness names a member, and on a settled region where no witness refutes each
 -- relation holds of the order that the region allows.
-use Rattle.std.specs.Prelude.{◌≡◌, ◌⊎◌, ℕ, ◌≤◌, Bool, true, false, not, ◌&&◌, ◌||◌, List, length, Some, None, slice_get, nat_lt}
+use Rattle.std.specs.Prelude.{◌≡◌, ◌⊎◌, ℕ, Bool, true, false, not, ◌&&◌, ◌||◌, List, length, Some, None, slice_get, nat_lt}
 use Rattle.std.specs.List.{list_all}
 use Rattle.std.proofs.Common.{inl, inr, refl, sym, subst, ap, ◌∙◌, arith}
 use Rattle.std.proofs.lemmas.Bool.{true≢false, not_from_false, false_from_ne_true, not-true}
 use Rattle.std.proofs.lemmas.Bool.Decides.{nat_tests}
-use Rattle.std.proofs.lemmas.List.{get_or_past}
 use Rattle.std.proofs.lemmas.Option.{slice_get_within}
 use Rattle.base_laws.specs.laws.Truth.{all_three, three_true}
 use Rattle.sched_base.specs.declared.ids.Itv.{Itv}
@@ -13,13 +12,11 @@ use Rattle.sched_base.specs.declared.ids.Seq.{Seq}
 use Rattle.sched_model.specs.declared.types.Assignment.{Assignment}
 use Rattle.sched_model.specs.declared.types.Constraint.{Constraint}
 use Rattle.sched_model.specs.declared.types.Constraint.TheVariants as constraint
-use Rattle.sched_model.specs.declared.types.Slot.TheVariants as slot
 use Rattle.sched_model.specs.Words.{◌implies◌, pairwise, passes}
 use Rattle.sched_model.specs.Bounds.{is_number}
 use Rattle.sched_model.specs.Data.{Data, same, has, members_of}
-use Rattle.sched_model.specs.Domain.{fits_def}
 use Rattle.sched_model.specs.Valid.{IsValid, is_itv, is_seq, is_member, is_constraint}
-use Rattle.sched_model.specs.Value.{is_here, is_present, order_of}
+use Rattle.sched_model.specs.Value.{is_present, order_of}
 use Rattle.sched_model.specs.Sequence.{stands_before, stands_next, is_first, is_last}
 use Rattle.sched_model.specs.Sentences.{holds}
 use Rattle.sched_model.specs.laws.Limits.{limits_of}
@@ -27,21 +24,22 @@ use Rattle.sched_model.specs.laws.Listed.{valid_at}
 use Rattle.sched_model.specs.laws.Small.{number_fits}
 use Rattle.sched_model.specs.laws.Words.{implied, if_implied}
 use Rattle.region.specs.Orders.{SequenceCells, is_before, known_order, order_in, says_unknown, AllowsOrder}
-use Rattle.region.specs.Cells.{Region, cells_of, no_sequence, is_fixed, is_known_order, is_ordered, is_settled, settled_slots}
+use Rattle.region.specs.Cells.{Region, cells_of, no_sequence, is_fixed, is_known_order, is_ordered, is_settled}
 use Rattle.region.specs.Looks.{Seen, IsRegionOf}
-use Rattle.region.specs.laws.Lists.{both_true, true_both, all-at, placewise-length}
+use Rattle.region.specs.laws.Lists.{both_true, true_both, all-at}
 use Rattle.region.specs.laws.OneSequence.{same_is, same_self, has_cases, below_is}
 use Rattle.region.specs.laws.Orderly.{Lists, stood_has, not_both, one_or_other, pair_stood, each_all}
 use Rattle.region.specs.laws.Narrowing.{members_are}
 use Rattle.region.specs.laws.Settling.{beyond}
-use Rattle.region.specs.laws.Pinned.{IsSettledTo, pinned}
+use Rattle.region.specs.laws.Pinned.{IsSettledTo, pinned, present_is}
 use Rattle.region.specs.laws.Rows.{Aside, next_from, stood_itself}
 use Rattle.refute_hier.specs.declared.witness.HierWitness.{HierWitness}
 use Rattle.refute_hier.specs.declared.witness.HierWitness.TheVariants.{SeqRel}
-use Rattle.refute_hier.specs.Witness.{is_valid, constraint_of}
+use Rattle.refute_hier.specs.Witness.{is_valid}
 use Rattle.refute_hier.specs.Parts.{is_there}
-use Rattle.refute_hier.specs.SeqRel.{stand, seqrel_of, seqrel_row, related_in}
-use Rattle.refute_hier.specs.Hier.{refutes, row_of}
+use Rattle.refute_basic.specs.Standing.{stand}
+use Rattle.refute_hier.specs.SeqRel.{seqrel_of, seqrel_row, related_in}
+use Rattle.refute_hier.specs.Hier.{refutes}
 use Rattle.refute_hier.specs.laws.Standing.{first_member, second_member}
 
 -- who stands where a relation has nobody is a member of its sequence
@@ -98,18 +96,6 @@ record IsUnrefuted (m : Data) (l : Seen) (a : Assignment) (c : ℕ) (d : Constra
   allows : AllowsOrder (cells_of l.region p) a (order_of a p)
   is : slice_get m.constraints c ≡ Some d
   none : (w : HierWitness) → refutes m l w ≡ false
-
--- who is present is an interval of the model, and the region shows it so
-present_is : (m : Data) (r : Region) (a : Assignment) (x : Itv) → IsSettledTo m r a → is_present a x ≡ true → is_itv m x ≡ true
-present_is m r a x to here = by_case (nat_lt x.0 (length m.intervals)) refl
-  where
-    by_case : (b : Bool) → nat_lt x.0 (length m.intervals) ≡ b → is_itv m x ≡ true
-    by_case true is = is
-    by_case false is =
-        let past : length m.intervals ≤ x.0 = grind (arith, nat_tests, is) in
-        let size = placewise-length fits_def m.intervals (settled_slots r) to.fits in
-        let slots : length a.slots ≡ length (settled_slots r) = ap length to.slots in
-        absurd (true≢false (sym here ∙ ap is_here (get_or_past a.slots x.0 slot.Absent (omega (arith, past, size, slots)))))
 
 shown : (m : Data) (r : Region) (a : Assignment) (x : Itv) → IsSettledTo m r a → is_present a x ≡ true → is_there r x ≡ true
 shown m r a x to here = sym (pinned m r a x to (present_is m r a x to here)).there ∙ here

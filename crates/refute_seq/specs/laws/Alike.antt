@@ -1,7 +1,7 @@
 -- The rows read no more than the bounds, the presence and the orders of the members that they speak of.
 use Rattle.std.specs.Prelude.{◌≡◌, ℕ, Bool, true, false, ◌&&◌, List, [], ◌∷◌, Option, Some, None, slice_get}
 use Rattle.std.specs.List.{list_all}
-use Rattle.std.proofs.Common.{refl, sym, ap, ◌∙◌}
+use Rattle.std.proofs.Common.{refl, ap, ◌∙◌}
 use Rattle.std.proofs.lemmas.Bool.{or_left, or_right}
 use Rattle.sched_base.specs.declared.ids.Itv.{Itv}
 use Rattle.sched_base.specs.declared.ids.Seq.{Seq}
@@ -14,7 +14,7 @@ use Rattle.region.specs.Cells.{Region, bounds_of, says_absent}
 use Rattle.region.specs.Looks.{Seen, lst_in, ect_in, lst_of, ect_of}
 use Rattle.region.specs.laws.OneSequence.{same_self}
 pub use Rattle.refute_basic.specs.laws.Alike.{SamePresence, SameOrder, SameTwo, precedes_alike, stand_alike}
-use Rattle.refute_seq.specs.Standing.{precedes, stand, is_away, is_aside, are_next}
+use Rattle.refute_seq.specs.Standing.{is_away, is_aside, are_next}
 use Rattle.refute_seq.specs.Pair.{pair_case, pair_of, pair_row}
 use Rattle.refute_seq.specs.Triple.{are_in_circle, triple_row}
 

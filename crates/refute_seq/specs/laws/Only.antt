@@ -1,31 +1,30 @@
 -- The orders that a settled look leaves are the only ones: each that lists the present members, as the region allows, is that one.
-use Rattle.std.specs.Prelude.{◌≡◌, ◌⊎◌, ℕ, zero, suc, ◌<◌, Bool, true, false, not, ◌&&◌, ◌||◌, List, [], ◌∷◌, length, map, None}
-use Rattle.std.specs.List.{list_all, filter}
+use Rattle.std.specs.Prelude.{◌≡◌, ℕ, zero, suc, ◌<◌, Bool, true, false, ◌||◌, List, [], ◌∷◌, length, None}
+use Rattle.std.specs.List.{list_all}
 use Rattle.std.proofs.Common.{refl, sym, subst, ap, ◌∙◌, inl, inr, arith, get_or}
 use Rattle.std.proofs.Math.ListN.{get_or-map}
-use Rattle.std.proofs.lemmas.Bool.{not-true, true≢false, not_from_false, or_left, or_right}
+use Rattle.std.proofs.lemmas.Bool.{not-true, true≢false, or_left}
 use Rattle.std.proofs.lemmas.List.{length-map}
 use Rattle.sched_base.specs.declared.ids.Itv.{Itv}
 use Rattle.sched_base.specs.declared.ids.Seq.{Seq}
-use Rattle.sched_model.specs.declared.types.SequenceDef.{SequenceDef}
 use Rattle.sched_model.specs.declared.types.Assignment.{Assignment}
 use Rattle.sched_model.specs.Words.{pairwise, placewise}
 use Rattle.sched_model.specs.Data.{Data, same, has, sequence_of}
 use Rattle.sched_model.specs.Sequence.{stands_before}
 use Rattle.sched_model.specs.Domain.{lists_present}
-use Rattle.sched_model.specs.Value.{is_present}
-use Rattle.region.specs.Orders.{SequenceCells, is_before, may_precede, allows_order}
+use Rattle.region.specs.Orders.{SequenceCells, may_precede, allows_order}
 use Rattle.region.specs.Cells.{cells_of, is_there, no_sequence}
 use Rattle.region.specs.Looks.{Seen}
-use Rattle.region.specs.laws.Lists.{both_true, true_both}
+use Rattle.region.specs.laws.Lists.{both_true}
 use Rattle.region.specs.laws.OneSequence.{same_is, same_self, same_turned, has_cases}
 use Rattle.region.specs.laws.Orderly.{Lists, lists_of, differ, never_in, all_has, stood_has, pair_stood, pairs_stood}
-use Rattle.region.specs.laws.Narrowing.{members_are, as_many}
-use Rattle.region.specs.laws.Pinned.{IsSettledTo, pinned}
+use Rattle.region.specs.laws.Narrowing.{members_are}
+use Rattle.region.specs.laws.Pinned.{IsSettledTo}
 use Rattle.refute_seq.specs.Standing.{precedes}
 use Rattle.refute_seq.specs.Order.{settled_order, settled_orders}
 use Rattle.refute_seq.specs.laws.Known.{IsHere, either_way}
 use Rattle.refute_seq.specs.laws.Ordered.{IsSettledLook, settled_lists, settled_allows, one_way, has_settled}
+use Rattle.base_laws.specs.laws.Truth.{same_truth}
 
 -- two rows of the same members are one list
 same_first : (before : Itv → Itv → Bool) (x y : Itv) (xs ys : List Itv) → ((u v : Itv) → before u v ≡ true → before v u ≡ true → ⊥) → pairwise before (x ∷ xs) ≡ true → pairwise before (y ∷ ys) ≡ true → ((z : Itv) → has (x ∷ xs) z ≡ has (y ∷ ys) z) → x ≡ y
@@ -68,11 +67,6 @@ one_row before (x ∷ xs) (y ∷ ys) one_way first second once twice alike =
     ap (λ (z : Itv). z ∷ xs) is ∙ ap (λ zs. y ∷ zs) (one_row before xs ys one_way row.1 other.1 here.1 there.1
     (λ z. same_rest y z xs ys (subst (λ (w : Itv). list_all (differ w) xs ≡ true) is here.0) there.0 (subst (λ (w : Itv). has (w ∷ xs) z ≡ has (y ∷ ys) z) is (alike z))))
 
-both_cases : (a b : Bool) → (a ≡ true → b ≡ true) → (b ≡ true → a ≡ true) → a ≡ b
-both_cases true b f g = sym (f refl)
-both_cases false true f g = g refl
-both_cases false false f g = refl
-
 -- an order of the present members that the region allows is a row
 stood_row : (m : Data) (l : Seen) (a : Assignment) (p : Seq) (xs : List Itv) → IsSettledLook m l → IsSettledTo m l.region a → Lists (cells_of l.region p).members a xs → allows_order (cells_of l.region p) xs ≡ true → pairwise (precedes l.region p) xs ≡ true
 stood_row m l a p xs ok to lists allows = pairs_stood (precedes l.region p) xs before
@@ -94,7 +88,7 @@ stood_row m l a p xs ok to lists allows = pairs_stood (precedes l.region p) xs b
 -- and so the one that is left
 pub allowed_order : (m : Data) (l : Seen) (a : Assignment) (p : Seq) (xs : List Itv) → IsSettledLook m l → IsSettledTo m l.region a → Lists (cells_of l.region p).members a xs → allows_order (cells_of l.region p) xs ≡ true → xs ≡ settled_order l.region (cells_of l.region p)
 allowed_order m l a p xs ok to lists allows =
-    one_row (precedes l.region p) xs left (one_way s) (stood_row m l a p xs ok to lists allows) (stood_row m l a p left ok to settled (settled_allows m l p ok)) lists.once settled.once (λ z. both_cases (has xs z) (has left z) (forth z) (back z))
+    one_row (precedes l.region p) xs left (one_way s) (stood_row m l a p xs ok to lists allows) (stood_row m l a p left ok to settled (settled_allows m l p ok)) lists.once settled.once (λ z. same_truth (has xs z) (has left z) (forth z) (back z))
   where
     s : SequenceCells
     s = cells_of l.region p

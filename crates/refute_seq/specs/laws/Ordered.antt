@@ -30,6 +30,7 @@ use Rattle.refute_seq.specs.Witness.{is_valid}
 use Rattle.refute_seq.specs.Standing.{precedes, stand}
 use Rattle.refute_seq.specs.Triple.{triple_row}
 use Rattle.refute_seq.specs.OnSequence.{refutes}
+use Rattle.refute_seq.specs.Listed.{is_derived}
 use Rattle.refute_seq.specs.Order.{settled_order, settled_orders}
 use Rattle.refute_seq.specs.laws.Known.{member_is, members_once, interval_number, sequence_number, IsHere, here_within, either_way}
 use Rattle.refute_seq.specs.laws.Placed.{IsOrder, IsRow, all_rows, has_ordered, has_kept, once_kept}
@@ -55,12 +56,12 @@ one_way_at cs i j a b = decided (nat_lt i j) (nat_lt j i) (cell_at cs i j) (cell
 pub one_way : (s : SequenceCells) (x y : Itv) → is_before s x y ≡ true → is_before s y x ≡ true → ⊥
 one_way s x y h k = one_way_at s.cells (place_of s.members x) (place_of s.members y) h k
 
--- a settled look at a region of a valid model of which no witness refutes
+-- a settled look at a region of a valid model that no witness of two members or of three refutes
 pub record IsSettledLook (m : Data) (l : Seen) : Type 0 where
   pub valid : IsValid m
   pub of : IsRegionOf m l.region
   pub settled : is_settled l.region ≡ true
-  pub none : (w : SeqWitness) → refutes m l w ≡ false
+  pub none : (w : SeqWitness) → is_derived w ≡ true → refutes m l w ≡ false
 
 abbrev present : Region → Seq → List Itv
 present r p = filter (is_there r) (cells_of r p).members
@@ -80,7 +81,7 @@ no_circle m l p x y z ok one other third f g h =
     (all_three (is_number p.0) (is_number x.0) (is_number y.0) (sequence_number m p ok.valid (subst (λ n. p.0 < n) (as_many m l.region ok.of) (here_within l.region p x one.here))) (number_of m l p x ok one) (number_of m l p y ok other))
     (number_of m l p z ok third))
     (all_three (stand l.region p x y) (stand l.region p y z) (stand l.region p z x) (told x y one other f) (told y z other third g) (told z x third one h)))
-    ∙ ok.none (Triple p.0 x.0 y.0 z.0))
+    ∙ ok.none (Triple p.0 x.0 y.0 z.0) refl)
   where
     told : (u w : Itv) → IsHere l.region p u → IsHere l.region p w → precedes l.region p u w ≡ true → stand l.region p u w ≡ true
     told u w a b is = all_three (is_there l.region u) (is_there l.region w) (precedes l.region p u w) a.there b.there is

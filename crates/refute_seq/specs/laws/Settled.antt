@@ -33,7 +33,9 @@ use Rattle.refute_seq.specs.Witness.{is_valid}
 use Rattle.refute_seq.specs.Standing.{precedes, stand, is_away, is_aside, are_next}
 use Rattle.refute_seq.specs.Pair.{pair_of, pair_row}
 use Rattle.refute_seq.specs.OnSequence.{refutes}
-use Rattle.refute_seq.specs.laws.Known.{member_is, IsHere, either_way, constraint_number, interval_number}
+use Rattle.refute_seq.specs.Listed.{is_derived}
+use Rattle.refute_seq.specs.laws.Known.{member_is, IsHere, either_way, interval_number}
+use Rattle.sched_model.specs.laws.Limits.{constraint_number}
 
 -- an assignment that a settled region leaves, whose order of a sequence lists the present members as the region allows
 pub record IsOrdered (m : Data) (r : Region) (a : Assignment) (p : Seq) : Type 0 where
@@ -81,7 +83,7 @@ record IsUnrefuted (m : Data) (l : Seen) (a : Assignment) (c : ℕ) (p : Seq) (m
   valid : IsValid m
   ok : IsOrdered m l.region a p
   is : slice_get m.constraints c ≡ Some (NoOverlap p matrix direct)
-  none : (w : SeqWitness) → refutes m l w ≡ false
+  none : (w : SeqWitness) → is_derived w ≡ true → refutes m l w ≡ false
 
 is_named : (m : Data) (c k : ℕ) (x y : Itv) (d : Constraint) → IsValid m → slice_get m.constraints c ≡ Some d → is_itv m x ≡ true → is_itv m y ≡ true → is_number k ≡ true → is_valid (Pair c x.0 y.0 k) ≡ true
 is_named m c k x y d valid is one other case =
@@ -99,7 +101,7 @@ unheld m l a c k p matrix direct x y un case h =
     let two = stood_has (order_of a p) x y h in
     let one = member m l.region a p x un.valid un.ok two.0 in
     let other = member m l.region a p y un.valid un.ok two.1 in
-    let row : pair_row m l c x.0 y.0 k ≡ false = other_fails (is_valid (Pair c x.0 y.0 k)) (pair_row m l c x.0 y.0 k) (un.none (Pair c x.0 y.0 k)) (is_named m c k x y (NoOverlap p matrix direct) un.valid un.is one.is other.is case) in
+    let row : pair_row m l c x.0 y.0 k ≡ false = other_fails (is_valid (Pair c x.0 y.0 k)) (pair_row m l c x.0 y.0 k) (un.none (Pair c x.0 y.0 k) refl) (is_named m c k x y (NoOverlap p matrix direct) un.valid un.is one.is other.is case) in
     other_fails (stand l.region p x y) _ (sym (ap (passes (pair_of m l.region k x y)) un.is) ∙ row) (stands m l.region a p x y un.valid un.ok h)
 
 -- moments
@@ -180,6 +182,6 @@ no_overlap m l a c p matrix true un =
     (all_adjacent (λ x y. is_apart a (gap m p matrix x y) x y) (order_of a p) (λ x y h. neighbours m l a c p matrix x y un h))
 
 -- where no witness refutes, a sequence without overlap has none
-pub unrefuted_holds : (m : Data) (l : Seen) (a : Assignment) (c : ℕ) (p : Seq) (matrix : Option Mat) (direct : Bool) → IsValid m → IsOrdered m l.region a p → ((w : SeqWitness) → refutes m l w ≡ false)
+pub unrefuted_holds : (m : Data) (l : Seen) (a : Assignment) (c : ℕ) (p : Seq) (matrix : Option Mat) (direct : Bool) → IsValid m → IsOrdered m l.region a p → ((w : SeqWitness) → is_derived w ≡ true → refutes m l w ≡ false)
     → slice_get m.constraints c ≡ Some (NoOverlap p matrix direct) → holds m a (NoOverlap p matrix direct) ≡ true
 unrefuted_holds m l a c p matrix direct valid ok none is = no_overlap m l a c p matrix direct (record { valid = valid; ok = ok; is = is; none = none })

@@ -1,8 +1,8 @@
 -- A settled look of which no witness of this crate refutes leaves orders that list the present members, as the region allows,
 -- and by them what is listed as without overlap has none.
-use Rattle.std.specs.Prelude.{◌≡◌, ℕ, zero, suc, ◌+◌, ◌<◌, Bool, true, false, ◌&&◌, List, [], ◌∷◌, length, map, slice_get, Some, None}
+use Rattle.std.specs.Prelude.{◌≡◌, ℕ, suc, ◌<◌, Bool, true, ◌&&◌, List, [], ◌∷◌, length, slice_get, Some, None}
 use Rattle.std.specs.List.{list_all}
-use Rattle.std.proofs.Common.{refl, sym, subst, ap, ◌∙◌, arith, get_or}
+use Rattle.std.proofs.Common.{refl, sym, subst, ◌∙◌, arith, get_or}
 use Rattle.std.proofs.Math.ListN.{get_or-map}
 use Rattle.std.proofs.lemmas.List.{length-map}
 use Rattle.base_laws.specs.laws.Items.{all_listed}
@@ -16,27 +16,18 @@ use Rattle.sched_model.specs.Words.{◌implies◌, pairwise, placewise}
 use Rattle.sched_model.specs.Data.{Data, has, sequence_of}
 use Rattle.sched_model.specs.laws.Words.{if_implied}
 use Rattle.sched_model.specs.Domain.{lists_present}
-use Rattle.sched_model.specs.Value.{is_present, order_of}
+use Rattle.sched_model.specs.Value.{is_present}
 use Rattle.sched_model.specs.Sentences.{holds}
-use Rattle.region.specs.Orders.{SequenceCells, allows_order}
-use Rattle.region.specs.Cells.{Region, cells_of, no_sequence}
-use Rattle.region.specs.Looks.{Seen, IsRegionOf}
-use Rattle.region.specs.laws.Lists.{true_both}
+use Rattle.region.specs.Orders.{allows_order}
+use Rattle.region.specs.Cells.{cells_of, no_sequence}
+use Rattle.region.specs.Looks.{Seen}
+use Rattle.region.specs.laws.Lists.{true_both, placewise_each}
 use Rattle.region.specs.laws.Orderly.{Lists, differ, each_all}
 use Rattle.region.specs.laws.Narrowing.{members_are, as_many}
 use Rattle.region.specs.laws.Pinned.{IsSettledTo}
-use Rattle.refute_seq.specs.declared.witness.SeqWitness.{SeqWitness}
-use Rattle.refute_seq.specs.OnSequence.{refutes}
 use Rattle.refute_seq.specs.Order.{settled_order, settled_orders}
 use Rattle.refute_seq.specs.laws.Settled.{unrefuted_holds}
 use Rattle.refute_seq.specs.laws.Ordered.{IsSettledLook, settled_lists, settled_allows, settled_ordered, orders_settled}
-
-placewise_each : {X Y : Type 0} (t : X → Y → Bool) (xs : List X) (ys : List Y) (d : X) (e : Y) → length xs ≡ length ys → ((n : ℕ) → n < length xs → t (get_or xs n d) (get_or ys n e) ≡ true) → placewise t xs ys ≡ true
-placewise_each t [] [] d e same each = refl
-placewise_each t [] (y ∷ ys) d e same each = absurd (omega (arith, same))
-placewise_each t (x ∷ xs) [] d e same each = absurd (omega (arith, same))
-placewise_each t (x ∷ xs) (y ∷ ys) d e same each =
-    true_both (t x y) (placewise t xs ys) (each 0 (omega arith)) (placewise_each t xs ys d e (omega (arith, same)) (λ n within. each (suc n) (omega (arith, within))))
 
 present_listed : (a : Assignment) (d : SequenceDef) (xs : List Itv) → Lists d.members a xs → lists_present a d xs ≡ true
 present_listed a d xs lists =

@@ -31,19 +31,16 @@ use Rattle.refute_state.specs.laws.Running.{IsDistance}
 use Rattle.refute_state.specs.laws.Serving.{canonical_serves, not_meets, meets_not}
 use Rattle.refute_state.specs.laws.Settled.{In, each_in}
 use Rattle.refute_state.specs.Canonical.{stretch_of, empty_of, canonical_for, canonical}
-
-pub both : (p q : Bool) → (p && q) ≡ true → (p ≡ true) × (q ≡ true)
-both true q h = (refl, h)
-both false q h = cc
-
-pub and_from : (p q : Bool) → p ≡ true → q ≡ true → (p && q) ≡ true
-and_from true q h i = i
-and_from false q h i = cc
+use Rattle.base_laws.specs.laws.Truth.{all_five, five_true}
+use Rattle.sched_model.specs.laws.Words.{implied, if_implied}
+use Rattle.std.proofs.lemmas.Bool.{and_from}
+use Rattle.sched_model.specs.laws.Small.{low_amount}
+use Rattle.region.specs.laws.Lists.{placewise_each, both_true}
 
 -- tests and facts of lists
 pub all_each : {X : Type 0} (t : X → Bool) (xs : List X) → list_all t xs ≡ true → Each (λ x. t x ≡ true) xs
 all_each t [] h = tt
-all_each t (x ∷ xs) h = let p = both (t x) (list_all t xs) h in (p.0, all_each t xs p.1)
+all_each t (x ∷ xs) h = let p = both_true (t x) (list_all t xs) h in (p.0, all_each t xs p.1)
 
 pub each_all : {X : Type 0} (t : X → Bool) (xs : List X) → Each (λ x. t x ≡ true) xs → list_all t xs ≡ true
 each_all t [] h = refl
@@ -68,7 +65,7 @@ some_any t (x ∷ xs) h = decided (t x) refl h (λ later. some_any t xs later)
 
 pub pairs_of : {X : Type 0} (t : X → X → Bool) (xs : List X) → pairwise t xs ≡ true → Pairs (λ x y. t x y ≡ true) xs
 pairs_of t [] h = tt
-pairs_of t (x ∷ xs) h = let p = both (list_all (t x) xs) (pairwise t xs) h in (all_each (t x) xs p.0, pairs_of t xs p.1)
+pairs_of t (x ∷ xs) h = let p = both_true (list_all (t x) xs) (pairwise t xs) h in (all_each (t x) xs p.0, pairs_of t xs p.1)
 
 pub of_pairs : {X : Type 0} (t : X → X → Bool) (xs : List X) → Pairs (λ x y. t x y ≡ true) xs → pairwise t xs ≡ true
 of_pairs t [] h = refl
@@ -112,22 +109,6 @@ Far m d v w = distance m d.matrix (nat_abs v) (nat_abs w)
 abbrev pub Fit : Data → StateDef → Segment → Type 0
 Fit m d s = Fits (neg_ℤ horizon) horizon (IsGood m d) s
 
-five : (a b c d e : Bool) → (a && b && c && d && e) ≡ true → (a ≡ true) × (b ≡ true) × (c ≡ true) × (d ≡ true) × (e ≡ true)
-five true true true true true h = (refl, refl, refl, refl, refl)
-five false b c d e h = cc
-five true false c d e h = cc
-five true true false d e h = cc
-five true true true false e h = cc
-five true true true true false h = cc
-
-five_from : (a b c d e : Bool) → a ≡ true → b ≡ true → c ≡ true → d ≡ true → e ≡ true → (a && b && c && d && e) ≡ true
-five_from true true true true true p q r s t = refl
-five_from false b c d e p q r s t = cc
-five_from true false c d e p q r s t = cc
-five_from true true false d e p q r s t = cc
-five_from true true true false e p q r s t = cc
-five_from true true true true false p q r s t = cc
-
 less_is : (x y : ℤ) → int_lt x y ≡ true → x <ℤ y
 less_is x y h = grind (arith, ints, h)
 
@@ -148,18 +129,18 @@ is_same x y h = grind (arith, ints, h)
 
 fits_from : (m : Data) (d : StateDef) (s : Segment) → is_segment m d s ≡ true → Fit m d s
 fits_from m d s h =
-    let p = five (int_lt s.p s.q) (is_moment s.p) (is_moment s.q) (is_amount s.v) (is_row (matrix_of m d.matrix) s.v) h in
+    let p = five_true (int_lt s.p s.q) (is_moment s.p) (is_moment s.q) (is_amount s.v) (is_row (matrix_of m d.matrix) s.v) h in
     record {
       some = less_is s.p s.q p.0;
-      low = most_is (neg_ℤ horizon) s.p (both (int_le (neg_ℤ horizon) s.p) (int_le s.p horizon) p.1).0;
-      high = most_is s.q horizon (both (int_le (neg_ℤ horizon) s.q) (int_le s.q horizon) p.2).1;
+      low = most_is (neg_ℤ horizon) s.p (both_true (int_le (neg_ℤ horizon) s.p) (int_le s.p horizon) p.1).0;
+      high = most_is s.q horizon (both_true (int_le (neg_ℤ horizon) s.q) (int_le s.q horizon) p.2).1;
       state = and_from (is_amount s.v) (is_row (matrix_of m d.matrix) s.v) p.3 p.4;
     }
 
 fits_to : (m : Data) (d : StateDef) (s : Segment) → Fit m d s → is_segment m d s ≡ true
 fits_to m d s h =
-    let state = both (is_amount s.v) (is_row (matrix_of m d.matrix) s.v) h.state in
-    five_from (int_lt s.p s.q) (is_moment s.p) (is_moment s.q) (is_amount s.v) (is_row (matrix_of m d.matrix) s.v)
+    let state = both_true (is_amount s.v) (is_row (matrix_of m d.matrix) s.v) h.state in
+    all_five (int_lt s.p s.q) (is_moment s.p) (is_moment s.q) (is_amount s.v) (is_row (matrix_of m d.matrix) s.v)
     (is_less s.p s.q h.some)
     (and_from (int_le (neg_ℤ horizon) s.p) (int_le s.p horizon) (is_most (neg_ℤ horizon) s.p h.low) (is_most s.p horizon (omega (arith, ints, h.some, h.high))))
     (and_from (int_le (neg_ℤ horizon) s.q) (int_le s.q horizon) (is_most (neg_ℤ horizon) s.q (omega (arith, ints, h.some, h.low))) (is_most s.q horizon h.high))
@@ -168,17 +149,9 @@ fits_to m d s h =
 abbrev pub stretch : Assignment → Itv → ℤ → Bool → Bool → Stretch
 stretch a x v i j = record { start = start_of a x; end = end_of a x; state = v; starts = i; ends = j }
 
-pub implied : (p q : Bool) → (p implies q) ≡ true → p ≡ true → q ≡ true
-implied true q h is = h
-implied false q h is = cc
-
-implied_to : (p q : Bool) → (p ≡ true → q ≡ true) → (p implies q) ≡ true
-implied_to true q h = h refl
-implied_to false q h = refl
-
 pub lies_from : (a : Assignment) (x : Itv) (v : ℤ) (i j : Bool) (s : Segment) → lies_in a x v i j s ≡ true → Lies (stretch a x v i j) s
 lies_from a x v i j s h =
-    let p = five (int_eq s.v v) (int_le s.p (start_of a x)) (int_le (end_of a x) s.q) (i implies int_eq s.p (start_of a x)) (j implies int_eq s.q (end_of a x)) h in
+    let p = five_true (int_eq s.v v) (int_le s.p (start_of a x)) (int_le (end_of a x) s.q) (i implies int_eq s.p (start_of a x)) (j implies int_eq s.q (end_of a x)) h in
     record {
       state = same_is s.v v p.0;
       low = most_is s.p (start_of a x) p.1;
@@ -188,9 +161,9 @@ lies_from a x v i j s h =
     }
 
 lies_to : (a : Assignment) (x : Itv) (v : ℤ) (i j : Bool) (s : Segment) → Lies (stretch a x v i j) s → lies_in a x v i j s ≡ true
-lies_to a x v i j s h = five_from (int_eq s.v v) (int_le s.p (start_of a x)) (int_le (end_of a x) s.q) (i implies int_eq s.p (start_of a x)) (j implies int_eq s.q (end_of a x))
+lies_to a x v i j s h = all_five (int_eq s.v v) (int_le s.p (start_of a x)) (int_le (end_of a x) s.q) (i implies int_eq s.p (start_of a x)) (j implies int_eq s.q (end_of a x))
     (is_same s.v v h.state) (is_most s.p (start_of a x) h.low) (is_most (end_of a x) s.q h.high)
-    (implied_to i _ (λ is. is_same s.p (start_of a x) (h.starts is))) (implied_to j _ (λ is. is_same s.q (end_of a x) (h.ends is)))
+    (if_implied i _ (λ is. is_same s.p (start_of a x) (h.starts is))) (if_implied j _ (λ is. is_same s.q (end_of a x) (h.ends is)))
 
 not_to : (b : Bool) → b ≡ false → not b ≡ true
 not_to true h = cc
@@ -219,7 +192,7 @@ taken false t y h = cc
 demand_from : (a : Assignment) (g : Stf) (ss : List Segment) (c : Constraint) (y : Stretch) → SentenceAt a g ss c → stretch_of a.slots g c ≡ Some y → lists.Some (Lies y) ss
 demand_from a g ss (AlwaysEqual h x v i j) y sentence is =
     let t = taken (nat_eq h.0 g.0 && demands a x) (stretch a x v i j) y is in
-    let p = both (nat_eq h.0 g.0) (demands a x) t.0 in
+    let p = both_true (nat_eq h.0 g.0) (demands a x) t.0 in
     subst (λ z. lists.Some (Lies z) ss) t.1 (lists.some_map (λ s. lies_in a x v i j s ≡ true) (Lies (stretch a x v i j)) ss (λ s k. lies_from a x v i j s k)
     (any_some (lies_in a x v i j) ss (implied (demands a x) _ (sentence p.0) p.1)))
 demand_from a g ss c y sentence is = cc
@@ -227,7 +200,7 @@ demand_from a g ss c y sentence is = cc
 gap_from : (a : Assignment) (g : Stf) (ss : List Segment) (c : Constraint) (y : ℤ × ℤ) → SentenceAt a g ss c → empty_of a.slots g c ≡ Some y → Each (Clear y) ss
 gap_from a g ss (AlwaysNoState h x) y sentence is =
     let t = taken (nat_eq h.0 g.0 && demands a x) (start_of a x, end_of a x) y is in
-    let p = both (nat_eq h.0 g.0) (demands a x) t.0 in
+    let p = both_true (nat_eq h.0 g.0) (demands a x) t.0 in
     subst (λ z. Each (Clear z) ss) t.1 (each_map (λ s. not (shares_moment a x s) ≡ true) (Clear (start_of a x, end_of a x)) ss (λ s k. clear_from a x s k)
     (all_each (λ s. not (shares_moment a x s)) ss (implied (demands a x) _ (sentence p.0) p.1)))
 gap_from a g ss c y sentence is = cc
@@ -235,7 +208,7 @@ gap_from a g ss c y sentence is = cc
 pub proper_from : (a : Assignment) (g : Stf) (c : Constraint) (y : Stretch) → stretch_of a.slots g c ≡ Some y → Proper y
 proper_from a g (AlwaysEqual h x v i j) y is =
     let t = taken (nat_eq h.0 g.0 && demands a x) (stretch a x v i j) y is in
-    let p = both (is_present a x) (int_lt (start_of a x) (end_of a x)) (both (nat_eq h.0 g.0) (demands a x) t.0).1 in
+    let p = both_true (is_present a x) (int_lt (start_of a x) (end_of a x)) (both_true (nat_eq h.0 g.0) (demands a x) t.0).1 in
     subst Proper t.1 (record { some = less_is (start_of a x) (end_of a x) p.1 })
 proper_from a g c y is = cc
 
@@ -250,7 +223,7 @@ ServesAt m d a g ss = Serves (neg_ℤ horizon) horizon (IsGood m d) (Far m d) (d
 
 serves_from : (m : Data) (d : StateDef) (a : Assignment) (g : Stf) (ss : List Segment) → are_segments m d ss ≡ true → ((c : Constraint) → In m.constraints c → SentenceAt a g ss c) → ServesAt m d a g ss
 serves_from m d a g ss are sentences =
-    let p = both (list_all (is_segment m d) ss) (pairwise (keeps_distance m d) ss) are in
+    let p = both_true (list_all (is_segment m d) ss) (pairwise (keeps_distance m d) ss) are in
     record {
       fits = each_map (λ s. is_segment m d s ≡ true) (Fit m d) ss (λ s h. fits_from m d s h) (all_each (is_segment m d) ss p.0);
       order = pairs_map (λ s t. keeps_distance m d s t ≡ true) (Keeps (Far m d)) ss (λ s t h. most_is (s.q +ℤ Far m d s.v t.v) t.p h) (pairs_of (keeps_distance m d) ss p.1);
@@ -268,11 +241,11 @@ given true t h = refl
 given false t h = cc
 
 sentence_to : (m : Data) (d : StateDef) (a : Assignment) (g : Stf) (ss : List Segment) (c : Constraint) → ServesAt m d a g ss → In m.constraints c → SentenceAt a g ss c
-sentence_to m d a g ss (AlwaysEqual h x v i j) serves here = λ same. implied_to (demands a x) _ (λ is.
+sentence_to m d a g ss (AlwaysEqual h x v i j) serves here = λ same. if_implied (demands a x) _ (λ is.
     some_any (lies_in a x v i j) ss (lists.some_map (Lies (stretch a x v i j)) (λ s. lies_in a x v i j s ≡ true) ss (λ s k. lies_to a x v i j s k)
     (given_each (λ y. lists.Some (Lies y) ss) (stretch_of a.slots g) m.constraints (AlwaysEqual h x v i j) (stretch a x v i j) serves.demands here
     (given (nat_eq h.0 g.0 && demands a x) (stretch a x v i j) (and_from (nat_eq h.0 g.0) (demands a x) same is)))))
-sentence_to m d a g ss (AlwaysNoState h x) serves here = λ same. implied_to (demands a x) _ (λ is.
+sentence_to m d a g ss (AlwaysNoState h x) serves here = λ same. if_implied (demands a x) _ (λ is.
     each_all (λ s. not (shares_moment a x s)) ss (each_map (Clear (start_of a x, end_of a x)) (λ s. not (shares_moment a x s) ≡ true) ss (λ s k. clear_to a x s k)
     (given_each (λ y. Each (Clear y) ss) (empty_of a.slots g) m.constraints (AlwaysNoState h x) (start_of a x, end_of a x) serves.gaps here
     (given (nat_eq h.0 g.0 && demands a x) (start_of a x, end_of a x) (and_from (nat_eq h.0 g.0) (demands a x) same is)))))
@@ -281,16 +254,13 @@ sentence_to m d a g ss c serves here = tt
 -- distances of a valid model
 all_get : {X : Type 0} (t : X → Bool) (xs : List X) (i : ℕ) (d : X) → list_all t xs ≡ true → t d ≡ true → t (get_or xs i d) ≡ true
 all_get t [] i d h e = e
-all_get t (x ∷ xs) zero d h e = (both (t x) _ h).0
-all_get t (x ∷ xs) (suc i) d h e = all_get t xs i d (both (t x) _ h).1 e
-
-low_amount : (z : ℤ) → is_amount z ≡ true → pos 0 ≤ℤ z
-low_amount z h = most_is (pos 0) z (both (int_le (pos 0) z) (int_le z (pos 1000000)) h).0
+all_get t (x ∷ xs) zero d h e = (both_true (t x) _ h).0
+all_get t (x ∷ xs) (suc i) d h e = all_get t xs i d (both_true (t x) _ h).1 e
 
 cell_low : (i j : ℕ) (ds : List MatrixDef) (n : ℕ) → list_all is_matrix_def ds ≡ true → pos 0 ≤ℤ cell_at i j (slice_get ds n)
 cell_low i j [] n h = omega (arith, ints)
-cell_low i j (d ∷ ds) zero h = low_amount _ (all_get is_amount d.cells (d.size * i + j) (pos 0) (both _ (list_all is_amount d.cells) (both (is_matrix_def d) (list_all is_matrix_def ds) h).0).1 refl)
-cell_low i j (d ∷ ds) (suc n) h = cell_low i j ds n (both (is_matrix_def d) (list_all is_matrix_def ds) h).1
+cell_low i j (d ∷ ds) zero h = low_amount _ (all_get is_amount d.cells (d.size * i + j) (pos 0) (both_true _ (list_all is_amount d.cells) (both_true (is_matrix_def d) (list_all is_matrix_def ds) h).0).1 refl)
+cell_low i j (d ∷ ds) (suc n) h = cell_low i j ds n (both_true (is_matrix_def d) (list_all is_matrix_def ds) h).1
 
 pub far_low : (m : Data) (d : StateDef) → IsValid m → IsDistance (Far m d)
 far_low m d valid v w = decided d.matrix
@@ -332,14 +302,8 @@ sentences_from m a n c holds_it = tt
 pub place_at : {X Y : Type 0} (r : X → Y → Bool) (xs : List X) (ys : List Y) (i : ℕ) (d : X) (e : Y) → placewise r xs ys ≡ true → i < length xs → r (get_or xs i d) (get_or ys i e) ≡ true
 place_at r [] ys i d e h within = absurd (omega (arith, within))
 place_at r (x ∷ xs) [] i d e h within = cc
-place_at r (x ∷ xs) (y ∷ ys) zero d e h within = (both (r x y) (placewise r xs ys) h).0
-place_at r (x ∷ xs) (y ∷ ys) (suc i) d e h within = place_at r xs ys i d e (both (r x y) (placewise r xs ys) h).1 (omega (arith, within))
-
-from_places : {X Y : Type 0} (r : X → Y → Bool) (xs : List X) (ys : List Y) (d : X) (e : Y) → length xs ≡ length ys → ((i : ℕ) → i < length xs → r (get_or xs i d) (get_or ys i e) ≡ true) → placewise r xs ys ≡ true
-from_places r [] [] d e same h = refl
-from_places r [] (y ∷ ys) d e same h = absurd (omega (arith, same))
-from_places r (x ∷ xs) [] d e same h = absurd (omega (arith, same))
-from_places r (x ∷ xs) (y ∷ ys) d e same h = and_from (r x y) (placewise r xs ys) (h 0 (omega arith)) (from_places r xs ys d e (omega (arith, same)) (λ i within. h (suc i) (omega (arith, within))))
+place_at r (x ∷ xs) (y ∷ ys) zero d e h within = (both_true (r x y) (placewise r xs ys) h).0
+place_at r (x ∷ xs) (y ∷ ys) (suc i) d e h within = place_at r xs ys i d e (both_true (r x y) (placewise r xs ys) h).1 (omega (arith, within))
 
 abbrev pub no_def : StateDef
 no_def = record { name = []; matrix = None }
@@ -353,7 +317,7 @@ length_canonical m ss = sym (length-map-range_with_len (canonical_for m ss) 0 (l
 pub serves_each : (m : Data) (a : Assignment) (n : ℕ) → IsValid m → IsTrue (is_in_domain m a) → StatesHold m a → n < length m.states → ServesAt m (get_or m.states n no_def) a (record { 0 = n }) (canonical_for m a.slots n)
 serves_each m a n valid domain holds_all within =
     one_function m (get_or m.states n no_def) a n (segments_of a (record { 0 = n })) valid
-    (place_at (are_segments m) m.states a.segs n no_def [] (both _ (placewise (are_segments m) m.states a.segs) domain).1 within)
+    (place_at (are_segments m) m.states a.segs n no_def [] (both_true _ (placewise (are_segments m) m.states a.segs) domain).1 within)
     (λ c here. sentences_from m a n c (holds_all c here))
 
 -- segments that serve each function are in the domain, and its sentences hold
@@ -361,16 +325,16 @@ abbrev pub ServeEach : Data → Assignment → Type 0
 ServeEach m a = (n : ℕ) → n < length m.states → ServesAt m (get_or m.states n no_def) a (record { 0 = n }) (canonical_for m a.slots n)
 
 pub segments_kept : (m : Data) (a : Assignment) → ServeEach m a → placewise (are_segments m) m.states (canonical m a.slots) ≡ true
-segments_kept m a serves = from_places (are_segments m) m.states (canonical m a.slots) no_def [] (length_canonical m a.slots)
+segments_kept m a serves = placewise_each (are_segments m) m.states (canonical m a.slots) no_def [] (length_canonical m a.slots)
     (λ n within. subst (λ ss. are_segments m (get_or m.states n no_def) ss ≡ true) (sym (canonical_at m a.slots n within))
     (segments_to m (get_or m.states n no_def) a (record { 0 = n }) (canonical_for m a.slots n) (serves n within)))
 
 pub function_there : (m : Data) (c : Constraint) (g : Stf) → is_constraint m c ≡ true → (x : Itv) (v : ℤ) (i j : Bool) → (c ≡ AlwaysEqual g x v i j) ⊎ (c ≡ AlwaysNoState g x) → g.0 < length m.states
-function_there m c g valid x v i j (inl e) = below (both (nat_lt g.0 (length m.states)) _ (both _ _ (both _ _ (subst (λ k. is_constraint m k ≡ true) e valid)).0).0).0
+function_there m c g valid x v i j (inl e) = below (both_true (nat_lt g.0 (length m.states)) _ (both_true _ _ (both_true _ _ (subst (λ k. is_constraint m k ≡ true) e valid)).0).0).0
   where
     below : nat_lt g.0 (length m.states) ≡ true → g.0 < length m.states
     below h = grind (arith, nat_tests, h)
-function_there m c g valid x v i j (inr e) = below (both (nat_lt g.0 (length m.states)) _ (subst (λ k. is_constraint m k ≡ true) e valid)).0
+function_there m c g valid x v i j (inr e) = below (both_true (nat_lt g.0 (length m.states)) _ (subst (λ k. is_constraint m k ≡ true) e valid)).0
   where
     below : nat_lt g.0 (length m.states) ≡ true → g.0 < length m.states
     below h = grind (arith, nat_tests, h)
@@ -393,7 +357,7 @@ sentence_kept m a c valid serves here is = cc
 pub canonical_holds : (m : Data) (a : Assignment) → IsValid m → IsTrue (is_in_domain m a) → StatesHold m a → IsTrue (is_in_domain m (with_canonical m a)) × StatesHold m (with_canonical m a)
 canonical_holds m a valid domain holds_all =
     let serves : ServeEach m a = λ n within. serves_each m a n valid domain holds_all within in (
-      and_from _ (placewise (are_segments m) m.states (canonical m a.slots)) (both _ (placewise (are_segments m) m.states a.segs) domain).0 (segments_kept m a serves),
+      and_from _ (placewise (are_segments m) m.states (canonical m a.slots)) (both_true _ (placewise (are_segments m) m.states a.segs) domain).0 (segments_kept m a serves),
       λ c here is. sentence_kept m a c valid serves here is,
     )
 

@@ -8,7 +8,8 @@ use Rattle.refute_state.specs.laws.Lists.{Each, Some, Pairs, each_map, some_map}
 use Rattle.refute_state.specs.Groups.{is_linked, both, absorbed, others, with_demand, groups_from, groups_of}
 use Rattle.refute_state.specs.laws.Facts.{Proper, Linked, Row}
 use Rattle.refute_state.specs.laws.Grouping.{each_filter, each_placed, Within, itself, within_both, all_groups}
-use Rattle.refute_state.specs.laws.Running.{Covers, covers_more, covers_one, covers_other, or_either, linked_all, all_covered}
+use Rattle.refute_state.specs.laws.Running.{Covers, covers_more, covers_one, covers_other, linked_all, all_covered}
+use Rattle.region.specs.laws.OneSequence.{has_cases}
 
 -- demands of one state that no moment cuts apart, from the least start to the greatest end
 pub record Made (ds : List Stretch) (g : Stretch) : Type 0 where
@@ -60,11 +61,11 @@ made_both ds w j same one other a b = record {
     ]
     | inr below ↦ some_map _ _ ds (λ d h. (h.0 ∙ same, h.1, h.2)) (b.whole t (omega (arith, ints, below, low, int_min_is w.start j.start)) (omega (arith, ints, below, one)))
   ];
-  starts = λ is. elim (or_either w.starts j.starts is) [
+  starts = λ is. elim (has_cases w.starts j.starts is) [
     | inl h ↦ some_map _ _ ds (λ d k. (covers_more d w (both w j) k.0 (covers_one w j), k.1)) (a.starts h)
     | inr h ↦ some_map _ _ ds (λ d k. (covers_more d j (both w j) k.0 (covers_other w j same), k.1)) (b.starts h)
   ];
-  ends = λ is. elim (or_either w.ends j.ends is) [
+  ends = λ is. elim (has_cases w.ends j.ends is) [
     | inl h ↦ some_map _ _ ds (λ d k. (covers_more d w (both w j) k.0 (covers_one w j), k.1)) (a.ends h)
     | inr h ↦ some_map _ _ ds (λ d k. (covers_more d j (both w j) k.0 (covers_other w j same), k.1)) (b.ends h)
   ];

@@ -37,8 +37,9 @@ use Rattle.refute_state.specs.laws.Lists.{Each, Pairs, compared, each_map}
 use Rattle.refute_state.specs.laws.Lists as lists
 use Rattle.refute_state.specs.laws.Facts.{Lies, Keeps, Clear}
 use Rattle.refute_state.specs.laws.Running.{IsDistance}
-use Rattle.refute_state.specs.laws.Canonical.{stretch, no_def, Far, lies_from, clear_from, implied, any_some, all_each, pairs_of, pairs_map, function_there, place_at, far_low}
+use Rattle.refute_state.specs.laws.Canonical.{stretch, no_def, Far, lies_from, clear_from, any_some, all_each, pairs_of, pairs_map, function_there, place_at, far_low}
 use Rattle.refute_state.specs.laws.Long.{LongHere, long_here, late_never}
+use Rattle.sched_model.specs.laws.Words.{implied}
 
 -- the segments of a function, the first before the second by the distance of their states
 abbrev GapOf : Data → Stf → ℤ → ℤ → ℤ

@@ -9,6 +9,8 @@ use Rattle.refute_state.specs.laws.Lists.{Each, Some, Pairs, each_map, some_map,
 use Rattle.refute_state.specs.Groups.{is_linked, both, absorbed, others, with_demand, groups_from}
 use Rattle.refute_state.specs.laws.Facts.{Lies, Keeps, Linked, linked_is}
 use Rattle.refute_state.specs.laws.Grouping.{each_filter, each_tested, some_parted, each_placed, some_here, some_there, Within, itself, within_both}
+use Rattle.region.specs.laws.OneSequence.{has_cases}
+use Rattle.std.proofs.lemmas.Bool.{or_right, or_left}
 
 -- a group has a demand in it
 pub record Covers (d g : Stretch) : Type 0 where
@@ -27,25 +29,13 @@ covers_more d g h a b = record {
   ends = λ is. b.ends (a.ends is);
 }
 
-or_one : (p q : Bool) → p ≡ true → (p || q) ≡ true
-or_one true q h = refl
-or_one false q h = cc
-
-or_other : (p q : Bool) → q ≡ true → (p || q) ≡ true
-or_other true q h = refl
-or_other false q h = h
-
-pub or_either : (p q : Bool) → (p || q) ≡ true → (p ≡ true) ⊎ (q ≡ true)
-or_either true q h = inl refl
-or_either false q h = inr h
-
 pub covers_one : (w j : Stretch) → Covers w (both w j)
 covers_one w j = record {
   state = refl;
   low = omega (arith, ints, int_min_is w.start j.start);
   high = omega (arith, ints, int_max_is w.end j.end);
-  starts = or_one w.starts j.starts;
-  ends = or_one w.ends j.ends;
+  starts = or_left w.starts j.starts;
+  ends = or_left w.ends j.ends;
 }
 
 pub covers_other : (w j : Stretch) → j.state ≡ w.state → Covers j (both w j)
@@ -53,8 +43,8 @@ covers_other w j same = record {
   state = same;
   low = omega (arith, ints, int_min_is w.start j.start);
   high = omega (arith, ints, int_max_is w.end j.end);
-  starts = or_other w.starts j.starts;
-  ends = or_other w.ends j.ends;
+  starts = or_right w.starts j.starts;
+  ends = or_right w.ends j.ends;
 }
 
 pub covers_fold : (w : Stretch) (js : List Stretch) → Covers w (fold both w js)
@@ -117,11 +107,11 @@ lies_both w j s a b = record {
   state = a.state;
   low = omega (arith, ints, a.low, b.low, int_min_is w.start j.start);
   high = omega (arith, ints, a.high, b.high, int_max_is w.end j.end);
-  starts = λ is. elim (or_either w.starts j.starts is) [
+  starts = λ is. elim (has_cases w.starts j.starts is) [
     | inl h ↦ let e = a.starts h in omega (arith, ints, e, b.low, int_min_is w.start j.start)
     | inr h ↦ let e = b.starts h in omega (arith, ints, e, a.low, int_min_is w.start j.start)
   ];
-  ends = λ is. elim (or_either w.ends j.ends is) [
+  ends = λ is. elim (has_cases w.ends j.ends is) [
     | inl h ↦ let e = a.ends h in omega (arith, ints, e, b.high, int_max_is w.end j.end)
     | inr h ↦ let e = b.ends h in omega (arith, ints, e, a.high, int_max_is w.end j.end)
   ];

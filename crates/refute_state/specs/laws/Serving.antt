@@ -12,6 +12,7 @@ use Rattle.refute_state.specs.Groups.{meets, are_joined, segment_of, extended, r
 use Rattle.refute_state.specs.laws.Facts.{Proper, Lies, Keeps, Fits, Clear, Serves, Row}
 use Rattle.refute_state.specs.laws.Grouping.{Groups, all_groups}
 use Rattle.refute_state.specs.laws.Running.{Covers, all_covered, IsDistance, Served, one_segment, groups_served}
+use Rattle.base_laws.specs.laws.Truth.{four_true}
 
 -- moments of both
 pub meets_parts : (s e t f : ℤ) → meets s e t f ≡ true → (s <ℤ e) × (t <ℤ f) × (s <ℤ f) × (t <ℤ e)
@@ -33,13 +34,6 @@ pub record Joined (ns : List (ℤ × ℤ)) (i j : Stretch) : Type 0 where
   pub ends : i.ends ≡ true → ⊥
   pub starts : j.starts ≡ true → ⊥
   pub gap : Each (λ n. meets i.end j.start n.0 n.1 ≡ false) ns
-
-four : (a b c d : Bool) → (a && b && c && d) ≡ true → (a ≡ true) × (b ≡ true) × (c ≡ true) × (d ≡ true)
-four true true true true h = (refl, refl, refl, refl)
-four false b c d h = cc
-four true false c d h = cc
-four true true false d h = cc
-four true true true false h = cc
 
 four_not : (a b c d : Bool) → (a && b && c && d) ≡ false → a ≡ true → (b ≡ false) ⊎ (c ≡ false) ⊎ (d ≡ false)
 four_not true false c d h e = inl refl
@@ -79,7 +73,7 @@ state_same : (v w : ℤ) → v ≡ w → int_eq v w ≡ true
 state_same v w is = grind (arith, ints, is)
 
 joined_is : (ns : List (ℤ × ℤ)) (i j : Stretch) → are_joined ns i j ≡ true → Joined ns i j
-joined_is ns i j is = let h = four (int_eq i.state j.state) (not i.ends) (not j.starts) (not (list_any (λ n. meets i.end j.start n.0 n.1) ns)) is in record {
+joined_is ns i j is = let h = four_true (int_eq i.state j.state) (not i.ends) (not j.starts) (not (list_any (λ n. meets i.end j.start n.0 n.1) ns)) is in record {
   state = same_state i.state j.state h.0;
   ends = not_true i.ends h.1;
   starts = not_true j.starts h.2;

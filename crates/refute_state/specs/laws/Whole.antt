@@ -11,7 +11,7 @@ use Rattle.std.proofs.lemmas.List.{get_or_past}
 use Rattle.std.proofs.lemmas.Option.{slice_get_within}
 use Rattle.base_laws.specs.laws.Items.{all_listed}
 use Rattle.base_laws.specs.laws.Numbers.{differs}
-use Rattle.base_laws.specs.laws.Truth.{all_three, other_fails}
+use Rattle.base_laws.specs.laws.Truth.{all_three, other_fails, all_four}
 use Rattle.sched_base.specs.declared.ids.Itv.{Itv}
 use Rattle.sched_base.specs.declared.ids.Stf.{Stf}
 use Rattle.sched_model.specs.declared.types.Assignment.{Assignment}
@@ -28,12 +28,12 @@ use Rattle.sched_model.specs.Data.{Data, state_matrix, matrix_of, distance, hori
 use Rattle.sched_model.specs.Value.{is_present, is_here, start_or, end_or, start_of, end_of}
 use Rattle.sched_model.specs.States.{demands}
 use Rattle.sched_model.specs.Sentences.{holds}
-use Rattle.sched_model.specs.laws.Limits.{limits_of}
+use Rattle.sched_model.specs.laws.Limits.{limits_of, constraint_number}
 use Rattle.region.specs.declared.types.Bounds.{Bounds}
 use Rattle.region.specs.Cells.{Region, unknown, bounds_of, says_present, says_maybe, is_fixed, is_ordered, settled_slots}
 use Rattle.region.specs.Looks.{Seen, is_narrowed, est_in, lct_in, est_of, lct_of, lst_of, ect_of}
 use Rattle.region.specs.laws.Lists.{both_true, true_both, placewise-length, all-at}
-use Rattle.region.specs.laws.Pinned.{IsSettledTo, Pinned, pinned}
+use Rattle.region.specs.laws.Pinned.{IsSettledTo, Pinned, pinned, present_is}
 use Rattle.refute_state.specs.declared.stretch.Stretch.{Stretch}
 use Rattle.refute_state.specs.declared.demand.Demand.{Demand}
 use Rattle.refute_state.specs.declared.witness.StateWitness.{StateWitness}
@@ -48,7 +48,7 @@ use Rattle.refute_state.specs.Canonical.{stretch_of, empty_of, canonical, settle
 use Rattle.refute_state.specs.laws.Lists.{Each, Pairs}
 use Rattle.refute_state.specs.laws.Settled.{In, each_in, settled_serves}
 use Rattle.refute_state.specs.laws.Facts.{Proper, Fits}
-use Rattle.refute_state.specs.laws.Canonical.{IsGood, Far, demands_of, gaps_of, stretch, no_def, each_given, all_each, taken, both, proper_from, far_low, ServeEach, segments_kept, sentence_kept, with_canonical}
+use Rattle.refute_state.specs.laws.Canonical.{IsGood, Far, demands_of, gaps_of, stretch, no_def, each_given, all_each, taken, proper_from, far_low, ServeEach, segments_kept, sentence_kept, with_canonical}
 use Rattle.refute_state.specs.laws.Pairing.{Pair, Triple, Rows, Closed, pairs_given, two, rows_unrefuted}
 
 -- how a region shows what demands something at settled slots
@@ -229,9 +229,6 @@ closed_of m r a n g x z y v w settles of_g one mid other h = elim h [
 is_same : (v w : ℤ) → v ≡ w → int_eq v w ≡ true
 is_same v w h = grind (arith, ints, h)
 
-four_hold : (p q r s : Bool) → p ≡ true → q ≡ true → r ≡ true → s ≡ true → (p && q && r && s) ≡ true
-four_hold p q r s h i j k = true_both (p && q && r) s (all_three p q r h i j) k
-
 closed_case : (m : Data) (r : Region) (a : Assignment) (n : ℕ) (c z e : Constraint) (d x f : Stretch) → Settles r a → triple_row m r c z e ≡ false → stretch_of a.slots (record { 0 = n }) c ≡ Some d → stretch_of a.slots (record { 0 = n }) z ≡ Some x → stretch_of a.slots (record { 0 = n }) e ≡ Some f
     → d.state ≡ f.state → (d.state ≡ x.state → ⊥) → Closed (Far m (get_or m.states n no_def)) d x.start x.end f
 closed_case m r a n (AlwaysEqual g x v i j) (AlwaysEqual h z u o p) (AlwaysEqual q y w k l) d s f settles row one mid other =
@@ -243,7 +240,7 @@ closed_case m r a n (AlwaysEqual g x v i j) (AlwaysEqual h z u o p) (AlwaysEqual
     (subst (λ F. v ≡ F.state → (v ≡ u → ⊥) → Closed (Far m (get_or m.states n no_def)) (stretch a x v i j) (start_of a z) (end_of a z) F) p3.is
     (λ same differ. closed_of m r a n g x z y v w settles p1.of p1.there p2.there p3.there
     (of_seven (nat_eq g.0 h.0 && nat_eq g.0 q.0 && int_eq v w && not (int_eq v u)) (is_long r x) (is_long r z) (is_long r y) (is_late r z (pos 0) x) (is_late r y (pos 0) z) (is_late r x (state_gap m g (Some v) (Some w)) y)
-    (four_hold (nat_eq g.0 h.0) (nat_eq g.0 q.0) (int_eq v w) (not (int_eq v u)) (same_number g.0 h.0 n p1.of p2.of) (same_number g.0 q.0 n p1.of p3.of) (is_same v w same) (differ_is v u differ))
+    (all_four (nat_eq g.0 h.0) (nat_eq g.0 q.0) (int_eq v w) (not (int_eq v u)) (same_number g.0 h.0 n p1.of p2.of) (same_number g.0 q.0 n p1.of p3.of) (is_same v w same) (differ_is v u differ))
     (settles.long x p1.there) (settles.long z p2.there) (settles.long y p3.there) row))))
 closed_case m r a n (AlwaysEqual g x v i j) (AlwaysEqual h z u o p) e d s f settles row one mid other = cc
 closed_case m r a n (AlwaysEqual g x v i j) z e d s f settles row one mid other = cc
@@ -261,7 +258,7 @@ against_case m r a n (AlwaysEqual g x v i j) (AlwaysNoState h z) (AlwaysEqual q 
     (subst (λ F. v ≡ F.state → Closed (Far m (get_or m.states n no_def)) (stretch a x v i j) s.0 s.1 F) p3.is
     (λ same. elim (closed_of m r a n g x z y v w settles p1.of p1.there p2.there p3.there
     (of_seven (nat_eq g.0 h.0 && nat_eq g.0 q.0 && int_eq v w && true) (is_long r x) (is_long r z) (is_long r y) (is_late r z (pos 0) x) (is_late r y (pos 0) z) (is_late r x (state_gap m g (Some v) (Some w)) y)
-    (four_hold (nat_eq g.0 h.0) (nat_eq g.0 q.0) (int_eq v w) true (same_number g.0 h.0 n p1.of p2.of) (same_number g.0 q.0 n p1.of p3.of) (is_same v w same) refl)
+    (all_four (nat_eq g.0 h.0) (nat_eq g.0 q.0) (int_eq v w) true (same_number g.0 h.0 n p1.of p2.of) (same_number g.0 q.0 n p1.of p3.of) (is_same v w same) refl)
     (settles.long x p1.there) (settles.long z p2.there) (settles.long y p3.there) row)) [
       | inl b ↦ inl b
       | inr (inl b) ↦ inr (inl (omega (arith, ints, b, ee)))
@@ -323,28 +320,28 @@ slot_bounds [] (s ∷ ss) i valid fits here = cc
 slot_bounds (d ∷ ds) [] i valid fits here = cc
 slot_bounds (d ∷ ds) (Absent ∷ ss) zero valid fits here = cc
 slot_bounds (d ∷ ds) (Present s e ∷ ss) zero valid fits here =
-    let def = (both (is_interval_def d) (list_all is_interval_def ds) valid).0 in
-    let spans = both (is_span_of_moments d.start_lo d.start_hi) (is_span_of_moments d.end_lo d.end_hi) (both (is_span_of_moments d.start_lo d.start_hi && is_span_of_moments d.end_lo d.end_hi) _ (both _ (int_le (pos 0) d.size_lo) def).0).0 in
-    let starts = both (is_moment d.start_lo) (is_moment d.start_hi) (both (is_moment d.start_lo && is_moment d.start_hi) _ spans.0).0 in
-    let ends = both (is_moment d.end_lo) (is_moment d.end_hi) (both (is_moment d.end_lo && is_moment d.end_hi) _ spans.1).0 in
-    let fit = both (is_between d.start_lo d.start_hi s && is_between d.end_lo d.end_hi e) _ (both (fits_def d (Present s e)) (placewise fits_def ds ss) fits).0 in
-    let two_ = both (is_between d.start_lo d.start_hi s) (is_between d.end_lo d.end_hi e) fit.0 in
-    let low = most_is (neg_ℤ horizon) d.start_lo (both (int_le (neg_ℤ horizon) d.start_lo) _ starts.0).0 in
-    let high = most_is d.end_hi horizon (both _ (int_le d.end_hi horizon) ends.1).1 in
-    let from = most_is d.start_lo s (both (int_le d.start_lo s) _ two_.0).0 in
-    let to = most_is e d.end_hi (both _ (int_le e d.end_hi) two_.1).1 in
+    let def = (both_true (is_interval_def d) (list_all is_interval_def ds) valid).0 in
+    let spans = both_true (is_span_of_moments d.start_lo d.start_hi) (is_span_of_moments d.end_lo d.end_hi) (both_true (is_span_of_moments d.start_lo d.start_hi && is_span_of_moments d.end_lo d.end_hi) _ (both_true _ (int_le (pos 0) d.size_lo) def).0).0 in
+    let starts = both_true (is_moment d.start_lo) (is_moment d.start_hi) (both_true (is_moment d.start_lo && is_moment d.start_hi) _ spans.0).0 in
+    let ends = both_true (is_moment d.end_lo) (is_moment d.end_hi) (both_true (is_moment d.end_lo && is_moment d.end_hi) _ spans.1).0 in
+    let fit = both_true (is_between d.start_lo d.start_hi s && is_between d.end_lo d.end_hi e) _ (both_true (fits_def d (Present s e)) (placewise fits_def ds ss) fits).0 in
+    let two_ = both_true (is_between d.start_lo d.start_hi s) (is_between d.end_lo d.end_hi e) fit.0 in
+    let low = most_is (neg_ℤ horizon) d.start_lo (both_true (int_le (neg_ℤ horizon) d.start_lo) _ starts.0).0 in
+    let high = most_is d.end_hi horizon (both_true _ (int_le d.end_hi horizon) ends.1).1 in
+    let from = most_is d.start_lo s (both_true (int_le d.start_lo s) _ two_.0).0 in
+    let to = most_is e d.end_hi (both_true _ (int_le e d.end_hi) two_.1).1 in
     (omega (arith, ints, low, from), omega (arith, ints, high, to))
-slot_bounds (d ∷ ds) (s ∷ ss) (suc i) valid fits here = slot_bounds ds ss i (both (is_interval_def d) _ valid).1 (both (fits_def d s) _ fits).1 here
+slot_bounds (d ∷ ds) (s ∷ ss) (suc i) valid fits here = slot_bounds ds ss i (both_true (is_interval_def d) _ valid).1 (both_true (fits_def d s) _ fits).1 here
 
 demand_fits : (m : Data) (a : Assignment) (n : ℕ) (c : Constraint) (d : Stretch) → IsValid m → placewise fits_def m.intervals a.slots ≡ true → In m.constraints c → stretch_of a.slots (record { 0 = n }) c ≡ Some d
     → Fits (neg_ℤ horizon) horizon (IsGood m (get_or m.states n no_def)) (segment_of d)
 demand_fits m a n (AlwaysEqual g x v i j) d valid fits here is =
     let p = given_is a n g x v i j d is in
-    let one = both (is_present a x) (int_lt (start_of a x) (end_of a x)) p.there in
+    let one = both_true (is_present a x) (int_lt (start_of a x) (end_of a x)) p.there in
     let bounds = slot_bounds m.intervals a.slots x.0 valid.intervals fits one.0 in
     let ok = each_in (λ c. is_constraint m c ≡ true) m.constraints (AlwaysEqual g x v i j) (all_each (is_constraint m) m.constraints valid.constraints) here in
-    let row = both _ (is_row (matrix_of m (state_matrix m g)) v) ok in
-    let amount = (both _ (is_amount v) row.0).1 in
+    let row = both_true _ (is_row (matrix_of m (state_matrix m g)) v) ok in
+    let amount = (both_true _ (is_amount v) row.0).1 in
     subst (λ s. Fits (neg_ℤ horizon) horizon (IsGood m (get_or m.states n no_def)) (segment_of s)) p.is (record {
       some = less (start_of a x) (end_of a x) one.1;
       low = bounds.0;
@@ -363,21 +360,6 @@ serves_settled m r a valid fits settles pairs triples n within =
     (each_given Proper (stretch_of a.slots (record { 0 = n })) m.constraints (λ c y here is. proper_from a (record { 0 = n }) c y is))
     (each_given (λ y. Fits (neg_ℤ horizon) horizon (IsGood m d) (segment_of y)) (stretch_of a.slots (record { 0 = n })) m.constraints (λ c y here is. demand_fits m a n c y valid fits here is))
     (rows_unrefuted (Far m d) (demands_of m a (record { 0 = n })) (gaps_of m a (record { 0 = n })) (far_low m d valid) (rows_of m r a n settles pairs triples))
-
--- a settled region shows what demands something as it stands
-demands_within : (m : Data) (r : Region) (a : Assignment) (x : Itv) → IsSettledTo m r a → is_present a x ≡ true → is_itv m x ≡ true
-demands_within m r a x to there = by_case (nat_lt x.0 (length m.intervals)) refl
-  where
-    as_many : length m.intervals ≡ length a.slots
-    as_many = placewise-length fits_def m.intervals (settled_slots r) to.fits ∙ ap length (sym to.slots)
-
-    past : (i n : ℕ) → nat_lt i n ≡ false → n ≤ i
-    past i n h = grind (arith, nat_tests, h)
-
-    by_case : (b : Bool) → nat_lt x.0 (length m.intervals) ≡ b → nat_lt x.0 (length m.intervals) ≡ true
-    by_case true is = is
-    by_case false is = let beyond = past x.0 (length m.intervals) is in
-        absurd (true≢false (sym there ∙ ap is_here (get_or_past a.slots x.0 Absent (omega (arith, beyond, as_many)))))
 
 long_at : (c : Bounds) (s e : ℤ) → says_present c.presence ≡ true → is_fixed c ≡ true → s ≡ est_in c → e ≡ lct_in c → int_lt s e ≡ true → is_long_in c ≡ true
 long_at c s e there fixed start end less =
@@ -405,14 +387,14 @@ settles m r a to = record {
     here x wants = (both_true (is_present a x) (int_lt (start_of a x) (end_of a x)) wants).0
 
     at : (x : Itv) → is_present a x ≡ true → Pinned r a x
-    at x there = pinned m r a x to (demands_within m r a x to there)
+    at x there = pinned m r a x to (present_is m r a x to there)
 
     below : (i n : ℕ) → nat_lt i n ≡ true → i < n
     below i n h = grind (arith, nat_tests, h)
 
     fixed : (x : Itv) → is_present a x ≡ true → is_fixed (bounds_of r x) ≡ true
     fixed x there =
-        let inside = below x.0 (length m.intervals) (demands_within m r a x to there) in
+        let inside = below x.0 (length m.intervals) (present_is m r a x to there) in
         let size = placewise-length is_narrowed m.intervals r.bounds to.of.bounds in
         all-at is_fixed r.bounds x.0 unknown (both_true (list_all is_fixed r.bounds) (list_all (is_ordered r) r.orders) to.settled).0 (omega (arith, size, inside))
 
@@ -436,12 +418,6 @@ place_in (y ∷ ys) x here = elim here [
 abbrev pub NoneRefutes : Data → Seen → Type 0
 NoneRefutes m l = (w : StateWitness) → refutes m l w ≡ false
 
-number : (m : Data) (c : ℕ) (d : Constraint) → IsValid m → slice_get m.constraints c ≡ Some d → is_number c ≡ true
-number m c d valid is = let within = slice_get_within m.constraints c d is in let most = (limits_of m valid.limits).constraints in small c (omega (arith, within, most))
-  where
-    small : (n : ℕ) → n < 20000 → is_number n ≡ true
-    small n h = grind (arith, nat_tests, h)
-
 unrefuted : (p q : Bool) → p ≡ true → (p && q) ≡ false → q ≡ false
 unrefuted p q h k = other_fails p q k h
 
@@ -449,7 +425,7 @@ no_pair : (m : Data) (l : Seen) → IsValid m → NoneRefutes m l → NoPair m l
 no_pair m l valid none = pairs_listed (λ c e. pair_row m l.region c e ≡ false) m.constraints (λ i j c e less one other.
     ap (λ o. passes (λ a. passes (λ b. state_pair m l.region a b) (demand_of e)) o) refl
     ∙ row i j c e one other (unrefuted (nat_lt i j) (of_demand m i (λ a. of_demand m j (λ b. state_pair m l.region a b))) (is_below i j less)
-    (unrefuted (is_number i && is_number j) (state_row m l i j) (true_both (is_number i) (is_number j) (number m i c valid one) (number m j e valid other)) (none (State i j)))))
+    (unrefuted (is_number i && is_number j) (state_row m l i j) (true_both (is_number i) (is_number j) (constraint_number m i c valid one) (constraint_number m j e valid other)) (none (State i j)))))
   where
     is_below : (i j : ℕ) → i < j → nat_lt i j ≡ true
     is_below i j h = grind (arith, nat_tests, h)
@@ -466,7 +442,7 @@ no_triple_at m l i k j c z e valid none apart one mid other =
     ∙ ap (λ o. passes (λ a. passes (λ x. passes (λ b. state_triple m l.region a x b) (demand_of e)) (option_and_then demand_of o)) (demand_at m i)) (sym mid)
     ∙ ap (λ o. passes (λ a. passes (λ x. passes (λ b. state_triple m l.region a x b) (option_and_then demand_of o)) (demand_at m k)) (demand_at m i)) (sym other)
     ∙ unrefuted (not (nat_eq i j)) (of_demand m i (λ a. of_demand m k (λ x. of_demand m j (λ b. state_triple m l.region a x b)))) (ap not (differs i j apart))
-    (unrefuted (is_number i && is_number k && is_number j) (state3_row m l i k j) (all_three (is_number i) (is_number k) (is_number j) (number m i c valid one) (number m k z valid mid) (number m j e valid other)) (none (State3 i k j)))
+    (unrefuted (is_number i && is_number k && is_number j) (state3_row m l i k j) (all_three (is_number i) (is_number k) (is_number j) (constraint_number m i c valid one) (constraint_number m k z valid mid) (constraint_number m j e valid other)) (none (State3 i k j)))
 
 no_triple : (m : Data) (l : Seen) → IsValid m → NoneRefutes m l → NoTriple m l.region
 no_triple m l valid none = pairs_listed (λ c e. (z : Constraint) → In m.constraints z → (triple_row m l.region c z e ≡ false) × (triple_row m l.region e z c ≡ false)) m.constraints (λ i j c e less one other z here.

@@ -2,8 +2,8 @@ use Rattle.std.proofs.Common.{◌≡◌, ◌∙◌, ap, arith, map, rules, to_z,
 use Rattle.std.proofs.lemmas.Int.{ints}
 use Rattle.sched_model.specs.Words.{total}
 use Rattle.refute_cumul.specs.Loads.{load_of, bounded}
-use Rattle.refute_cumul.proofs.Summing.{sum_end, sum_turn}
 use Rattle.refute_cumul.proofs.levels.load.Goals as goal
+use Rattle.sched_model.specs.laws.Totals.{sum_turn, sum_end}
 
 pub loop-part-preserved : goal.loop-part-preserved
 loop-part-preserved c = record {

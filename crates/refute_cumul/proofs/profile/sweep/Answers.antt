@@ -2,8 +2,9 @@ use Rattle.std.proofs.Common.{◌≡◌, ◌+◌, ◌≤◌, [], pos, false, ref
 use Rattle.std.specs.Int.{w128}
 use Rattle.std.specs.Prelude.{vec_len}
 use Rattle.std.proofs.lemmas.Int.{ints}
-use Rattle.refute_cumul.specs.declared.changes.Change.{Change}
-use Rattle.refute_cumul.proofs.Changing.{AreLevels, no_levels, same_moment, next_moment, sum_more}
+use Rattle.sched_model.specs.declared.changes.Change.{Change}
+use Rattle.sched_model.specs.laws.Sums.{sum_more}
+use Rattle.refute_cumul.proofs.Changing.{AreLevels, no_levels, same_moment, next_moment}
 use Rattle.refute_cumul.proofs.profile.sweep.Goals as goal
 
 pub loop-i-init : goal.loop-i-init

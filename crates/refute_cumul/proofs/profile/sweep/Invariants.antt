@@ -1,7 +1,7 @@
 use Rattle.std.proofs.Common.{◌≡◌, ◌≤◌, ◌*◌, ◌^◌, ◌≤ℤ◌, neg_ℤ, pos, map, take}
 use Rattle.std.specs.Prelude.{vec_len, vec_capacity}
 use Rattle.sched_model.specs.Words.{total}
-use Rattle.refute_cumul.specs.Profiles.{rise}
+use Rattle.sched_model.specs.Changes.{rise}
 use Rattle.refute_cumul.proofs.Changing.{AreLevels}
 use Rattle.refute_cumul.proofs.profile.sweep.Given as goal
 

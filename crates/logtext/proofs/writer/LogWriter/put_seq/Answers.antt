@@ -16,7 +16,7 @@ number-place-requires g c = some_number seq_kinds (seq_numbers c.args.w.now) (se
 pub seq_word-requires : goal.seq_word-requires
 seq_word-requires g c =
     let there = kind_place seq_kinds (seq_numbers c.args.w.now) c.number-place.result (seq_placed c.args.w.now) c.number-place.ensures in
-    let fits : SFits w64 c.number-place.result = search rules in subst (λ z. nat_abs z < 2) (sym (to_z-of_z w64 c.number-place.result fits ∙ there.1)) there.2
+    let fits : SFits w64 c.number-place.result = search rules in subst (λ z. nat_abs z < 6) (sym (to_z-of_z w64 c.number-place.result fits ∙ there.1)) there.2
 
 pub returns : goal.returns
 returns g c =

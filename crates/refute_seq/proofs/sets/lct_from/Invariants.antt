@@ -1,0 +1,9 @@
+use Rattle.std.specs.Prelude.{◌≡◌, drop}
+use Rattle.std.specs.Int.{int_max}
+use Rattle.task_sets.specs.Mirror.{turned}
+use Rattle.refute_seq.specs.Sets.{times_of}
+use Rattle.refute_seq.proofs.Walking.{folded}
+use Rattle.refute_seq.proofs.sets.lct_from.Given as goal
+
+abbrev pub invariant-loop-n : goal.invariant-loop-n
+invariant-loop-n l = folded int_max (λ i. i.lct) (turned l.side (times_of l.look.region)) l.greatest (drop l.n-index l.set) ≡ folded int_max (λ i. i.lct) (turned l.side (times_of l.look.region)) l.moment l.set

@@ -1,0 +1,9 @@
+use Rattle.std.proofs.Common.{rules, w64, to_z, of_z}
+use Rattle.std.specs.Int.{int_max}
+use Rattle.task_sets.specs.Mirror.{turned}
+use Rattle.refute_seq.specs.Sets.{times_of}
+use Rattle.refute_seq.proofs.Walking.{fold_step}
+use Rattle.refute_seq.proofs.sets.lst_from.Goals as goal
+
+pub loop-n-preserved : goal.loop-n-preserved
+loop-n-preserved c = fold_step int_max (λ i. i.lst) (turned c.args.side (times_of c.args.look.now.region)) c.args.set.now c.loop-n.n-index (to_z w64 c.loop-n.greatest-bits) (to_z w64 (of_z w64 c.later_start-greatest.result)) _ c.loop-n.invariant c.loop-n-test.true (search rules)

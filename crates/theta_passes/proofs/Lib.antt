@@ -1,0 +1,12 @@
+pub mod Between
+pub mod Cuts
+pub mod Dropping
+pub mod Falling
+pub mod Filling
+pub mod Scanning
+pub mod Painting
+pub mod Tops
+pub mod Reached
+pub mod Showing
+pub mod Scanned
+pub mod Edging

@@ -1,0 +1,9 @@
+use Rattle.theta_passes.specs.Rows.{Fits}
+use Rattle.theta_passes.specs.Edge.{IsFallen}
+use Rattle.theta_passes.proofs.edge.lower.Given as goal
+
+abbrev pub invariant-loop-k : goal.invariant-loop-k
+invariant-loop-k l = record {
+  fits : Fits l.tree l.rows;
+  fallen : IsFallen l.tree l.rows l.above l.level l.k;
+}

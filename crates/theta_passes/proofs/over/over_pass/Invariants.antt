@@ -1,0 +1,9 @@
+use Rattle.theta_passes.specs.Rows.{Fits}
+use Rattle.theta_passes.specs.Over.{IsOverPassed}
+use Rattle.theta_passes.proofs.over.over_pass.Given as goal
+
+abbrev pub invariant-loop-m : goal.invariant-loop-m
+invariant-loop-m l = record {
+  fits : Fits l.tree l.rows;
+  passed : IsOverPassed l.tree l.rows l.order l.above l.m-index;
+}

@@ -1,0 +1,5 @@
+use Rattle.theta_passes.specs.Late.{NoneScanned}
+use Rattle.theta_passes.proofs.scan.late_scan.Given as goal
+
+abbrev pub invariant-loop-k : goal.invariant-loop-k
+invariant-loop-k l = NoneScanned l.rows l.k
