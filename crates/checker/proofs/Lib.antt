@@ -4,4 +4,7 @@ pub mod Logs
 pub mod Reached
 pub mod Judged
 pub mod Determined
+pub mod Feeding
+pub mod Ends
+pub mod Wholes
 pub mod Desk

@@ -1,6 +1,6 @@
 -- How far a log has been read.
-use Rattle.std.proofs.Common.{◌≡◌, ℕ, ◌+◌, ◌-◌, ◌≤◌, List, [], ◌∷◌, ◌++◌, length, take, drop, Ok, refl, sym, ap, subst, ◌∙◌, arith, append_assoc, length-append, length-take}
-use Rattle.std.proofs.lemmas.List.{take-append-drop, drop-drop}
+use Rattle.std.proofs.Common.{◌≡◌, ℕ, ◌+◌, ◌-◌, ◌≤◌, List, [], ◌∷◌, ◌++◌, length, take, drop, Ok, refl, sym, ap, subst, ◌∙◌, arith, append_assoc, length-append, length-drop}
+use Rattle.std.proofs.lemmas.List.{take-append-drop, take-append-le, drop-drop, drop-append-le}
 use Rattle.std.proofs.lemmas.List.Elements.{All-nil}
 use Rattle.sched_model.specs.Data.{Data}
 use Rattle.textline.specs.Lines.{Bytes}
@@ -13,7 +13,7 @@ use Rattle.logtext.specs.declared.entry.Entry.TheVariants.{Head, Step}
 use Rattle.logtext.specs.Spelling.{head_text}
 use Rattle.logtext.specs.Entries.{entry_text}
 use Rattle.logtext.specs.Logs.{PlainLine, IsPlainLog, plain_text, plain_lines}
-use Rattle.checker.specs.Turns.{IsEntryAt}
+use Rattle.checker.specs.Pieces.{IsEntryAt}
 use Rattle.checker.proofs.Spelt.{Spelt}
 use Rattle.checker.proofs.Logs.{plain_step, log_more, step_nodes}
 
@@ -66,8 +66,27 @@ reached_more m bytes place to line s t l so_far at goes = record {
     lines_more [] l rest = append_assoc (plain_text l) [] rest
     lines_more (k ∷ ks) l rest = append_assoc (plain_text k) (plain_lines (ks ++ l ∷ [])) rest ∙ ap (λ r. plain_text k ++ r) (lines_more ks l rest) ∙ sym (append_assoc (plain_text k) (plain_lines ks) (plain_text l ++ rest))
 
--- the counts are small
-pub room : (m : Data) (limit : ℕ) (bytes cut : Bytes) (place line : ℕ) (s : LogState) → cut ≡ take limit bytes → Reached m cut place line s → (s.nodes ≤ limit) × (line ≤ limit + 2)
-room m limit bytes cut place line s is_cut so_far =
-    let few : length cut ≤ limit = omega (arith, ap length is_cut, length-take limit bytes) in
-    (omega (arith, few, so_far.nodes, so_far.few, so_far.within), omega (arith, few, so_far.number, so_far.few, so_far.within))
+-- the same where more is read
+
+pub reached_longer : (m : Data) (fed more : Bytes) (place line : ℕ) (s : LogState) → Reached m fed place line s → Reached m (fed ++ more) place line s
+reached_longer m fed more place line s so_far = record {
+  lines = so_far.lines;
+  log = so_far.log;
+  text =
+      ap (λ t. t ++ more) so_far.text ∙ append_assoc head_text (plain_lines so_far.lines ++ drop place fed) more
+      ∙ ap (λ r. head_text ++ r) (append_assoc (plain_lines so_far.lines) (drop place fed) more ∙ ap (λ r. plain_lines so_far.lines ++ r) (sym (drop-append-le place fed more so_far.within)));
+  number = so_far.number;
+  within = omega (arith, so_far.within, length-append fed more);
+  few = so_far.few;
+  nodes = so_far.nodes;
+}
+
+pub entry_longer : (fed more : Bytes) (from to : ℕ) (e : Entry NoWitness) → IsEntryAt fed from to e → IsEntryAt (fed ++ more) from to e
+entry_longer fed more from to e at =
+    let within : from ≤ length fed = omega (arith, at.further, at.within) in
+    let short : to - from ≤ length (drop from fed) = omega (arith, at.within, length-drop from fed) in
+    record {
+      further = at.further;
+      within = omega (arith, at.within, length-append fed more);
+      spells = subst (λ t. Spelt t e) (sym (ap (take (to - from)) (drop-append-le from fed more within) ∙ take-append-le (to - from) (drop from fed) more short)) at.spells;
+    }

@@ -20,7 +20,7 @@ pub record Spellings : Type 0 where
   pub told : SpellingsAreTold numbers_of is_valid
   pub ends : SpellingsEndOnce numbers_of is_valid
 
-ends_once : Spellings → (text : Bytes) (e : Entry NoWitness) → Spelt text e → EndsOnce text
+pub ends_once : Spellings → (text : Bytes) (e : Entry NoWitness) → Spelt text e → EndsOnce text
 ends_once laws text e p = subst EndsOnce (sym p.text_is) (laws.ends e p.fit)
 
 up_to_feed : (a x : Bytes) (once : EndsOnce a) → a ++ x ≡ once.body ++ 10 ∷ x
@@ -42,7 +42,7 @@ begun rest a x e is p = (length a, rw is (omega (arith, length-append a x)), rw 
 pub begins_by : (rest : Bytes) (e : Entry NoWitness) (begins : BeginsWith rest e) → rest ≡ take begins.0 rest ++ drop begins.0 rest
 begins_by rest e begins = sym (take-append-drop begins.0 rest)
 
-true_false : (b : Bool) → b ≡ true → b ≡ false → ⊥
+pub true_false : (b : Bool) → b ≡ true → b ≡ false → ⊥
 true_false b p q = cc
 
 -- a whole line isn't open

@@ -1,16 +1,19 @@
-ghost use Rattle.std.specs.Prelude.{◌≡◌, ◌<◌, ◌≤◌, ◌^◌, true, length, take, Err, IfOk};
-ghost use Rattle.sched_base.specs.State.{is_opened};
+ghost use Rattle.std.specs.Prelude.{◌≡◌, ◌<◌, ◌≤◌, ◌^◌, ℕ, true, length, IfOk, vec_len};
+ghost use Rattle.sched_base.specs.State.{State, Bytes, is_opened};
 ghost use Rattle.kernel.specs.Steps.{opening};
 ghost use Rattle.kernel.specs.Promises.{Ready, Means};
 ghost use Rattle.logtext.specs.declared.entry.Entry.TheVariants.{Head};
+ghost use Rattle.log_lines.specs.Pieces.{nothing_fed};
 ghost use Rattle.checker.specs.Judgement.{log_limit};
-ghost use Rattle.checker.specs.Checking.{Checks, Judges};
-ghost use Rattle.checker.specs.Turns.{FindsHead, IsEntryAt, Tries, Turns, is_head};
-ghost use Rattle.checker.specs.declared.judging.CheckFault.TheVariants as fault;
+ghost use Rattle.checker.specs.Checking.{Checks};
+ghost use Rattle.checker.specs.Pieces.{IsReading, holds};
+ghost use Rattle.checker.specs.Turns.{FindsHead, IsBehindHead, Tries, Turns, is_head};
 
+use crate::reading::{Found, goes_on, next_line};
 use kernel::{Kernel, Line, NoExtra, NoWitness, StepFault, Verdict};
-use logtext::{Entry, EntryFault, LogReader, spelling_is_determined};
-use sched_base::{Desk, Inlet, NoMemory, ReadError, read_up_to};
+use log_lines::LineReader;
+use logtext::{Entry, spelling_is_determined};
+use sched_base::{Desk, Inlet, NoMemory, ReadError};
 use sched_model::Model;
 use std::alloc::Global;
 use thiserror::Error;
@@ -62,28 +65,26 @@ impl From<ReadError> for CheckFault {
     }
 }
 
-/// So many bytes of a log are looked at for lines.
-const LOG_BYTES: usize = 4_611_686_018_427_387_904;
+/// So many bytes are read at once.
+const PIECE: usize = 65_536;
 
 /// What one line did.
 enum Turn {
-    /// It stepped, and ends here.
-    Stepped(usize),
-    /// It was the last line, and ends here.
-    Ended(usize),
+    Stepped,
+    /// It was the last line.
+    Ended,
     Wrong,
-    /// The bytes end before it does.
+    /// The log ends before it does.
     Missing,
+    /// The bytes up to the limit end before it does.
+    Beyond,
 }
 
-/// The first bytes, at most so many.
-fn front(bytes: &[u8], limit: usize) -> &[u8]
-    ensures { result.now ≡ take limit bytes.now }
+/// Room for a piece.
+fn zeroed(alloc: Global) -> Result<Vec<u8>, NoMemory>
+    ensures { IfOk result (λ v. vec_len v ≡ 65536) }
 {
-    if bytes.len() <= limit {
-        return bytes;
-    }
-    &bytes[..limit]
+    Ok(vec![in alloc; 0; PIECE]?)
 }
 
 fn is_head(entry: &Entry<NoWitness>) -> bool
@@ -96,24 +97,28 @@ fn is_head(entry: &Entry<NoWitness>) -> bool
     }
 }
 
-/// The place behind the first line.
-fn behind_head(
+/// Whether the log begins with the first line, which it takes.
+fn take_head<D: Desk>(
     alloc: Global,
-    reader: &mut LogReader,
-    bytes: &[u8],
-) -> Result<Option<usize>, NoMemory>
-    ensures { FindsHead bytes.now result }
+    desk: &mut D,
+    buffer: &mut [u8],
+    lines: &mut LineReader<NoExtra>,
+) -> Result<bool, ReadError>
+    requires buffer { 0 < length buffer.old }
+    requires small { length buffer.old ≤ 65536 }
+    requires opened { is_opened Inlet.Log (D.state desk.old) ≡ true }
+    requires nothing { lines.old ≡ nothing_fed }
+    ensures head { FindsHead (D.state desk.old) (D.state desk.new) result lines.new }
+    ensures opened { IfOk result (λ _. is_opened Inlet.Log (D.state desk.new) ≡ true) }
+    ensures limit { IfOk result (λ _. lines.new.count ≤ log_limit) }
 {
-    let (entry, to) = match reader.read_entry::<NoExtra>(alloc, bytes, 0) {
-        Ok(Some(read)) => read,
-        Ok(None) => return Ok(None),
-        Err(EntryFault::Bad) => return Ok(None),
-        Err(EntryFault::NoMemory) => return Err(NoMemory),
-    };
-    if !is_head(&entry) {
-        return Ok(None);
+    spelling_is_determined::<NoExtra>();
+    match next_line(alloc, desk, buffer, lines)? {
+        Found::Line(entry) => Ok(is_head(&entry)),
+        Found::Wrong => Ok(false),
+        Found::Missing => Ok(false),
+        Found::Beyond => Ok(false),
     }
-    Ok(Some(to))
 }
 
 /// Whether the line steps. One that doesn't changes nothing.
@@ -134,70 +139,70 @@ fn try_line(
     }
 }
 
-/// Reads the line at a place, and steps it.
-fn take_line(
+/// Reads the next line, and steps it.
+fn take_line<D: Desk>(
     alloc: Global,
     model: &Model,
-    reader: &mut LogReader,
-    bytes: &[u8],
-    from: usize,
+    desk: &mut D,
+    buffer: &mut [u8],
+    lines: &mut LineReader<NoExtra>,
     kernel: &mut Kernel<NoExtra>,
-) -> Result<Turn, NoMemory>
-    requires within { from ≤ length bytes.now }
+) -> Result<Turn, ReadError>
+    requires buffer { 0 < length buffer.old }
+    requires small { length buffer.old ≤ 65536 }
+    requires opened { is_opened Inlet.Log (D.state desk.old) ≡ true }
+    requires limit { lines.old.count ≤ log_limit }
     requires nodes { kernel.old.nodes < 2 ^ 63 }
     requires ready { Ready model.now kernel.old }
-    ensures turns { Turns model.now bytes.now from result kernel.old kernel.new }
+    ensures turns { (start : State) (fed : Bytes) (place : ℕ) → IsReading start (D.state desk.old) fed place → lines.old ≡ holds fed place → Turns model.now start (D.state desk.new) fed place result lines.new kernel.old kernel.new }
+    ensures opened { IfOk result (λ _. is_opened Inlet.Log (D.state desk.new) ≡ true) }
+    ensures limit { IfOk result (λ _. lines.new.count ≤ log_limit) }
     ensures ready { Ready model.now kernel.new }
 {
     spelling_is_determined::<NoExtra>();
-    let (entry, to) = match reader.read_entry::<NoExtra>(alloc, bytes, from) {
-        Ok(Some(read)) => read,
-        Ok(None) => return Ok(Turn::Missing),
-        Err(EntryFault::Bad) => return Ok(Turn::Wrong),
-        Err(EntryFault::NoMemory) => return Err(NoMemory),
+    let entry = match next_line(alloc, desk, buffer, lines)? {
+        Found::Line(entry) => entry,
+        Found::Wrong => return Ok(Turn::Wrong),
+        Found::Missing => return Ok(Turn::Missing),
+        Found::Beyond => return Ok(Turn::Beyond),
     };
     match entry {
         Entry::Head => Ok(Turn::Wrong),
-        Entry::Step(line) => {
-            if try_line(model, kernel, line)? {
-                return Ok(Turn::Stepped(to));
-            }
-            Ok(Turn::Wrong)
-        }
-        Entry::Finish => Ok(Turn::Ended(to)),
+        Entry::Step(line) => match try_line(model, kernel, line) {
+            Ok(true) => Ok(Turn::Stepped),
+            Ok(false) => Ok(Turn::Wrong),
+            Err(_) => Err(ReadError::NoMemory),
+        },
+        Entry::Finish => Ok(Turn::Ended),
     }
 }
 
-/// The judgement of a log whose first line ends at a place. Its lines are looked for in `cut`, the
-/// bytes up to the limit.
-fn judge_lines(
+/// The judgement of a log whose first line was taken.
+fn judge_lines<D: Desk>(
     alloc: Global,
     model: &Model,
-    reader: &mut LogReader,
-    bytes: &[u8],
-    cut: &[u8],
-    head: usize,
+    desk: &mut D,
+    buffer: &mut [u8],
+    lines: &mut LineReader<NoExtra>,
     kernel: &mut Kernel<NoExtra>,
 ) -> Result<Checked, CheckFault>
-    requires cut { cut.now ≡ take log_limit bytes.now }
-    requires head { IsEntryAt cut.now 0 head Head }
+    requires buffer { 0 < length buffer.old }
+    requires small { length buffer.old ≤ 65536 }
+    requires opened { is_opened Inlet.Log (D.state desk.old) ≡ true }
+    requires limit { lines.old.count ≤ log_limit }
+    requires begun { (start : State) × IsBehindHead start (D.state desk.old) lines.old }
     requires opening { kernel.old ≡ opening model.now }
     requires ready { Ready model.now kernel.old }
-    ensures judges { Judges model.now bytes.now result }
-    ensures no_fault { result ≡ Err fault.Fault → ⊥ }
+    ensures checks { (start : State) → IsBehindHead start (D.state desk.old) lines.old → Checks model.now result start (D.state desk.new) }
     ensures means { IfOk result (λ c. Means model.now c.verdict) }
 {
     spelling_is_determined::<NoExtra>();
-    let mut place = head;
     let mut line: u64 = 2;
     'lines: loop {
-        match take_line(alloc, model, reader, cut, place, kernel)? {
-            Turn::Stepped(to) => {
-                place = to;
-                line += 1;
-            }
-            Turn::Ended(to) => {
-                if to < bytes.len() {
+        match take_line(alloc, model, desk, buffer, lines, kernel)? {
+            Turn::Stepped => line += 1,
+            Turn::Ended => {
+                if goes_on(desk, buffer, lines)? {
                     return Err(CheckFault::Refused { line: line + 1 });
                 }
                 return Ok(Checked {
@@ -206,37 +211,25 @@ fn judge_lines(
                 });
             }
             Turn::Wrong => return Err(CheckFault::Refused { line }),
-            Turn::Missing => {
-                if bytes.len() >= LOG_BYTES {
-                    return Err(CheckFault::TooLong);
-                }
-                return Err(CheckFault::Refused { line });
-            }
+            Turn::Missing => return Err(CheckFault::Refused { line }),
+            Turn::Beyond => return Err(CheckFault::TooLong),
         }
     }
 }
 
-/// The judgement of a log's bytes.
-fn judge(alloc: Global, model: &Model, bytes: &[u8]) -> Result<Checked, CheckFault>
-    ensures judges { Judges model.now bytes.now result }
-    ensures no_fault { result ≡ Err fault.Fault → ⊥ }
-    ensures means { IfOk result (λ c. Means model.now c.verdict) }
-{
-    let cut = front(bytes, LOG_BYTES);
-    let mut reader = LogReader::new(alloc);
-    let Some(head) = behind_head(alloc, &mut reader, cut)? else {
-        return Err(CheckFault::Refused { line: 1 });
-    };
-    let mut kernel = Kernel::<NoExtra>::new(alloc, model)?;
-    judge_lines(alloc, model, &mut reader, bytes, cut, head, &mut kernel)
-}
-
-/// Judges the bytes of the log that is opened, from the place that its slot has reached.
+/// Judges the bytes of the log that is opened, from the place that its slot has reached. It reads
+/// them in pieces, each only where what it read holds no further whole line, so it answers as soon
+/// as the answer is known, and a log takes no more memory than a line and a piece.
 pub fn check<D: Desk>(alloc: Global, model: &Model, desk: &mut D) -> Result<Checked, CheckFault>
     requires opened { is_opened Inlet.Log (D.state desk.old) ≡ true }
     ensures checks { Checks model.now result (D.state desk.old) (D.state desk.new) }
     ensures means { IfOk result (λ c. Means model.now c.verdict) }
 {
-    let bytes = read_up_to(alloc, desk, Inlet::Log, LOG_BYTES + 1)?;
-    judge(alloc, model, bytes.as_slice())
+    let mut buffer = zeroed(alloc)?;
+    let mut lines = LineReader::<NoExtra>::new(alloc);
+    if !take_head(alloc, desk, &mut buffer, &mut lines)? {
+        return Err(CheckFault::Refused { line: 1 });
+    }
+    let mut kernel = Kernel::<NoExtra>::new(alloc, model)?;
+    judge_lines(alloc, model, desk, &mut buffer, &mut lines, &mut kernel)
 }

@@ -3,6 +3,7 @@
 
 mod judging;
 mod laws;
+mod reading;
 
 pub use judging::{CheckFault, Checked, check};
 pub use laws::judgement_is_determined;

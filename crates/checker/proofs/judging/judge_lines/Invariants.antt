@@ -1,13 +1,19 @@
-use Rattle.std.proofs.Common.{◌-◌, length}
+use Rattle.std.proofs.Common.{◌≡◌, ◌≤◌, ◌-◌, true, length}
+use Rattle.sched_base.specs.declared.desk.Inlet.TheVariants.{Log}
+use Rattle.sched_base.specs.State.{State, is_opened}
 use Rattle.kernel.specs.Promises.{Ready}
-use Rattle.checker.proofs.Reached.{Reached}
+use Rattle.checker.specs.Judgement.{log_limit}
+use Rattle.checker.specs.Turns.{IsBehindHead}
+use Rattle.checker.proofs.Desk.{Judging}
 use Rattle.checker.proofs.judging.judge_lines.Given as goal
 
 abbrev pub invariant-lines : goal.invariant-lines
-invariant-lines l = record {
-  reached : Reached l.model l.cut l.place l.line l.kernel;
+invariant-lines g l = record {
+  judging : (start : State) → IsBehindHead start (g.D.Desk.state l.initial.desk) l.initial.lines → Judging l.model start (g.D.Desk.state l.desk) l.lines l.line l.kernel;
   ready : Ready l.model l.kernel;
+  opened : is_opened Log (g.D.Desk.state l.desk) ≡ true;
+  limit : l.lines.count ≤ log_limit;
 }
 
 abbrev pub decreases-lines : goal.decreases-lines
-decreases-lines l = length l.cut - l.place
+decreases-lines g l = log_limit - (l.lines.count - length l.lines.rest)

@@ -1,29 +1,56 @@
-use Rattle.std.proofs.Common.{drop, Some, Ok, Err, subst}
-use Rattle.kernel.specs.NoExtra.{numbers_of, is_valid}
-use Rattle.logtext.specs.declared.entry.EntryFault.TheVariants.{Bad}
-use Rattle.logtext.specs.Reading.{ReadsEntry}
-use Rattle.checker.specs.Turns.{IsEntryAt}
+use Rattle.std.proofs.Common.{◌≡◌, drop, Ok, Err, refl, sym, subst, rules}
+use Rattle.logtext.specs.declared.entry.Entry.TheVariants.{Head, Step, Finish}
+use Rattle.checker.specs.declared.reading.Found.TheVariants.{Wrong}
+use Rattle.checker.specs.Pieces.{FindsLine}
+use Rattle.checker.specs.Turns.{Turns}
 use Rattle.checker.proofs.Spelt.{Spellings}
 use Rattle.checker.proofs.Judged.{none_wrong, head_wrong, step_wrong}
+use Rattle.checker.proofs.Feeding.{found_entry}
 use Rattle.checker.proofs.judging.take_line.Goals as goal
 
-pub returns-in-Err-Bad-clause-turns : goal.returns-in-Err-Bad-clause-turns
-returns-in-Err-Bad-clause-turns c =
+pub returns-in_err-entry-clause-turns : goal.returns-in_err-entry-clause-turns
+returns-in_err-entry-clause-turns g c = λ start fed place reading fits.
+    let is : c.from_residual.result ≡ Err c.in_err-entry.field-0.0 = search rules in
+    subst (λ r. Turns c.args.model.now start (g.D.Desk.state c.next_line.new.desk) fed place r c.next_line.new.lines c.args.kernel.now c.args.kernel.now) (sym is) (c.in_err-entry.ensures.finds start fed place reading fits)
+
+pub returns-in-Wrong-clause-turns : goal.returns-in-Wrong-clause-turns
+returns-in-Wrong-clause-turns g c = λ start fed place reading fits.
     let laws : Spellings = record { told = c.spelling_is_determined.ensures.told; ends = c.spelling_is_determined.ensures.ends } in
-    let bad : ReadsEntry numbers_of is_valid c.args.bytes.now c.args.from (Err Bad) = rw c.in-Err-Bad.field-0-is at c.in-Err-Bad.ensures in
-    none_wrong laws c.args.model.now c.args.kernel.now (drop c.args.from c.args.bytes.now) bad.0 bad.1
+    let found : FindsLine start (g.D.Desk.state c.next_line.new.desk) fed place (Ok Wrong) c.next_line.new.lines =
+    subst (λ f. FindsLine start (g.D.Desk.state c.next_line.new.desk) fed place (Ok f) c.next_line.new.lines) c.in-Wrong.is (c.in_ok-entry.ensures.finds start fed place reading fits) in
+    (found.0, found.1, none_wrong laws c.args.model.now c.args.kernel.now (drop place found.0) found.2 found.3)
+
+pub returns-in-Missing-clause-turns : goal.returns-in-Missing-clause-turns
+returns-in-Missing-clause-turns g c = λ start fed place reading fits.
+    subst (λ f. FindsLine start (g.D.Desk.state c.next_line.new.desk) fed place (Ok f) c.next_line.new.lines) c.in-Missing.is (c.in_ok-entry.ensures.finds start fed place reading fits)
+
+pub returns-in-Beyond-clause-turns : goal.returns-in-Beyond-clause-turns
+returns-in-Beyond-clause-turns g c = λ start fed place reading fits.
+    subst (λ f. FindsLine start (g.D.Desk.state c.next_line.new.desk) fed place (Ok f) c.next_line.new.lines) c.in-Beyond.is (c.in_ok-entry.ensures.finds start fed place reading fits)
 
 pub returns-in-Head-clause-turns : goal.returns-in-Head-clause-turns
-returns-in-Head-clause-turns c =
+returns-in-Head-clause-turns g c = λ start fed place reading fits.
     let laws : Spellings = record { told = c.spelling_is_determined.ensures.told; ends = c.spelling_is_determined.ensures.ends } in
-    let read : ReadsEntry numbers_of is_valid c.args.bytes.now c.args.from (Ok (Some c.in-Ok-Some.read)) = rw c.in-Ok-Some.field-0-is at c.in-Ok-Some.ensures in
-    head_wrong laws c.args.model.now c.args.kernel.now c.args.bytes.now c.args.from c.in-Ok-Some.read.1
-    (subst (λ e. IsEntryAt c.args.bytes.now c.args.from c.in-Ok-Some.read.1 e) c.in-Head.is read)
+    let found = found_entry start (g.D.Desk.state c.next_line.new.desk) fed place c.next_line.new.lines c.in_ok-entry.field-0 c.in-Line.entry Head (c.in_ok-entry.ensures.finds start fed place reading fits) c.in-Line.is c.in-Head.is in
+    (found.0, found.1, head_wrong laws c.args.model.now c.args.kernel.now found.0 place found.2.0 found.2.1)
 
-pub returns-else-branch-clause-turns : goal.returns-else-branch-clause-turns
-returns-else-branch-clause-turns c =
+pub returns-in-Ok-true-clause-turns : goal.returns-in-Ok-true-clause-turns
+returns-in-Ok-true-clause-turns g c = λ start fed place reading fits.
+    let found = found_entry start (g.D.Desk.state c.next_line.new.desk) fed place c.next_line.new.lines c.in_ok-entry.field-0 c.in-Line.entry (Step c.in-Step.line) (c.in_ok-entry.ensures.finds start fed place reading fits) c.in-Line.is c.in-Step.is in
+    (found.0, found.1, (found.2.0, c.in-Step.line, found.2.1, rw c.in-Ok-true.field-0-test at c.in-Ok-true.ensures.tries, found.2.2))
+
+pub returns-in-Ok-false-clause-turns : goal.returns-in-Ok-false-clause-turns
+returns-in-Ok-false-clause-turns g c = λ start fed place reading fits.
     let laws : Spellings = record { told = c.spelling_is_determined.ensures.told; ends = c.spelling_is_determined.ensures.ends } in
-    let read : ReadsEntry numbers_of is_valid c.args.bytes.now c.args.from (Ok (Some c.in-Ok-Some.read)) = rw c.in-Ok-Some.field-0-is at c.in-Ok-Some.ensures in
-    step_wrong laws c.args.model.now c.args.kernel.now c.args.bytes.now c.args.from c.in-Ok-Some.read.1 c.in-Step.line
-    (subst (λ e. IsEntryAt c.args.bytes.now c.args.from c.in-Ok-Some.read.1 e) c.in-Step.is read)
-    (rw c.if-branch.false at c.in_ok-try_line-in-Step.ensures.tries)
+    let found = found_entry start (g.D.Desk.state c.next_line.new.desk) fed place c.next_line.new.lines c.in_ok-entry.field-0 c.in-Line.entry (Step c.in-Step.line) (c.in_ok-entry.ensures.finds start fed place reading fits) c.in-Line.is c.in-Step.is in
+    (found.0, found.1, step_wrong laws c.args.model.now c.args.kernel.now found.0 place found.2.0 c.in-Step.line found.2.1 (rw c.in-Ok-false.field-0-test at c.in-Ok-false.ensures.tries))
+
+pub returns-in-Err-clause-turns : goal.returns-in-Err-clause-turns
+returns-in-Err-clause-turns g c = λ start fed place reading fits.
+    let found = found_entry start (g.D.Desk.state c.next_line.new.desk) fed place c.next_line.new.lines c.in_ok-entry.field-0 c.in-Line.entry (Step c.in-Step.line) (c.in_ok-entry.ensures.finds start fed place reading fits) c.in-Line.is c.in-Step.is in
+    (found.1.reading.moved, found.1.reading.kept)
+
+pub returns-in-Finish-clause-turns : goal.returns-in-Finish-clause-turns
+returns-in-Finish-clause-turns g c = λ start fed place reading fits.
+    let found = found_entry start (g.D.Desk.state c.next_line.new.desk) fed place c.next_line.new.lines c.in_ok-entry.field-0 c.in-Line.entry Finish (c.in_ok-entry.ensures.finds start fed place reading fits) c.in-Line.is c.in-Finish.is in
+    (found.0, found.1, (found.2.0, found.2.1, refl, found.2.2))
