@@ -1,14 +1,14 @@
--- A turn that is dropped or put off.
+-- Whoever has its turn is put to sleep, or put off.
 use Rattle.std.specs.Prelude.{◌≡◌, ℕ, ◌+◌, ◌<◌, false, List, length, Option, Some, None}
 use Rattle.std.proofs.Common.{refl, sym, ap, subst, ◌∙◌, arith}
 use Rattle.wake_levels.specs.declared.levels.Turn.{Turn}
-use Rattle.wake_levels.specs.Waking.{Waking, is_awake, weight, first_turn, without_first, woken_on}
+use Rattle.wake_levels.specs.Waking.{Waking, is_awake, weight, first_turn, without_on_all, woken_on}
 use Rattle.wake_levels.specs.Calm.{IsCalm}
 use Rattle.wake_levels.specs.laws.Turning.{weight_without, weight_on, count_without, count_on, none_in}
-use Rattle.wake_levels.specs.laws.Calming.{calm_dropped, calm_later, all_quiet}
+use Rattle.wake_levels.specs.laws.Calming.{calm_unwoken, calm_later, all_quiet}
 
--- the levels after a turn was dropped, and after it was put off
-pub record IsDropped (n : ℕ) (quiet : ℕ → Type 0) (a b : Waking) : Type 0 where
+-- the levels after whoever had its turn was put to sleep, and after it was put off
+pub record IsCalmed (n : ℕ) (quiet : ℕ → Type 0) (a b : Waking) : Type 0 where
   pub below : b.below ≡ a.below
   pub count : length b.levels ≡ length a.levels
   pub calm : IsCalm n quiet b
@@ -17,11 +17,11 @@ pub record IsDropped (n : ℕ) (quiet : ℕ → Type 0) (a b : Waking) : Type 0 
 abbrev with_levels : Waking → List (List ℕ) → Waking
 with_levels a kss = record a { levels = kss }
 
-pub dropped : (n : ℕ) (quiet : ℕ → Type 0) (a b : Waking) (o : Option Turn) (t : Turn) → o ≡ first_turn a.levels → o ≡ Some t → b ≡ record a { levels = without_first a.levels } → quiet t.k → IsCalm n quiet a → IsDropped n quiet a b
-dropped n quiet a b o t first some is here calm = subst (IsDropped n quiet a) (sym is) (record {
+pub asleep : (n : ℕ) (quiet : ℕ → Type 0) (a b : Waking) (o : Option Turn) (t : Turn) → o ≡ first_turn a.levels → o ≡ Some t → b ≡ record a { levels = without_on_all t.k a.levels } → quiet t.k → IsCalm n quiet a → IsCalmed n quiet a b
+asleep n quiet a b o t first some is here calm = subst (IsCalmed n quiet a) (sym is) (record {
   below = refl;
-  count = count_without a.levels;
-  calm = calm_dropped n quiet a t turn here calm;
+  count = count_without t.k a.levels;
+  calm = calm_unwoken t.k n quiet a here calm;
   lighter = let two = weight_without a.levels t turn in omega (arith, two.0, two.1);
 })
   where
@@ -29,19 +29,19 @@ dropped n quiet a b o t first some is here calm = subst (IsDropped n quiet a) (s
     turn = sym first ∙ some
 
 pub later : (n last : ℕ) (quiet : ℕ → Type 0) (a b c : Waking) (o : Option Turn) (t : Turn) → o ≡ first_turn a.levels → o ≡ Some t → length a.levels ≡ last + 1 → t.level < last
-    → b ≡ record a { levels = without_first a.levels } → c ≡ record b { levels = woken_on t.k last b.levels } → IsCalm n quiet a → IsDropped n quiet a c
-later n last quiet a b c o t first some count less dropped_is is calm = subst (IsDropped n quiet a) (sym (is ∙ ap (λ (d : Waking). with_levels d (woken_on t.k last d.levels)) dropped_is)) (record {
+    → b ≡ record a { levels = without_on_all t.k a.levels } → c ≡ record b { levels = woken_on t.k last b.levels } → IsCalm n quiet a → IsCalmed n quiet a c
+later n last quiet a b c o t first some count less asleep_is is calm = subst (IsCalmed n quiet a) (sym (is ∙ ap (λ (d : Waking). with_levels d (woken_on t.k last d.levels)) asleep_is)) (record {
   below = refl;
-  count = count_on t.k last (without_first a.levels) ∙ count_without a.levels;
-  calm = calm_later n last quiet a t turn (omega (arith, count)) calm;
-  lighter = let two = weight_without a.levels t turn in let more = weight_on t.k last (without_first a.levels) (omega (arith, count, count_without a.levels)) in omega (arith, two.0, two.1, more, count, less, count_without a.levels);
+  count = count_on t.k last (without_on_all t.k a.levels) ∙ count_without t.k a.levels;
+  calm = calm_later t.k n last quiet a (omega (arith, count)) calm;
+  lighter = let two = weight_without a.levels t turn in let more = weight_on t.k last (without_on_all t.k a.levels) (omega (arith, count, count_without t.k a.levels)) in omega (arith, two.0, two.1, more, count, less, count_without t.k a.levels);
 })
   where
     turn : first_turn a.levels ≡ Some t
     turn = sym first ∙ some
 
-pub within_levels : (a b : Waking) (last : ℕ) → length a.levels ≡ last + 1 → b ≡ record a { levels = without_first a.levels } → last < length b.levels
-within_levels a b last count is = subst (λ (d : Waking). last < length d.levels) (sym is) (omega (arith, count, count_without a.levels))
+pub within_levels : (a b : Waking) (last k : ℕ) → length a.levels ≡ last + 1 → b ≡ record a { levels = without_on_all k a.levels } → last < length b.levels
+within_levels a b last k count is = subst (λ (d : Waking). last < length d.levels) (sym is) (omega (arith, count, count_without k a.levels))
 
 pub quiet_all : (n : ℕ) (quiet : ℕ → Type 0) (a : Waking) (o : Option Turn) → o ≡ first_turn a.levels → o ≡ None → IsCalm n quiet a → (k : ℕ) → k < n → quiet k
 quiet_all n quiet a o first none calm = all_quiet n quiet a (sym first ∙ none) calm

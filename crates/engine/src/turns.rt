@@ -16,8 +16,8 @@ use sched_model::Model;
 use wake_levels::WakeLevels;
 
 /// Asks those that are awake, the most urgent first, until one finds something; nothing once none is
-/// awake. Whoever finds nothing leaves its level. What is late is asked again on the last level.
-/// Whoever found what is answered stays the first of its level.
+/// awake. Whoever finds nothing is put to sleep on every level; what is late, on all but the last,
+/// where it is asked again. Whoever found what is answered stays the first of its level.
 pub fn find<P: Propagator>(
     propagators: &mut P,
     levels: &mut WakeLevels,
@@ -41,11 +41,11 @@ pub fn find<P: Propagator>(
             return Ok(None);
         };
         let Some(f) = propagators.next(turn.k, model, region, best)? else {
-            levels.drop_first();
+            levels.unwake(turn.k);
             continue;
         };
         if turn.level < last && is_late(region, &f) {
-            levels.drop_first();
+            levels.unwake(turn.k);
             levels.wake(turn.k, last);
             continue;
         }

@@ -1,3 +1,4 @@
 mod Ending
+mod Noted
 mod Going
 mod Both

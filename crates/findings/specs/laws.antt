@@ -1,4 +1,7 @@
 pub mod Members
+pub mod Numbers
+pub mod Tables
+pub mod EndGuesses
 pub mod Alike
 pub mod Kept
 pub mod Everywhere

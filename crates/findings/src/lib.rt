@@ -1,10 +1,13 @@
 //! What propagators ask of their witnesses: whether one refutes a region, as it stands or under a
-//! guess at the end of a cell, and what was found so.
+//! guess at the end of a cell, and what was found so; and the numbers of an interval that tell
+//! beforehand where a witness is silent.
 #![tactic(auto)]
 
 mod asking;
+mod ends;
 mod finding;
 mod searching;
 
 pub use asking::{ask, ask_by};
+pub use ends::{Ends, ends_at, ends_in};
 pub use finding::{Finding, Pair};

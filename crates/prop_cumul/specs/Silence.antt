@@ -1,5 +1,5 @@
 -- A bound that is further away than all parts together can come: each is at most a million units high.
-use Rattle.std.specs.Prelude.{ℕ, ◌*◌, pos, Bool, length, int_le}
+use Rattle.std.specs.Prelude.{◌*◌, pos, Bool, length, int_le}
 use Rattle.sched_model.specs.Data.{Data, parts_of}
 use Rattle.refute_cumul.specs.declared.bound.Bound.{Bound}
 use Rattle.refute_cumul.specs.Loads.{limit_of}

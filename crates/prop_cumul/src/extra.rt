@@ -68,6 +68,14 @@ fn extra(plain: &Look<'_>, under: &Look<'_>, below: bool, parts: &[Part], t: i64
     load(under, below, parts, t) - load(plain, below, parts, t)
 }
 
+/// A moment of a span at which the level is too high, and where the run of such moments from it on
+/// ends, of which nothing is promised.
+#[derive(Clone, Copy, Debug)]
+pub struct Raised {
+    pub t: i64,
+    pub end: i64,
+}
+
 /// The first moment of a span at which the level of the profile, with what a guess adds to the load of
 /// some parts, is above a limit. Between two changes of these parts what it adds is the same.
 pub fn first_raised(
@@ -78,11 +86,11 @@ pub fn first_raised(
     parts: &[Part],
     span: (i64, i64),
     limit: i128,
-) -> Option<i64>
+) -> Option<Raised>
     requires few { length parts.now ≤ 100000 }
     requires low { neg_ℤ (pos (2 ^ 63)) ≤ℤ limit }
     requires high { limit ≤ℤ pos (2 ^ 63) }
-    ensures some { IfSome result (IsRaisedAbove profile.now.levels plain.now.region under.now.region below parts.now span.0 span.1 limit) }
+    ensures some { IfSome result (λ r. IsRaisedAbove profile.now.levels plain.now.region under.now.region below parts.now span.0 span.1 limit r.t) }
     ensures none { IfNone result (StaysLow profile.now.levels plain.now.region under.now.region below parts.now span.0 span.1 limit) }
 {
     let (from, to) = span;
@@ -91,7 +99,8 @@ pub fn first_raised(
         let n = next_change(plain, under, below, parts, a, to);
         let added = extra(plain, under, below, parts, a);
         if let Some(t) = profile.first_above(a, n, limit - added) {
-            return Some(t);
+            let end = profile.run_end(t, n, limit - added);
+            return Some(Raised { t, end });
         }
         a = n;
     }

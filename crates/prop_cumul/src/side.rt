@@ -7,14 +7,17 @@ ghost use Rattle.region.specs.Guesses.{admits, topic, looked_at};
 ghost use Rattle.region.specs.Looks.{seen_at};
 ghost use Rattle.region.specs.Tight.{IsTightened};
 ghost use Rattle.findings.specs.Found.{IsFinding};
+ghost use Rattle.refute_cumul.specs.declared.witness.CumulWitness.TheVariants.{Point};
 ghost use Rattle.refute_cumul.specs.OnCumul.{refutes};
+ghost use Rattle.refute_cumul.specs.laws.Loads.{side};
 ghost use Rattle.refute_cumul.specs.Listed.{names_of};
 ghost use Rattle.refute_cumul.specs.Sides.{is_high};
 ghost use Rattle.prop_cumul.specs.Tables.{is_of};
 ghost use Rattle.prop_cumul.specs.Asking.{IsReady, NeverHigh, IsQuietUnder, IsQuietOn, IsBusy};
-ghost use Rattle.prop_cumul.specs.laws.Asking.{TellsExtra, IsRefutedUnder, IsAnEnd};
+ghost use Rattle.findings.specs.laws.EndGuesses.{IsAnEnd};
+ghost use Rattle.prop_cumul.specs.laws.Asking.{TellsExtra, IsRefutedUnder};
 
-use crate::extra::first_raised;
+use crate::extra::{Raised, first_raised};
 use findings::Finding;
 use refute_cumul::{Bound, CumulWitness, OnCumul, Profile, limit_of, side, window_of};
 use region::{Guess, GuessTest, Region, tighten_by};
@@ -35,12 +38,12 @@ pub struct Side<'a> {
 }
 
 /// A moment at which the bound is passed under a guess, of which these parts tell what it adds.
-fn moment_under(at: &Side<'_>, parts: &[Part], guess: Option<Guess>) -> Option<i64>
+fn moment_under(at: &Side<'_>, parts: &[Part], guess: Option<Guess>) -> Option<Raised>
     requires ready { IsReady at.now.model.now at.now.region.now.region at.now.c at.now.bound at.now.below at.now.profile.now }
     requires admitted { IsTrue (passes_if_any (admits at.now.region.now.region) guess) }
     requires few { length parts.now ≤ 100000 }
     requires tells { TellsExtra at.now.model.now at.now.region.now.region (looked_at guess at.now.region.now.region) at.now.bound at.now.below parts.now }
-    ensures some { IfSome result (λ t. is_high at.now.model.now (looked_at guess at.now.region.now.region) at.now.bound at.now.below t ≡ true) }
+    ensures some { IfSome result (λ r. is_high at.now.model.now (looked_at guess at.now.region.now.region) at.now.bound at.now.below r.t ≡ true) }
     ensures none { IfNone result (NeverHigh at.now.model.now (looked_at guess at.now.region.now.region) at.now.bound at.now.below) }
 {
     let plain = at.region.look(None, None);
@@ -74,7 +77,9 @@ struct PointTest<'a> {
 
 impl<'a> GuessTest for PointTest<'a> {
     ghost use Rattle.region.specs.Looks.{IsRegionOf, seen_at};
+    ghost use Rattle.refute_cumul.specs.declared.witness.CumulWitness.TheVariants.{Point};
     ghost use Rattle.refute_cumul.specs.OnCumul.{refutes};
+    ghost use Rattle.refute_cumul.specs.laws.Loads.{side};
 
     ghost region = { λ t. t.region.now.region };
 
@@ -124,6 +129,35 @@ fn finding(
     }
 }
 
+/// Whether a guess lets its interval start or end no later than a moment: the later the moment at
+/// which the bound is passed, the further it moves.
+fn is_early(guess: Option<Guess>) -> bool {
+    matches!(guess, Some(Guess::StartLe(..) | Guess::EndLe(..)))
+}
+
+/// Of a run of moments that begins with one at which the bound is passed under a guess, one that moves
+/// the guess further, if the bound is passed there too.
+fn best_moment(at: &Side<'_>, guess: Option<Guess>, raised: Raised) -> i64
+    requires ready { IsReady at.now.model.now at.now.region.now.region at.now.c at.now.bound at.now.below at.now.profile.now }
+    requires admitted { IsTrue (passes_if_any (admits at.now.region.now.region) guess) }
+    requires refuted { IsTrue (refutes at.now.model.now (seen_at at.now.region.now.region at.now.best guess) (Point at.now.c raised.t (side at.now.below))) }
+    ensures { IsTrue (refutes at.now.model.now (seen_at at.now.region.now.region at.now.best guess) (Point at.now.c result (side at.now.below))) }
+{
+    if !is_early(guess) || raised.end <= raised.t {
+        return raised.t;
+    }
+    let t = raised.end - 1;
+    let witness = CumulWitness::Point {
+        c: at.c,
+        t,
+        u: side(at.below),
+    };
+    if region::refutes::<OnCumul>(at.model, at.region, at.best, guess, &witness) {
+        return t;
+    }
+    raised.t
+}
+
 /// What the bound gives under a guess, of which these parts tell what it adds.
 fn ask_under(at: &Side<'_>, parts: &[Part], guess: Option<Guess>) -> Option<Finding<CumulWitness>>
     requires ready { IsReady at.now.model.now at.now.region.now.region at.now.c at.now.bound at.now.below at.now.profile.now }
@@ -134,7 +168,8 @@ fn ask_under(at: &Side<'_>, parts: &[Part], guess: Option<Guess>) -> Option<Find
     ensures some { IfSome result (IsFinding refutes at.now.model.now at.now.region.now.region at.now.best) }
     ensures busy { IfSome result (λ f. IsRefutedUnder at.now.model.now at.now.region.now.region at.now.best at.now.c guess) }
 {
-    let t = moment_under(at, parts, guess)?;
+    let raised = moment_under(at, parts, guess)?;
+    let t = best_moment(at, guess, raised);
     let witness = CumulWitness::Point {
         c: at.c,
         t,

@@ -14,14 +14,16 @@ use Rattle.refute_state.specs.declared.witness.StateWitness.TheVariants.{State, 
 use Rattle.refute_state.specs.Demands.{demand_at, of_one, same_state}
 use Rattle.refute_state.specs.Gathered.{demands_at}
 use Rattle.refute_state.specs.OnState.{refutes}
-use Rattle.prop_state.specs.declared.ends.Ends.{Ends}
+use Rattle.findings.specs.declared.ends.Ends.{Ends}
+use Rattle.findings.specs.Numbers.{ends_in}
 use Rattle.prop_state.specs.declared.demands.Named.{Named}
 use Rattle.prop_state.specs.Tasks.{IsSilent, quiet, interval_in, intervals_at}
 use Rattle.prop_state.specs.Walks.{EachOf, SilentTwo, SilentThree, SilentAround, IsNamed, IsOf}
-use Rattle.prop_state.specs.Silence.{ends_in, longest_part, IsCovered, may_refute_pair, may_refute_around, may_refute_triple}
+use Rattle.prop_state.specs.Silence.{longest_part, IsCovered, may_refute_pair, may_refute_around, may_refute_triple}
 use Rattle.prop_state.specs.laws.Owners.{demand_here}
 use Rattle.prop_state.specs.laws.Quieting.{silent_two, silent_three}
 use Rattle.prop_state.specs.laws.Silence.{pair_silent, triple_silent, around_silent, states_silent, order_silent, same_silent, asked_from_silent, silent_from_asked}
+use Rattle.base_laws.specs.laws.Truth.{never_both}
 
 -- a constraint with its demand
 pub not_demand : (m : Data) (k c : ℕ) → None ≡ demand_at m c → demands_at m k c ≡ false
@@ -103,10 +105,6 @@ two_calm m r best k a b one other calm mine yours = pair_silent m r best k a b o
 pub two_asked : (m : Data) (r : Region) (best : Option ℤ) (k c1 c2 : ℕ) → IsSilent m r best (State c1 c2) → SilentTwo m r best k c1 c2
 two_asked m r best k c1 c2 silent mine yours = silent
 
-second_off : (p q : Bool) → q ≡ false → (p && q) ≡ false
-second_off true q h = h
-second_off false q h = refl
-
 -- of three
 intervals_three : (m : Data) (r : Region) (k : ℕ) (a x b : Named) → IsOf m r k a → IsOf m r k x → IsOf m r k b → intervals_at m (a.c ∷ x.c ∷ b.c ∷ []) ≡ a.demand.x ∷ x.demand.x ∷ b.demand.x ∷ []
 intervals_three m r k a x b one mid other =
@@ -136,7 +134,7 @@ between_off p q s t h = ap (λ b. p && q && b && not t) h ∙ none p q (not t)
     none false q t = refl
 
 between_same : (p q s t : Bool) → t ≡ true → (p && q && s && not t) ≡ false
-between_same p q s t h = ap (λ b. p && q && s && not b) h ∙ second_off (p && q && s) false refl
+between_same p q s t h = ap (λ b. p && q && s && not b) h ∙ never_both (p && q && s) false refl
 
 pub second_same : (m : Data) (r : Region) (best : Option ℤ) (k : ℕ) (a x b : Named) → IsOf m r k a → IsOf m r k x → IsOf m r k b → same_state a.demand.state x.demand.state ≡ true → SilentThree m r best k a.c x.c b.c
 second_same m r best k a x b one mid other is f g h =

@@ -2,10 +2,10 @@
 use Rattle.std.specs.Prelude.{◌≡◌, ℕ, zero, suc, ◌+◌, ◌<◌, ◌≤◌, true, false, List, [], ◌∷◌, ◌++◌, length, drop, Some, None}
 use Rattle.std.proofs.Common.{◌≢◌, refl, sym, ap, subst, ◌∙◌, arith, get_or, inl, inr, set, append_assoc}
 use Rattle.std.proofs.lemmas.Bool.{true≢false, cases_eq}
-use Rattle.std.proofs.lemmas.List.{get_or-set_same, get_or-set_other, get_or_default, get_or_append_left, length_push, at_drop_more}
+use Rattle.std.proofs.lemmas.List.{get_or-set_same, get_or-set_other, get_or_default, length_push, at_drop_more}
 use Rattle.sched_base.specs.declared.ids.Itv.{Itv}
 use Rattle.sched_model.specs.Data.{Data}
-use Rattle.base_laws.specs.laws.Places.{newest}
+use Rattle.base_laws.specs.laws.Places.{each_pushed}
 use Rattle.refute_state.specs.declared.demand.Demand.{Demand}
 use Rattle.refute_state.specs.Demands.{demand_at}
 use Rattle.refute_state.specs.Gathered.{demands_at, demands_of}
@@ -16,13 +16,6 @@ use Rattle.prop_state.specs.Walks.{EachOf, IsNamed}
 use Rattle.prop_state.specs.laws.Unwatched.{few_demands}
 use Rattle.refute_state.specs.laws.Settled.{In}
 use Rattle.region.specs.Cells.{Region}
-
--- one more list, whatever the lists are to be
-each_pushed : {X : Type 0} (wanted : ℕ → List X) (n : ℕ) (t : List (List X)) (v : List X) → length t ≡ n → ((k : ℕ) → k < n → get_or t k [] ≡ wanted k) → v ≡ wanted n → (k : ℕ) → k < n + 1 → get_or (t ++ v ∷ []) k [] ≡ wanted k
-each_pushed wanted n t v size so_far is k below = elim (cases_eq k n) [
-  | inl last ↦ subst (λ (i : ℕ). get_or (t ++ v ∷ []) i [] ≡ wanted i) (sym last) (newest n t v [] (sym size) ∙ is)
-  | inr other ↦ (let apart : k ≢ n = other in let less : k < n = omega (arith, below, apart) in get_or_append_left t (v ∷ []) [] k (omega (arith, less, size)) ∙ so_far k less)
-]
 
 pub no_demands : (m : Data) → AreDemands m 0 []
 no_demands m = record { size = refl; each = λ k below. absurd (omega (arith, below)) }

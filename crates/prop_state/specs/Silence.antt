@@ -1,29 +1,13 @@
 -- Where STATE and STATE3 are silent, by the numbers of their intervals alone.
-use Rattle.std.specs.Prelude.{◌≡◌, ℕ, ℤ, pos, ◌+ℤ◌, ◌-ℤ◌, ◌≤ℤ◌, Bool, false, not, ◌&&◌, ◌||◌, Some, IsTrue, int_lt}
-use Rattle.std.specs.Int.{int_max, int_min}
-use Rattle.sched_base.specs.declared.ids.Itv.{Itv}
+use Rattle.std.specs.Prelude.{◌≡◌, ℕ, ℤ, pos, ◌+ℤ◌, ◌-ℤ◌, ◌≤ℤ◌, Bool, false, not, ◌&&◌, ◌||◌, Some, int_lt}
+use Rattle.std.specs.Int.{int_max}
 use Rattle.sched_model.specs.Data.{Data, same}
-use Rattle.region.specs.declared.types.Bounds.{Bounds}
 use Rattle.region.specs.Cells.{Region, bounds_of, says_present, says_absent}
-use Rattle.region.specs.Looks.{is_shifted, ect_in, lst_in}
+use Rattle.findings.specs.declared.ends.Ends.{Ends}
+use Rattle.findings.specs.Numbers.{ends_in}
 use Rattle.refute_state.specs.declared.demand.Demand.{Demand}
 use Rattle.refute_state.specs.Demands.{demand_at, same_state, some_state, demand_gap}
-use Rattle.prop_state.specs.declared.ends.Ends.{Ends}
 use Rattle.prop_state.specs.declared.demands.Named.{Named}
-
--- the greatest earliest completion and the least latest start that a guess at the end of a cell can make
-abbrev pub highest_end : Bounds → ℤ
-highest_end c = int_max (int_max c.emin c.emax) (int_max c.smin c.smax +ℤ c.pmin)
-
-abbrev pub lowest_start : Bounds → ℤ
-lowest_start c = int_min (int_min c.smin c.smax) (int_min c.emin c.emax -ℤ c.pmin)
-
--- the numbers of an interval by which demands are compared
-abbrev pub ends_of : Bounds → Ends
-ends_of c = record { presence = c.presence; ect = ect_in c; lst = lst_in c; highest_end = highest_end c; lowest_start = lowest_start c }
-
-abbrev pub ends_in : Region → Itv → Ends
-ends_in r x = ends_of (bounds_of r x)
 
 -- the first can't end, with the distance, before the second starts: as it is told, and under some such guess
 unfoldable pub is_late_in : Ends → ℤ → Ends → Bool
@@ -60,13 +44,6 @@ may_all_be_late c e d n = may_be_late e (pos 0) c && may_be_late d (pos 0) e && 
 
 unfoldable pub may_refute_three : Ends → Ends → Ends → ℤ → Bool
 may_refute_three c e d n = may_stand_three c e d && nearly_three (is_late_in e (pos 0) c) (is_late_in d (pos 0) e) (is_late_in c n d) && may_all_be_late c e d n
-
--- each of them is the sum or the difference of a moment and a length
-pub record HasShifts (e : Ends) : Type 0 where
-  pub ect : IsTrue (is_shifted e.ect)
-  pub lst : IsTrue (is_shifted e.lst)
-  pub highest_end : IsTrue (is_shifted e.highest_end)
-  pub lowest_start : IsTrue (is_shifted e.lowest_start)
 
 -- the longest compulsory part, from the latest start to the earliest completion: as it is told, and under such a guess
 abbrev pub longest_part : Ends → ℤ

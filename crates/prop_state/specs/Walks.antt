@@ -8,7 +8,7 @@ use Rattle.refute_state.specs.Gathered.{demands_at}
 use Rattle.refute_state.specs.laws.Settled.{In}
 use Rattle.prop_state.specs.declared.demands.Named.{Named}
 use Rattle.prop_state.specs.Tasks.{IsSilent}
-use Rattle.prop_state.specs.Silence.{ends_in}
+use Rattle.findings.specs.Numbers.{ends_in}
 
 abbrev pub EachOf : (ℕ → Type 0) → List ℕ → Type 0
 EachOf P cs = (c : ℕ) → In cs c → P c

@@ -2,7 +2,7 @@ ghost use Rattle.std.specs.Prelude.{◌≡◌, ◌≤◌, true, false, length, I
 ghost use Rattle.refute_state.specs.Gathered.{demands_at};
 ghost use Rattle.prop_state.specs.Walks.{EachOf, IsNamed, AreNamed};
 
-use crate::ends::{Ends, UNKNOWN, ends_in};
+use findings::{Ends, ends_in};
 use refute_state::{Demand, demand_at};
 use region::Region;
 use sched_base::{Itv, Stf};
@@ -26,7 +26,7 @@ pub const NONE: Named = Named {
         starts: false,
         ends: false,
     },
-    ends: UNKNOWN,
+    ends: Ends::UNKNOWN,
 };
 
 /// The constraint with its demand, if it is one of the state function.

@@ -3,7 +3,6 @@
 #![tactic(auto)]
 
 mod demands;
-mod ends;
 mod pairs;
 mod parts;
 mod silence;

@@ -3,11 +3,12 @@ ghost use Rattle.std.specs.Prelude.{◌≡◌, ◌-ℤ◌, ◌≤ℤ◌, false, 
 ghost use Rattle.std.specs.Int.{int_max};
 ghost use Rattle.region.specs.Cells.{bounds_of, says_absent};
 ghost use Rattle.region.specs.Looks.{is_shifted};
-ghost use Rattle.prop_state.specs.Silence.{longest_part, ends_in, HasShifts, IsCovered};
+ghost use Rattle.findings.specs.Numbers.{ends_in, HasShifts};
+ghost use Rattle.prop_state.specs.Silence.{longest_part, IsCovered};
 ghost use Rattle.prop_state.specs.Walks.{EachOf};
 
-use crate::ends::{Ends, ends_in};
 use crate::silence::is_absent;
+use findings::{Ends, ends_in};
 use refute_state::demand_at;
 use region::Region;
 use sched_base::Itv;

@@ -4,7 +4,7 @@ ghost use Rattle.region.specs.Cells.{says_present, says_absent};
 ghost use Rattle.prop_state.specs.Silence.{is_late_in, may_be_late, nearly_two, nearly_three, may_stand_two, may_stand_three, may_clash, may_refute_two, may_all_be_late, may_refute_three, may_refute_pair, may_refute_around, may_refute_triple};
 
 use crate::demands::Named;
-use crate::ends::Ends;
+use findings::Ends;
 use refute_state::{Demand, demand_gap, same_state, some_state};
 use region::Presence;
 use sched_model::Model;

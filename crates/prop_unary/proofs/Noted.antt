@@ -1,7 +1,6 @@
 -- The numbers and the rows of members, noted one after the other.
-use Rattle.std.specs.Prelude.{◌≡◌, ℕ, ◌+◌, ◌<◌, ◌≤◌, ℤ, ◌+ℤ◌, ◌-ℤ◌, Bool, true, false, ◌||◌, ◌&&◌, List, length, nat_eq, nat_lt, Option}
-use Rattle.std.specs.Int.{int_max, int_min}
-use Rattle.std.proofs.Common.{◌≢◌, refl, sym, ap, subst, ◌∙◌, arith, inl, inr, get_or, set}
+use Rattle.std.specs.Prelude.{◌≡◌, ℕ, ◌+◌, ◌<◌, ◌≤◌, ℤ, Bool, true, false, ◌||◌, ◌&&◌, List, length, nat_eq, nat_lt, Option}
+use Rattle.std.proofs.Common.{◌≢◌, sym, ap, subst, ◌∙◌, arith, inl, inr, get_or, set}
 use Rattle.std.proofs.lemmas.Bool.{cases_eq}
 use Rattle.std.proofs.lemmas.Bool.Decides.{nat_tests}
 use Rattle.std.proofs.lemmas.List.{get_or-set_same, get_or-set_other}
@@ -11,11 +10,11 @@ use Rattle.sched_model.specs.Data.{Data}
 use Rattle.region.specs.declared.types.Bounds.{Bounds}
 use Rattle.region.specs.declared.types.OrderCell.{OrderCell}
 use Rattle.region.specs.Cells.{Region, bounds_of, says_absent}
-use Rattle.region.specs.Looks.{ect_in, lst_in}
-use Rattle.prop_unary.specs.declared.ends.Ends.{Ends}
+use Rattle.findings.specs.declared.ends.Ends.{Ends}
+use Rattle.findings.specs.Numbers.{ends_of}
 use Rattle.prop_unary.specs.declared.places.Places.{Places}
 use Rattle.prop_unary.specs.declared.disjunctive.Disjunctive.{Disjunctive}
-use Rattle.prop_unary.specs.Silence.{IsDisjunctive, ends_of, highest_end, lowest_start, are_silent_ends, is_silent_two, reach, AreSilentWhere}
+use Rattle.prop_unary.specs.Silence.{IsDisjunctive, are_silent_ends, is_silent_two, reach, AreSilentWhere}
 use Rattle.prop_unary.specs.Rows.{has_place, may_stand, member_at, IsRow}
 use Rattle.prop_unary.proofs.Asked.{silent_same, silent_tested}
 
@@ -40,15 +39,6 @@ ends_set r xs es n e within before here = each_set (HasEnds r xs) es n e within 
 pub rows_set : (r : Region) (p : Seq) (xs ys : List Itv) (rows : List Places) (n : ℕ) (row : Places) → n < length rows → ((k : ℕ) → k < n → (d : Places) → IsRow r p (member_at xs k) ys (get_or rows k d)) → IsRow r p (member_at xs n) ys row
     → (k : ℕ) → k < n + 1 → (d : Places) → IsRow r p (member_at xs k) ys (get_or (set rows n row) k d)
 rows_set r p xs ys rows n row within before here = each_set (λ k. IsRow r p (member_at xs k) ys) rows n row within before here
-
-pub highest_end_is : (c : Bounds) (e s h : ℤ) → e ≡ int_max c.emin c.emax → s ≡ int_max c.smin c.smax → h ≡ int_max e (s +ℤ c.pmin) → h ≡ highest_end c
-highest_end_is c e s h first second is = is ∙ rw (first, second) refl
-
-pub lowest_start_is : (c : Bounds) (e s h : ℤ) → e ≡ int_min c.emin c.emax → s ≡ int_min c.smin c.smax → h ≡ int_min s (e -ℤ c.pmin) → h ≡ lowest_start c
-lowest_start_is c e s h first second is = is ∙ rw (first, second) refl
-
-pub ends_are : (c : Bounds) (e l h s : ℤ) → e ≡ ect_in c → l ≡ lst_in c → h ≡ highest_end c → s ≡ lowest_start c → record { presence = c.presence; ect = e; lst = l; highest_end = h; lowest_start = s } ≡ ends_of c
-ends_are c e l h s first second third fourth = rw (first, second, third, fourth) refl
 
 -- what the numbers of two show
 pub ends_told : (o : OrderCell) (u v : Bounds) (c d : Ends) (n k : ℤ) (b : Bool) → c ≡ ends_of u → d ≡ ends_of v → n ≡ k → b ≡ (says_absent c.presence || says_absent d.presence || are_silent_ends o c d n) → b ≡ true → is_silent_two o u v k ≡ true

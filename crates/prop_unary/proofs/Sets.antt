@@ -10,6 +10,7 @@ use Rattle.std.proofs.lemmas.Nat.{one_shl}
 use Rattle.std.proofs.lemmas.Nat.Bits.{bit_at-lt, bit_at-zero, bit_at_and, bit_at_or, bit_at-pow_same, bit_at-pow_other}
 use Rattle.std.proofs.lemmas.List.{get_or-set_same, get_or-set_other, get_or_past}
 use Rattle.prop_unary.specs.Rows.{has_word}
+use Rattle.base_laws.specs.laws.Numbers.{differs}
 
 -- words
 or_one : (x y : ℕ) → x < 2 → y ≡ 1 → nat_eq (max x y) 1 ≡ true
@@ -24,13 +25,10 @@ number_itself n = grind (arith, nat_tests)
 pub same_number : (i j : ℕ) → nat_eq i j ≡ true → i ≡ j
 same_number i j h = grind (arith, nat_tests)
 
-other_number : (i j : ℕ) → (i ≡ j → ⊥) → nat_eq i j ≡ false
-other_number i j apart = grind (arith, nat_tests)
-
 with_one : (word b i : ℕ) → has_word (bit_or word (2 ^ b)) i ≡ (nat_eq i b || has_word word i)
 with_one word b i = ap (λ n. nat_eq n 1) (bit_at_or word (2 ^ b) i) ∙ elim (cases_eq i b) [
   | inl e ↦ or_one (bit_at word i) (bit_at (2 ^ b) i) (bit_at-lt word i) (ap (bit_at (2 ^ b)) e ∙ bit_at-pow_same b) ∙ sym (ap (λ t. t || has_word word i) (ap (λ n. nat_eq n b) e ∙ number_itself b))
-  | inr other ↦ or_none (bit_at word i) (bit_at (2 ^ b) i) (bit_at-pow_other b i other) ∙ sym (ap (λ t. t || has_word word i) (other_number i b other))
+  | inr other ↦ or_none (bit_at word i) (bit_at (2 ^ b) i) (bit_at-pow_other b i other) ∙ sym (ap (λ t. t || has_word word i) (differs i b other))
 ]
 
 pub with_bit_is : (word b i : ℕ) → b < 64 → has_word (bit_or word ((1 * 2 ^ b) % 2 ^ 64)) i ≡ (nat_eq i b || has_word word i)
@@ -54,7 +52,7 @@ insert_is ws k j v within is = elim (cases_eq (j / 64) (k / 64)) [
   | inl e ↦ (
       let there : get_or (set ws (k / 64) v) (j / 64) 0 ≡ v = ap (λ i. get_or (set ws (k / 64) v) i 0) e ∙ get_or-set_same ws (k / 64) v 0 within in
       ap (λ w. has_word w (j % 64)) there ∙ is (j % 64) ∙ ap (λ t. t || has_word (get_or ws (k / 64) 0) (j % 64)) (same_word j k e) ∙ ap (λ i. nat_eq j k || has_word (get_or ws i 0) (j % 64)) (sym e))
-  | inr other ↦ ap (λ w. has_word w (j % 64)) (get_or-set_other ws (k / 64) (j / 64) v 0 other) ∙ sym (ap (λ t. t || in_words ws j) (other_number j k (λ e. other (ap (λ n. n / 64) e))))
+  | inr other ↦ ap (λ w. has_word w (j % 64)) (get_or-set_other ws (k / 64) (j / 64) v 0 other) ∙ sym (ap (λ t. t || in_words ws j) (differs j k (λ e. other (ap (λ n. n / 64) e))))
 ]
 
 pub none_in : (k : ℕ) (ws : List ℕ) → ((i : ℕ) → get_or ws i 0 ≡ 0) → in_words ws k ≡ false

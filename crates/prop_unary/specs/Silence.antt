@@ -1,6 +1,6 @@
 -- Where PAIR of two members is silent, by their numbers and their order alone.
-use Rattle.std.specs.Prelude.{◌≡◌, ℕ, ◌<◌, ℤ, pos, ◌+ℤ◌, ◌-ℤ◌, Bool, true, not, ◌&&◌, ◌||◌, List, length, slice_index_or, Option, Some, slice_get, int_le}
-use Rattle.std.specs.Int.{int_max, int_min}
+use Rattle.std.specs.Prelude.{◌≡◌, ℕ, ◌<◌, ℤ, pos, ◌+ℤ◌, Bool, true, not, ◌&&◌, ◌||◌, List, length, slice_index_or, Option, Some, slice_get, int_le}
+use Rattle.std.specs.Int.{int_max}
 use Rattle.sched_base.specs.declared.ids.Itv.{Itv}
 use Rattle.sched_base.specs.declared.ids.Seq.{Seq}
 use Rattle.sched_base.specs.declared.ids.Mat.{Mat}
@@ -11,9 +11,9 @@ use Rattle.region.specs.declared.types.OrderCell.{OrderCell}
 use Rattle.region.specs.declared.types.OrderCell.TheVariants.{Unknown, Forward, Backward}
 use Rattle.region.specs.Orders.{order_in}
 use Rattle.region.specs.Cells.{Region, bounds_of, cells_of, says_present, says_absent}
-use Rattle.region.specs.Looks.{ect_in, lst_in}
+use Rattle.findings.specs.declared.ends.Ends.{Ends}
+use Rattle.findings.specs.Numbers.{ends_of}
 use Rattle.refute_seq.specs.declared.witness.SeqWitness.TheVariants.{Pair}
-use Rattle.prop_unary.specs.declared.ends.Ends.{Ends}
 use Rattle.prop_unary.specs.declared.disjunctive.Disjunctive.{Disjunctive}
 use Rattle.prop_unary.specs.Tasks.{IsSilent}
 use Rattle.prop_unary.specs.Circles.{EachOf}
@@ -21,17 +21,6 @@ use Rattle.prop_unary.specs.Circles.{EachOf}
 -- a constraint without overlap, by its number
 abbrev pub IsDisjunctive : Data → Disjunctive → Type 0
 IsDisjunctive m d = slice_get m.constraints d.c ≡ Some (NoOverlap d.p d.matrix d.direct)
-
--- the greatest earliest completion and the least latest start that a guess at the end of a cell can make
-abbrev pub highest_end : Bounds → ℤ
-highest_end c = int_max (int_max c.emin c.emax) (int_max c.smin c.smax +ℤ c.pmin)
-
-abbrev pub lowest_start : Bounds → ℤ
-lowest_start c = int_min (int_min c.smin c.smax) (int_min c.emin c.emax -ℤ c.pmin)
-
--- the numbers of an interval by which two are compared
-abbrev pub ends_of : Bounds → Ends
-ends_of c = record { presence = c.presence; ect = ect_in c; lst = lst_in c; highest_end = highest_end c; lowest_start = lowest_start c }
 
 -- one that stands before another isn't too late for it, under no guess on either of them
 abbrev pub are_in_time : Ends → Ends → ℤ → Bool

@@ -27,11 +27,13 @@ size_of m = length m.constraints + length m.sequences
 abbrev pub is_own : SeqWitness → Bool
 is_own (Pair c a b k) = true
 is_own (Triple p x y z) = true
+is_own w = false
 
 -- first each PAIR of each constraint, and then each TRIPLE of each sequence
 abbrev pub looks_after : Data → ℕ → SeqWitness → Bool
 looks_after m k (Pair c a b n) = nat_lt c (length m.constraints) && nat_eq k c
 looks_after m k (Triple p x y z) = nat_lt p (length m.sequences) && nat_eq k (length m.constraints + p)
+looks_after m k w = false
 
 -- the sequence of a constraint without overlap, and that of a propagator
 abbrev pub sequence_in : Option Constraint → Option Seq
@@ -63,6 +65,7 @@ reads_triple m p = record { intervals = []; pairs = pairs_of m p; best = false }
 abbrev pub reads_of : Data → SeqWitness → Reads
 reads_of m (Pair c a b k) = reads_pair m (sequence_in (slice_get m.constraints c))
 reads_of m (Triple p x y z) = reads_triple m (record { 0 = p })
+reads_of m w = record { intervals = []; pairs = []; best = false }
 
 abbrev pub reads_at : Data → ℕ → Reads
 reads_at m k = if nat_lt k (length m.constraints) then reads_pair m (sequence_in (slice_get m.constraints k)) else reads_triple m (record { 0 = k - length m.constraints })

@@ -22,11 +22,11 @@ use sched_base::{Itv, Seq};
 use sched_model::Model;
 
 /// Whether the guess is open, and the witness refutes the region under it.
-fn refutes_open(model: &Model, region: &Region, best: Option<i64>, w: SeqWitness, g: Guess) -> bool
+fn refutes_open(model: &Model, region: &Region, best: Option<i64>, w: &SeqWitness, g: Guess) -> bool
     requires { IsRegionOf model.now region.now.region }
-    ensures { result ≡ (admits region.now.region g && refutes model.now (seen_at region.now.region best (Some g)) w) }
+    ensures { result ≡ (admits region.now.region g && refutes model.now (seen_at region.now.region best (Some g)) w.now) }
 {
-    region.admits(g) && OnSequence::refutes(model, &region.look(Some(g), best), &w)
+    region.admits(g) && OnSequence::refutes(model, &region.look(Some(g), best), w)
 }
 
 /// The same where the third may stand before the first: only under the guess that it does can the
@@ -53,7 +53,7 @@ fn ask_open(
         z: z.0,
     };
     let guess = Guess::Before(p, z, x);
-    if refutes_open(model, region, best, witness, guess) {
+    if refutes_open(model, region, best, &witness, guess) {
         return Some(Finding {
             guess: Some(guess),
             witness,
@@ -92,13 +92,13 @@ fn ask_told(
             witness,
         });
     }
-    if refutes_open(model, region, best, witness, Guess::Present(x)) {
+    if refutes_open(model, region, best, &witness, Guess::Present(x)) {
         return Some(Finding {
             guess: Some(Guess::Present(x)),
             witness,
         });
     }
-    if refutes_open(model, region, best, witness, Guess::Present(z)) {
+    if refutes_open(model, region, best, &witness, Guess::Present(z)) {
         return Some(Finding {
             guess: Some(Guess::Present(z)),
             witness,

@@ -8,17 +8,17 @@ ghost use Rattle.region.specs.declared.types.CellName.{CellName as CellNames};
 ghost use Rattle.region.specs.declared.types.CellName.TheVariants as cell;
 ghost use Rattle.region.specs.Looks.{IsRegionOf};
 ghost use Rattle.findings.specs.Found.{IsFinding};
+ghost use Rattle.findings.specs.Tables.{AreLists, members_in};
 ghost use Rattle.refute_seq.specs.OnSequence.{refutes};
 ghost use Rattle.prop_unary.specs.Tasks.{size_of, sequence_in, quiet, watching, watching_best, is_bound, is_bound_of};
-ghost use Rattle.prop_unary.specs.Tables.{IsFor, AreMembers, AreSequences, members_in, as_list};
+ghost use Rattle.prop_unary.specs.Tables.{IsFor, members_at, sequences_at, as_list};
 
 use crate::circles::ask_circles;
 use crate::disjunctive::Disjunctive;
-use crate::ends::Ends;
 use crate::members::sequence_at;
 use crate::pairs::ask_pairs;
 use crate::places::Places;
-use findings::Finding;
+use findings::{Ends, Finding};
 use refute_seq::{SeqWitness, members_of};
 use region::Region;
 use sched_base::{Itv, List, NoMemory, Seq, at};
@@ -77,9 +77,9 @@ fn as_list(alloc: Global, p: Option<Seq>) -> Result<List<Seq>, NoMemory>
     Ok(list)
 }
 
-#[tactic(auto, using(crate::proofs::Making::no_members, crate::proofs::Making::more_members, crate::proofs::Making::all_members))]
+#[tactic(auto, using(findings::specs::laws::Tables::no_lists, findings::specs::laws::Tables::more_lists, findings::specs::laws::Tables::all_lists))]
 fn members_of_each(alloc: Global, model: &Model, n: u32) -> Result<Vec<List<Itv>>, NoMemory>
-    ensures { IfOk result (λ v. AreMembers model.now n v.items) }
+    ensures { IfOk result (λ v. AreLists (members_at model.now) n v.items) }
 {
     let mut lists = Vec::new(alloc);
     for k in 0..n {
@@ -88,9 +88,9 @@ fn members_of_each(alloc: Global, model: &Model, n: u32) -> Result<Vec<List<Itv>
     Ok(lists)
 }
 
-#[tactic(auto, using(crate::proofs::Making::no_sequences, crate::proofs::Making::more_sequences, crate::proofs::Making::all_sequences))]
+#[tactic(auto, using(findings::specs::laws::Tables::no_lists, findings::specs::laws::Tables::more_lists, findings::specs::laws::Tables::all_lists))]
 fn sequence_of_each(alloc: Global, model: &Model, n: u32) -> Result<Vec<List<Seq>>, NoMemory>
-    ensures { IfOk result (λ v. AreSequences model.now n v.items) }
+    ensures { IfOk result (λ v. AreLists (sequences_at model.now) n v.items) }
 {
     let mut lists = Vec::new(alloc);
     for k in 0..n {

@@ -15,6 +15,7 @@ use Rattle.prop_hier.specs.Tasks.{watching as watching_hier, is_bound as is_boun
 use Rattle.prop_unary.specs.Tasks.{watching as watching_unary, is_bound as is_bound_unary, is_bound_of}
 use Rattle.prop_cumul.specs.Tasks.{watching as watching_cumul, is_cell_of as is_cell_of_cumul}
 use Rattle.prop_state.specs.Tasks.{watching as watching_state, is_bound as is_bound_state, is_bound_of as is_bound_of_state}
+use Rattle.prop_sets.specs.Tasks.{watching as watching_sets, is_bound as is_bound_sets, is_bound_of as is_bound_of_sets}
 use Rattle.engine.specs.Watched.{names_presence, names_bound, names_order}
 use Rattle.base_laws.specs.laws.Truth.{alone}
 
@@ -159,3 +160,27 @@ state_orders m k (cell.StartMax x) h = tt
 state_orders m k (cell.EndMin x) h = tt
 state_orders m k (cell.EndMax x) h = tt
 state_orders m k (cell.Order p x y) h = h
+
+pub sets_presences : (m : Data) (k : ℕ) (xs : List Itv) → ((x : Itv) → IsTrue (watching_sets m k (cell.Presence x)) → IsTrue (has xs x)) → (c : CellName) → IsTrue (watching_sets m k c) → names_presence xs c
+sets_presences m k xs each (cell.Presence x) h = each x h
+sets_presences m k xs each (cell.StartMin x) h = tt
+sets_presences m k xs each (cell.StartMax x) h = tt
+sets_presences m k xs each (cell.EndMin x) h = tt
+sets_presences m k xs each (cell.EndMax x) h = tt
+sets_presences m k xs each (cell.Order p x y) h = tt
+
+pub sets_bounds : (m : Data) (k : ℕ) (xs : List Itv) → ((c : CellName) → is_bound_sets c ≡ true → IsTrue (watching_sets m k c) → IsTrue (is_bound_of_sets xs c)) → (c : CellName) → IsTrue (watching_sets m k c) → names_bound xs c
+sets_bounds m k xs each (cell.Presence x) h = tt
+sets_bounds m k xs each (cell.StartMin x) h = each (cell.StartMin x) refl h
+sets_bounds m k xs each (cell.StartMax x) h = each (cell.StartMax x) refl h
+sets_bounds m k xs each (cell.EndMin x) h = each (cell.EndMin x) refl h
+sets_bounds m k xs each (cell.EndMax x) h = each (cell.EndMax x) refl h
+sets_bounds m k xs each (cell.Order p x y) h = tt
+
+pub sets_orders : (m : Data) (k : ℕ) (c : CellName) → IsTrue (watching_sets m k c) → names_order [] c
+sets_orders m k (cell.Presence x) h = tt
+sets_orders m k (cell.StartMin x) h = tt
+sets_orders m k (cell.StartMax x) h = tt
+sets_orders m k (cell.EndMin x) h = tt
+sets_orders m k (cell.EndMax x) h = tt
+sets_orders m k (cell.Order p x y) h = h

@@ -9,6 +9,7 @@ ghost use Rattle.propagators.specs.Quiet.{IsQuietRegion};
 use crate::basic::FromBasic;
 use crate::cumul::FromCumul;
 use crate::hier::FromHier;
+use crate::sets::FromSets;
 use crate::state::FromState;
 use crate::temporal::FromTemporal;
 use crate::unary::FromUnary;
@@ -16,6 +17,7 @@ use engine::{Both, Engine, Propagator};
 use prop_basic::PropBasic;
 use prop_cumul::PropCumul;
 use prop_hier::PropHier;
+use prop_sets::PropSets;
 use prop_state::PropState;
 use prop_temporal::PropTemporal;
 use prop_unary::PropUnary;
@@ -26,8 +28,11 @@ use std::alloc::Global;
 /// The propagators of cumulative and state functions.
 pub type OfFunctions = Both<FromCumul, FromState>;
 
+/// Those of sequences, by few members at a time and by sets, and of functions.
+pub type OfMany = Both<FromUnary, Both<FromSets, OfFunctions>>;
+
 /// Those of an interval and its parts, of sequences, and of functions.
-pub type OfGroups = Both<FromHier, Both<FromUnary, OfFunctions>>;
+pub type OfGroups = Both<FromHier, OfMany>;
 
 /// All propagators. A further crate of propagators is joined to these by `engine::Both`.
 pub type All = Both<FromBasic, Both<FromTemporal, OfGroups>>;
@@ -43,12 +48,16 @@ pub fn start(alloc: Global, model: &Model) -> Result<Engine<All>, NoMemory>
     let temporal = FromTemporal(PropTemporal::new(alloc, model)?);
     let hier = FromHier(PropHier::new(alloc, model)?);
     let unary = FromUnary(PropUnary::new(alloc, model)?);
+    let sets = FromSets(PropSets::new(alloc, model)?);
     let cumul = FromCumul(PropCumul::new(alloc, model)?);
     let state = FromState(PropState::new(alloc, model)?);
     let Some(functions) = Both::new(cumul, state) else {
         unreachable!();
     };
-    let Some(grouped) = Both::new(unary, functions) else {
+    let Some(many) = Both::new(sets, functions) else {
+        unreachable!();
+    };
+    let Some(grouped) = Both::new(unary, many) else {
         unreachable!();
     };
     let Some(last) = Both::new(hier, grouped) else {

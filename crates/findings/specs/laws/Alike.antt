@@ -4,6 +4,7 @@ use Rattle.std.proofs.Common.{refl, sym, ap, subst, ◌∙◌, arith, get_or}
 use Rattle.std.proofs.lemmas.Bool.Decides.{nat_tests}
 use Rattle.std.proofs.lemmas.List.{get_or_past}
 use Rattle.std.proofs.lemmas.Bool.{or_left, or_right}
+use Rattle.base_laws.specs.laws.Numbers.{other_number}
 use Rattle.sched_base.specs.declared.ids.Itv.{Itv}
 use Rattle.sched_base.specs.declared.ids.Seq.{Seq}
 use Rattle.sched_model.specs.Data.{Data, same, has}
@@ -89,9 +90,6 @@ order_under m (Two p x y) u a b r q of also here there same = by_case (nat_eq u.
   where
     same_number : (i j : ℕ) → nat_eq i j ≡ true → i ≡ j
     same_number i j h = grind (arith, nat_tests)
-
-    other_number : (i j : ℕ) → nat_eq i j ≡ false → i ≡ j → ⊥
-    other_number i j h e = grind (arith, nat_tests)
 
     at_one : (u : Seq) → u ≡ p → order_in (cells_of r u) a b ≡ order_in (cells_of q u) a b → order_in (cells_of (assumed (Two p x y) r) u) a b ≡ order_in (cells_of (assumed (Two p x y) q) u) a b
     at_one u e k = rw e (order_there m p x y a b r of (paired r p x y here) ∙ ap (told_order_in x y a b) (subst (λ v. order_in (cells_of r v) a b ≡ order_in (cells_of q v) a b) e k)

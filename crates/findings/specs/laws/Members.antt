@@ -1,4 +1,4 @@
--- Which intervals and pairs lists have.
+-- Which intervals and pairs lists have, and which topics are among them.
 use Rattle.std.specs.Prelude.{◌≡◌, ◌⊎◌, ℕ, zero, suc, ◌<◌, Bool, true, false, ◌&&◌, ◌||◌, List, [], ◌∷◌, length, nat_eq}
 use Rattle.std.proofs.Common.{inl, inr, refl, sym, ap, ◌∙◌, arith, take, get_or}
 use Rattle.std.proofs.lemmas.Bool.Decides.{nat_tests}
@@ -7,10 +7,13 @@ use Rattle.std.proofs.lemmas.Bool.{or_left, or_right}
 use Rattle.sched_base.specs.declared.ids.Itv.{Itv}
 use Rattle.sched_base.specs.declared.ids.Seq.{Seq}
 use Rattle.sched_model.specs.Data.{same}
+use Rattle.region.specs.declared.types.Topic.{Topic}
+use Rattle.region.specs.declared.types.Topic.TheVariants.{One, Two}
+use Rattle.region.specs.Topics.{asks_each}
 use Rattle.region.specs.laws.Lists.{both_true, true_both}
 use Rattle.region.specs.laws.OneSequence.{same_is, has_cases}
 use Rattle.findings.specs.declared.finding.Pair.{Pair}
-use Rattle.findings.specs.Reads.{is_pair, has_pair, is_paired}
+use Rattle.findings.specs.Reads.{is_pair, has_pair, is_paired, is_among}
 use Rattle.base_laws.specs.laws.Items.{any_weaker}
 
 -- an element of the front of a list is the last of it, or one of those before
@@ -79,3 +82,8 @@ is_forward q = true_both (nat_eq q.sequence.0 q.sequence.0) _ (same_here q.seque
 
 pub is_turned : (q : Pair) → is_pair q.sequence q.second q.first q ≡ true
 is_turned q = true_both (nat_eq q.sequence.0 q.sequence.0) _ (same_here q.sequence.0) (or_right _ _ (true_both (same q.second q.second) (same q.first q.first) (same_here q.second.0) (same_here q.first.0)))
+
+-- a topic on one of some intervals is among them
+pub each_among : (xs : List Itv) (t : Topic) → asks_each xs t ≡ true → is_among xs [] t ≡ true
+each_among xs (One x c) h = h
+each_among xs (Two p x y) h = cc

@@ -1,6 +1,5 @@
 -- From moments to guesses, and from guesses to the propagator of a constraint.
 use Rattle.std.specs.Prelude.{◌≡◌, ℕ, zero, suc, ◌<◌, ◌≤◌, ℤ, pos, ◌+ℤ◌, ◌-ℤ◌, ◌≤ℤ◌, ◌<ℤ◌, Bool, true, false, ◌&&◌, List, [], ◌∷◌, length, Option, Some, None, cond, slice_get, nat_eq, int_le, int_lt}
-use Rattle.std.specs.Ordering.{int_eq}
 use Rattle.std.specs.List.{filter}
 use Rattle.std.proofs.Common.{refl, sym, ap, subst, ◌∙◌, arith, get_or, inl, inr}
 use Rattle.std.proofs.lemmas.Int.{ints}
@@ -14,13 +13,13 @@ use Rattle.sched_model.specs.declared.types.Constraint.TheVariants as constraint
 use Rattle.sched_model.specs.Words.{passes, passes_if_any}
 use Rattle.sched_model.specs.Data.{Data, same, has, parts_of}
 use Rattle.sched_model.specs.Valid.{IsValid}
-use Rattle.region.specs.declared.types.Bounds.{Bounds}
 use Rattle.region.specs.declared.types.Topic.{Topic}
 use Rattle.region.specs.declared.types.Topic.TheVariants.{One, Two}
 use Rattle.region.specs.declared.types.Guess.{Guess}
-use Rattle.region.specs.declared.types.Guess.TheVariants.{Present, Absent, StartLe, StartGe, EndLe, EndGe, Before}
+use Rattle.region.specs.declared.types.Guess.TheVariants.{Present}
 use Rattle.region.specs.Cells.{Region, bounds_of}
 use Rattle.region.specs.Guesses.{admits, topic, with_guess, looked_at}
+use Rattle.region.specs.Topics.{asks_each}
 use Rattle.region.specs.Looks.{IsRegionOf, seen_at}
 use Rattle.region.specs.Tight.{IsTightened}
 use Rattle.region.specs.laws.Lists.{both_true, true_both}
@@ -29,6 +28,7 @@ use Rattle.region.specs.laws.OneSequence.{same_is, same_self, has_cases}
 use Rattle.findings.specs.Ends.{is_end, is_open_end, is_asked}
 use Rattle.findings.specs.Found.{IsFinding}
 use Rattle.findings.specs.Search.{is_on}
+use Rattle.findings.specs.laws.EndGuesses.{end_guesses, place, IsAnEnd}
 use Rattle.refute_cumul.specs.declared.bound.Bound.{Bound}
 use Rattle.refute_cumul.specs.declared.witness.CumulWitness.{CumulWitness}
 use Rattle.refute_cumul.specs.declared.witness.CumulWitness.TheVariants.{Point}
@@ -37,7 +37,7 @@ use Rattle.refute_cumul.specs.Point.{point_of, point_row}
 use Rattle.refute_cumul.specs.Levels.{is_surely_in}
 use Rattle.refute_cumul.specs.Loads.{load, limit_of, is_over, is_from, window_of}
 use Rattle.refute_cumul.specs.OnCumul.{refutes}
-use Rattle.refute_cumul.specs.Listed.{names_of, asks_each, lists}
+use Rattle.refute_cumul.specs.Listed.{names_of, lists}
 use Rattle.refute_cumul.specs.Profiles.{Profile, level_in}
 use Rattle.refute_cumul.specs.Sides.{is_high, IsBoundOf, HasRoom, as_constraint}
 use Rattle.refute_cumul.specs.laws.Loads.{window_is, side}
@@ -126,22 +126,6 @@ plain_found m r best w h = record { admitted = refl; refuted = h; tight = refl }
 pub tight_found : (m : Data) (r : Region) (best : Option ℤ) (w : CumulWitness) (g h : Guess) → IsTightened (λ k. refutes m (seen_at r best (Some k)) w) r g h → IsFinding refutes m r best (record { guess = Some h; witness = w })
 tight_found m r best w g h t = record { admitted = t.admitted; refuted = t.refutes; tight = t.tight }
 
--- the guesses at the ends of an interval, in the order in which they are tried
-abbrev pub end_guesses : Bounds → Itv → List Guess
-end_guesses c x = Present x ∷ Absent x ∷ StartLe x c.smin ∷ EndGe x c.emax ∷ StartGe x c.smax ∷ EndLe x c.emin ∷ []
-
-same_int : (a b : ℤ) → int_eq a b ≡ true → a ≡ b
-same_int a b h = grind (arith, ints)
-
-place : (r : Region) (x : Itv) (g : Guess) → is_on x (topic g) ≡ true → is_end r (topic g) ≡ true → (n : ℕ) × (n < 6) × (get_or (end_guesses (bounds_of r x) x) n (Present x) ≡ g)
-place r x (Present y) on end = (0, omega arith, ap Present (sym (same_is y x on)))
-place r x (Absent y) on end = (1, omega arith, ap Absent (sym (same_is y x on)))
-place r x (StartLe y t) on end = let e = same_is y x on in (2, omega arith, ap (λ z. StartLe z (bounds_of r z).smin) (sym e) ∙ ap (StartLe y) (sym (same_int t (bounds_of r y).smin end)))
-place r x (EndGe y t) on end = let e = same_is y x on in (3, omega arith, ap (λ z. EndGe z (bounds_of r z).emax) (sym e) ∙ ap (EndGe y) (sym (same_int t (bounds_of r y).emax end)))
-place r x (StartGe y t) on end = let e = same_is y x on in (4, omega arith, ap (λ z. StartGe z (bounds_of r z).smax) (sym e) ∙ ap (StartGe y) (sym (same_int t (bounds_of r y).smax end)))
-place r x (EndLe y t) on end = let e = same_is y x on in (5, omega arith, ap (λ z. EndLe z (bounds_of r z).emin) (sym e) ∙ ap (EndLe y) (sym (same_int t (bounds_of r y).emin end)))
-place r x (Before p y z) on end = cc
-
 -- where all six are quiet, each is
 pub quiet_on : (m : Data) (r : Region) (b : Bound) (below : Bool) (x : Itv) (gs : List Guess) (n : ℕ) → gs ≡ end_guesses (bounds_of r x) x → length gs ≡ n → ((i : ℕ) → i < n → IsQuietUnder m r b below (get_or gs i (Present x))) → IsQuietOn m r b below x
 quiet_on m r b below x gs n is count before g on open_end =
@@ -150,28 +134,6 @@ quiet_on m r b below x gs n is count before g on open_end =
     let at : get_or gs here.0 (Present x) ≡ g = ap (λ hs. get_or hs here.0 (Present x)) is ∙ here.2 in
     let six : 6 ≡ n = sym (ap length is) ∙ count in
     subst (IsQuietUnder m r b below) at (before here.0 (omega (arith, here.1, six))) two.0
-
--- and each of the six is one at its end
-same_end : (z : ℤ) → int_eq z z ≡ true
-same_end z = grind (arith, ints)
-
-pub record IsAnEnd (r : Region) (x : Itv) (g : Guess) : Type 0 where
-  pub on : is_on x (topic g) ≡ true
-  pub end : is_end r (topic g) ≡ true
-
-end_in : (r : Region) (x : Itv) (n : ℕ) → n < 6 → IsAnEnd r x (get_or (end_guesses (bounds_of r x) x) n (Present x))
-end_in r x zero within = record { on = same_self x; end = refl }
-end_in r x (suc zero) within = record { on = same_self x; end = refl }
-end_in r x (suc (suc zero)) within = record { on = same_self x; end = same_end (bounds_of r x).smin }
-end_in r x (suc (suc (suc zero))) within = record { on = same_self x; end = same_end (bounds_of r x).emax }
-end_in r x (suc (suc (suc (suc zero)))) within = record { on = same_self x; end = same_end (bounds_of r x).smax }
-end_in r x (suc (suc (suc (suc (suc zero))))) within = record { on = same_self x; end = same_end (bounds_of r x).emin }
-end_in r x (suc (suc (suc (suc (suc (suc n)))))) within = absurd (omega (arith, within))
-
-pub end_at : (r : Region) (x : Itv) (gs : List Guess) (i : ℕ) (g : Guess) → gs ≡ end_guesses (bounds_of r x) x → i < length gs → g ≡ get_or gs i (Present x) → IsAnEnd r x g
-end_at r x gs i g is within at =
-    let less : i < 6 = omega (arith, within, ap length is) in
-    subst (IsAnEnd r x) (sym (at ∙ ap (λ hs. get_or hs i (Present x)) is)) (end_in r x i less)
 
 -- what is refuted under an open end guess is asked
 on_listed : (xs : List Itv) (x : Itv) (t : Topic) → has xs x ≡ true → is_on x t ≡ true → asks_each xs t ≡ true

@@ -22,6 +22,7 @@ use Rattle.refute_cumul.specs.Loads.{bounded_of, bounded_shape, is_minus, bounde
 use Rattle.refute_cumul.specs.Listed.{shape_names}
 use Rattle.prop_cumul.specs.Tables.{is_of}
 use Rattle.prop_cumul.specs.Extra.{extra}
+use Rattle.sched_model.specs.laws.Members.{same_not}
 
 -- the same is known of each other interval
 abbrev pub SameElsewhere : Region → Region → Itv → Type 0
@@ -55,10 +56,6 @@ extra_alone r q x below (i ∷ is) t other = by_case (is_of x i) refl (extra_alo
     by_case true e rest = added (load_of (bounded r below i) t) (load_of (bounded q below i) t) (load r below is t) (load q below is t) (load r below (filter (is_of x) is) t) (load q below (filter (is_of x) is) t) rest
     by_case false e rest = kept (load_of (bounded r below i) t) (load_of (bounded q below i) t) (load r below is t) (load q below is t) (load r below (filter (is_of x) is) t) (load q below (filter (is_of x) is) t) (part_elsewhere r q x below i other e t) rest
 
--- a guess on an interval
-differ : (x y : Itv) → same x y ≡ false → y.0 ≡ x.0 → ⊥
-differ x y h e = grind (arith, nat_tests, h, e)
-
 same_is : (x y : Itv) → same x y ≡ true → x ≡ y
 same_is x y h = ap (λ n. record { 0 = n }) (number x.0 y.0 h)
   where
@@ -66,7 +63,7 @@ same_is x y h = ap (λ n. record { 0 = n }) (number x.0 y.0 h)
     number i j h = grind (arith, nat_tests, h)
 
 topic_elsewhere : (r : Region) (x : Itv) (t : Topic) → is_on x t ≡ true → SameElsewhere r (assumed t r) x
-topic_elsewhere r x (One z c) on y other = sym (bounds_elsewhere z y (guessed c) r (λ e. differ x y other (e ∙ ap (λ w. w.0) (same_is z x on))))
+topic_elsewhere r x (One z c) on y other = sym (bounds_elsewhere z y (guessed c) r (λ e. same_not x y other (sym (e ∙ ap (λ w. w.0) (same_is z x on)))))
 topic_elsewhere r x (Two p y z) on w other = cc
 
 pub guess_elsewhere : (r : Region) (x : Itv) (g : Guess) → is_on x (topic g) ≡ true → SameElsewhere r (with_guess g r) x

@@ -1,7 +1,7 @@
 -- A bound that is further away than all parts together can come is never passed.
-use Rattle.std.specs.Prelude.{◌≡◌, ℕ, zero, suc, ◌+◌, ◌*◌, ℤ, pos, neg_ℤ, ◌+ℤ◌, ◌≤ℤ◌, Bool, true, false, not, ◌&&◌, if◌then◌else◌, List, [], ◌∷◌, length, map, int_le, int_lt}
+use Rattle.std.specs.Prelude.{◌≡◌, ℕ, suc, ◌*◌, ℤ, pos, ◌+ℤ◌, ◌≤ℤ◌, Bool, true, false, ◌&&◌, if◌then◌else◌, List, [], ◌∷◌, length, int_le, int_lt}
 use Rattle.std.specs.List.{list_all}
-use Rattle.std.proofs.Common.{refl, sym, ap, ◌∙◌, arith}
+use Rattle.std.proofs.Common.{refl, arith}
 use Rattle.std.proofs.lemmas.Int.{ints}
 use Rattle.sched_base.specs.declared.ids.Itv.{Itv}
 use Rattle.sched_model.specs.declared.types.Shape.{Shape}
@@ -16,8 +16,7 @@ use Rattle.region.specs.Guesses.{with_guess}
 use Rattle.region.specs.laws.Lists.{both_true}
 use Rattle.refute_cumul.specs.declared.bound.Bound.{Bound}
 use Rattle.refute_cumul.specs.Levels.{is_surely_in}
-use Rattle.refute_cumul.specs.Loads.{nothing, counts, standing, bounded_of, bounded_shape, is_minus, bounded, height_at, load_of, load, limit_of, is_over}
-use Rattle.refute_cumul.specs.Sides.{is_high}
+use Rattle.refute_cumul.specs.Loads.{nothing, counts, standing, bounded_shape, is_minus, bounded, height_at, load_of, load, limit_of, is_over}
 use Rattle.refute_cumul.specs.laws.Levels.{valid_parts}
 use Rattle.prop_cumul.specs.Asking.{NeverHigh, IsSideQuiet}
 use Rattle.prop_cumul.specs.Silence.{is_out_of_reach}

@@ -1,22 +1,20 @@
 -- A quiet propagator stays quiet where nothing that it watches changes.
-use Rattle.std.specs.Prelude.{◌≡◌, ℕ, ℤ, true, ◌&&◌, List, [], Option, IsTrue, slice_get}
+use Rattle.std.specs.Prelude.{◌≡◌, ℕ, ℤ, true, ◌&&◌, [], Option, IsTrue, slice_get}
 use Rattle.std.proofs.Common.{sym, ap, subst}
-use Rattle.sched_base.specs.declared.ids.Itv.{Itv}
 use Rattle.sched_model.specs.Data.{Data}
 use Rattle.region.specs.declared.types.CellName.{CellName}
-use Rattle.region.specs.declared.types.Topic.{Topic}
-use Rattle.region.specs.declared.types.Topic.TheVariants.{One, Two}
 use Rattle.region.specs.declared.types.Guess.{Guess}
 use Rattle.region.specs.Cells.{Region}
 use Rattle.region.specs.Guesses.{SameCell, topic}
 use Rattle.region.specs.Looks.{IsRegionOf}
 use Rattle.findings.specs.Reads.{reads_cell, LooksOnlyAt, is_among}
 use Rattle.findings.specs.laws.Kept.{quiet_kept}
+use Rattle.findings.specs.laws.Members.{each_among}
 use Rattle.refute_cumul.specs.declared.witness.CumulWitness.{CumulWitness}
 use Rattle.refute_cumul.specs.declared.witness.CumulWitness.TheVariants.{Point}
 use Rattle.refute_cumul.specs.Witness.{is_valid, constraint_of}
 use Rattle.refute_cumul.specs.OnCumul.{refutes}
-use Rattle.refute_cumul.specs.Listed.{names_of, asks_each, lists}
+use Rattle.refute_cumul.specs.Listed.{names_of, lists}
 use Rattle.refute_cumul.specs.laws.Alike.{point_alike}
 use Rattle.prop_cumul.specs.Tasks.{looks_after, reads_of, watching, watching_best, quiet}
 use Rattle.prop_cumul.specs.laws.Owners.{owned}
@@ -25,10 +23,6 @@ pub looks : (m : Data) (w : CumulWitness) → LooksOnlyAt refutes m w (reads_of 
 looks m (Point c t u) l k of also alike best = ap (λ b. is_valid (Point c t u) && b) (point_alike m l k c t u alike.bounds)
 
 -- the row lists guesses on these intervals alone
-pub each_among : (xs : List Itv) (t : Topic) → asks_each xs t ≡ true → is_among xs [] t ≡ true
-each_among xs (One x c) h = h
-each_among xs (Two p x y) h = cc
-
 lists_among : (m : Data) (w : CumulWitness) (g : Guess) → lists m w g ≡ true → is_among (names_of m (slice_get m.constraints (constraint_of w))) [] (topic g) ≡ true
 lists_among m (Point c t u) g h = each_among (names_of m (slice_get m.constraints c)) (topic g) h
 

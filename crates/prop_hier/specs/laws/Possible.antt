@@ -9,18 +9,14 @@ use Rattle.sched_model.specs.declared.types.Constraint.{Constraint}
 use Rattle.sched_model.specs.declared.types.Constraint.TheVariants as constraint
 use Rattle.sched_model.specs.Words.{passes_if_any}
 use Rattle.sched_model.specs.Data.{Data, same}
-use Rattle.region.specs.declared.types.Presence.{Presence}
-use Rattle.region.specs.declared.types.Presence.TheVariants as presence
 use Rattle.region.specs.declared.types.OrderCell.{OrderCell}
 use Rattle.region.specs.declared.types.OrderCell.TheVariants.{Unknown, Forward, Backward}
 use Rattle.region.specs.declared.types.Bounds.{Bounds}
-use Rattle.region.specs.declared.types.Claim.{Claim}
-use Rattle.region.specs.declared.types.Claim.TheVariants.{Present, Absent, StartLe, StartGe, EndLe, EndGe}
 use Rattle.region.specs.declared.types.Topic.{Topic}
 use Rattle.region.specs.declared.types.Topic.TheVariants.{One, Two}
 use Rattle.region.specs.declared.types.Guess.{Guess}
 use Rattle.region.specs.Orders.{SequenceCells, is_before, known_order, order_in, says_unknown, says_backward}
-use Rattle.region.specs.Cells.{Region, bounds_of, cells_of, says_present, says_absent, says_maybe}
+use Rattle.region.specs.Cells.{Region, bounds_of, cells_of, says_present, says_absent}
 use Rattle.region.specs.Claims.{is_open_at, guessed, as_present}
 use Rattle.region.specs.Guesses.{admits, admits_topic, assumed, topic, looked_at, told_before, with_bounds}
 use Rattle.region.specs.Looks.{IsRegionOf, seen_at, has_pairs}
@@ -32,7 +28,8 @@ use Rattle.findings.specs.laws.Kept.{asked_admits}
 use Rattle.findings.specs.laws.Open.{not_absent, open_not_absent}
 use Rattle.refute_hier.specs.declared.witness.HierWitness.TheVariants.{SeqRel}
 use Rattle.refute_hier.specs.Parts.{is_away}
-use Rattle.refute_hier.specs.SeqRel.{stand, seqrel_of}
+use Rattle.refute_basic.specs.Standing.{stand}
+use Rattle.refute_hier.specs.SeqRel.{seqrel_of}
 use Rattle.refute_hier.specs.Hier.{refutes}
 use Rattle.refute_hier.specs.laws.Standing.{standing}
 use Rattle.prop_hier.specs.Related.{pairs_of, asks_pairs, IsSilent}

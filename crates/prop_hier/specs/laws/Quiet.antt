@@ -16,6 +16,7 @@ use Rattle.region.specs.declared.types.Guess.{Guess}
 use Rattle.region.specs.Claims.{as_absent}
 use Rattle.region.specs.Cells.{Region, bounds_of, unknown, says_present}
 use Rattle.region.specs.Guesses.{topic, assumed, looked_at, with_bounds}
+use Rattle.region.specs.Topics.{asks_each}
 use Rattle.region.specs.Looks.{seen_at}
 use Rattle.region.specs.Tight.{is_tight, weaker}
 use Rattle.region.specs.laws.Intervals.{bounds_there, bounds_elsewhere}
@@ -29,7 +30,7 @@ use Rattle.refute_hier.specs.declared.witness.HierWitness.TheVariants as witness
 use Rattle.refute_hier.specs.Witness.{constraint_of}
 use Rattle.refute_hier.specs.Parts.{clash, plays, plays_in, some_part}
 use Rattle.refute_hier.specs.Hier.{refutes}
-use Rattle.refute_hier.specs.Listed.{family_of, asks_each, asks_present, lists}
+use Rattle.refute_hier.specs.Listed.{family_of, asks_present, lists}
 use Rattle.region.specs.laws.Found.{never}
 use Rattle.refute_hier.specs.declared.family.Kind.{Kind}
 use Rattle.refute_hier.specs.declared.family.Kind.TheVariants.{Span, Alternative, Synchronize}

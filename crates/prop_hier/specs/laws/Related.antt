@@ -29,10 +29,12 @@ use Rattle.findings.specs.laws.Alike.{open_end_alike}
 use Rattle.findings.specs.laws.Members.{first_paired, second_paired, is_forward, is_turned}
 use Rattle.refute_hier.specs.declared.witness.HierWitness.TheVariants.{SeqRel}
 use Rattle.refute_hier.specs.Witness.{is_valid}
-use Rattle.refute_hier.specs.SeqRel.{stand, seqrel_of, seqrel_row}
+use Rattle.refute_basic.specs.Standing.{stand}
+use Rattle.refute_hier.specs.SeqRel.{seqrel_of, seqrel_row}
 use Rattle.refute_hier.specs.Hier.{refutes}
 use Rattle.refute_hier.specs.Listed.{asks_pair, asks_related}
-use Rattle.refute_hier.specs.laws.Alike.{SameTwo, SameRelated, seqrel_alike}
+use Rattle.refute_basic.specs.laws.Alike.{SameTwo}
+use Rattle.refute_hier.specs.laws.Alike.{SameRelated, seqrel_alike}
 use Rattle.refute_hier.specs.laws.Relations.{member_first, member_second, related_member}
 use Rattle.prop_hier.specs.Related.{pair, pairs_of, asks_pairs}
 use Rattle.prop_hier.specs.Tables.{intervals_of, sequences_of, watch_of, watches}

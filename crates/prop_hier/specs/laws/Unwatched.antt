@@ -23,12 +23,13 @@ use Rattle.findings.specs.Found.{IsQuiet}
 use Rattle.findings.specs.Reads.{Reads, AreAlike, LooksOnlyAt, is_among}
 use Rattle.findings.specs.laws.Alike.{alike_from_cells}
 use Rattle.findings.specs.laws.Kept.{asked_admits, refuted_alike, quiet_kept}
+use Rattle.findings.specs.laws.Members.{each_among}
 use Rattle.refute_hier.specs.declared.witness.HierWitness.{HierWitness}
 use Rattle.refute_hier.specs.declared.witness.HierWitness.TheVariants.{Span, Alt, Sync, SeqRel}
 use Rattle.refute_hier.specs.Witness.{is_valid, constraint_of}
 use Rattle.refute_hier.specs.SeqRel.{seqrel_of, seqrel_row}
 use Rattle.refute_hier.specs.Hier.{refutes}
-use Rattle.refute_hier.specs.Listed.{family_of, asks_each, asks_present, asks_related, lists}
+use Rattle.refute_hier.specs.Listed.{family_of, asks_present, asks_related, lists}
 use Rattle.refute_hier.specs.laws.Alike.{span_alike, alt_alike, sync_alike}
 use Rattle.prop_hier.specs.Related.{pairs_of, asks_pairs}
 use Rattle.prop_hier.specs.Tables.{watch_of, watches}
@@ -51,10 +52,6 @@ looks m (Sync c i) parts l k of also alike best = ap (λ b. is_valid (Sync c i) 
 looks m (SeqRel c x) parts l k of also alike best = cc
 
 -- and their rows list guesses on these alone
-each_among : (xs : List Itv) (t : Topic) → asks_each xs t ≡ true → is_among xs [] t ≡ true
-each_among xs (One x c) h = h
-each_among xs (Two p x y) h = cc
-
 present_among : (xs : List Itv) (t : Topic) → asks_present xs t ≡ true → is_among xs [] t ≡ true
 present_among xs (One x Present) h = h
 present_among xs (One x Absent) h = cc

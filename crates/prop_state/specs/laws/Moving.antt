@@ -1,5 +1,5 @@
 -- What a guess at the end of a cell moves: one end of one interval.
-use Rattle.std.specs.Prelude.{◌≡◌, ◌⊎◌, ℕ, ◌<◌, ℤ, pos, ◌+ℤ◌, ◌-ℤ◌, ◌≤ℤ◌, Bool, true, false, not, ◌&&◌, ◌||◌, length, nat_eq, nat_lt, int_le, int_lt}
+use Rattle.std.specs.Prelude.{◌≡◌, ◌⊎◌, ℕ, ◌<◌, ℤ, pos, ◌+ℤ◌, ◌-ℤ◌, ◌≤ℤ◌, Bool, true, false, not, ◌&&◌, ◌||◌, length, nat_lt, int_le, int_lt}
 use Rattle.std.proofs.Common.{refl, sym, ap, subst, ◌∙◌, inl, inr, arith}
 use Rattle.std.specs.Int.{int_max}
 use Rattle.std.proofs.lemmas.Int.{ints}
@@ -19,32 +19,12 @@ use Rattle.region.specs.laws.Lists.{both_true}
 use Rattle.region.specs.laws.Intervals.{bounds_there, bounds_elsewhere}
 use Rattle.region.specs.laws.OneSequence.{same_is}
 use Rattle.findings.specs.Ends.{is_end_at}
+use Rattle.findings.specs.Numbers.{highest_end, lowest_start, ends_in}
 use Rattle.findings.specs.laws.Open.{not_absent, open_not_absent}
+use Rattle.findings.specs.laws.Numbers.{least_start, greatest_end, plain_start, plain_end}
 use Rattle.refute_state.specs.Times.{is_long_in, is_long, is_late}
-use Rattle.prop_state.specs.Silence.{highest_end, lowest_start, ends_in, longest_part, is_late_in, may_be_late}
-
--- the numbers under a claim at its end
-least_start : (k : Claim) (c : Bounds) → is_end_at k c ≡ true → lowest_start c ≤ℤ lst_in (guessed k c)
-least_start claim.Present c h = grind (arith, ints)
-least_start claim.Absent c h = grind (arith, ints)
-least_start (claim.StartLe t) c h = grind (arith, ints)
-least_start (claim.StartGe t) c h = grind (arith, ints)
-least_start (claim.EndLe t) c h = grind (arith, ints)
-least_start (claim.EndGe t) c h = grind (arith, ints)
-
-greatest_end : (k : Claim) (c : Bounds) → is_end_at k c ≡ true → ect_in (guessed k c) ≤ℤ highest_end c
-greatest_end claim.Present c h = grind (arith, ints)
-greatest_end claim.Absent c h = grind (arith, ints)
-greatest_end (claim.StartLe t) c h = grind (arith, ints)
-greatest_end (claim.StartGe t) c h = grind (arith, ints)
-greatest_end (claim.EndLe t) c h = grind (arith, ints)
-greatest_end (claim.EndGe t) c h = grind (arith, ints)
-
-plain_start : (c : Bounds) → lowest_start c ≤ℤ lst_in c
-plain_start c = grind (arith, ints)
-
-plain_end : (c : Bounds) → ect_in c ≤ℤ highest_end c
-plain_end c = grind (arith, ints)
+use Rattle.prop_state.specs.Silence.{longest_part, is_late_in, may_be_late}
+use Rattle.sched_model.specs.laws.Members.{same_not}
 
 -- it keeps the latest start or the earliest end
 keeps_one : (k : Claim) (c : Bounds) → (lst_in (guessed k c) ≡ lst_in c) ⊎ (ect_in (guessed k c) ≡ ect_in c)
@@ -85,12 +65,6 @@ not_moved r z = record {
 below : (i n : ℕ) → nat_lt i n ≡ true → i < n
 below i n h = grind (arith, nat_tests)
 
-apart : (w z : Itv) → same w z ≡ false → w.0 ≡ z.0 → ⊥
-apart w z h e = no_way w.0 z.0 h e
-  where
-    no_way : (i j : ℕ) → nat_eq i j ≡ false → i ≡ j → ⊥
-    no_way i j h e = grind (arith, nat_tests, h, e)
-
 pub moved : (r : Region) (z : Itv) (k : Claim) → admits_topic r (One z k) ≡ true → is_end_at k (bounds_of r z) ≡ true → Moved r (with_bounds z (guessed k) r) z
 moved r z k free end =
     let q = with_bounds z (guessed k) r in
@@ -105,7 +79,7 @@ moved r z k free end =
     }
   where
     off : (w : Itv) → Other z w → bounds_of (with_bounds z (guessed k) r) w ≡ bounds_of r w
-    off w other = bounds_elsewhere z w (guessed k) r (apart w z other)
+    off w other = bounds_elsewhere z w (guessed k) r (same_not w z other)
 
     by_same : (w : Itv) (b : Bool) → same w z ≡ b → says_absent (bounds_of r w).presence ≡ true → says_absent (bounds_of r z).presence ≡ false → is_long (with_bounds z (guessed k) r) w ≡ false
     by_same w true is away here = absurd (true≢false (sym away ∙ subst (λ y. says_absent (bounds_of r y).presence ≡ false) (sym (same_is w z is)) here))

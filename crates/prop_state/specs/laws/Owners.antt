@@ -22,13 +22,11 @@ use Rattle.refute_state.specs.OnState.{refutes}
 use Rattle.refute_state.specs.laws.Canonical.{function_there}
 use Rattle.refute_state.specs.laws.Rowed.{two_rowed, three_rowed, pair_parts, parts}
 use Rattle.prop_state.specs.Tasks.{size_of, is_own, looks_after}
+use Rattle.base_laws.specs.laws.Numbers.{turned_number}
 
 -- a witness that refutes is of demands of one state function of the model
 itself : (n : ℕ) → nat_eq n n ≡ true
 itself n = grind (arith, nat_tests)
-
-turned : (g h : ℕ) → nat_eq g h ≡ true → nat_eq h g ≡ true
-turned g h is = grind (arith, nat_tests, is)
 
 pub demand_here : (m : Data) (g c : ℕ) (d : Demand) → demand_at m c ≡ Some d → nat_eq d.g.0 g ≡ true → demands_at m g c ≡ true
 demand_here m g c d is of = ap (passes (λ e. nat_eq e.g.0 g)) is ∙ of
@@ -58,7 +56,7 @@ owned m l (State c1 c2) valid h =
     record {
       owner = g;
       within = function_of m c1 t.first valid t.one;
-      owns = true_both (demands_at m g c1) (demands_at m g c2) (demand_here m g c1 t.first t.one (itself g)) (demand_here m g c2 t.second t.other (turned g t.second.g.0 p.one));
+      owns = true_both (demands_at m g c1) (demands_at m g c2) (demand_here m g c1 t.first t.one (itself g)) (demand_here m g c2 t.second t.other (turned_number g t.second.g.0 p.one));
     }
 owned m l (State3 c1 c2 c3) valid h =
     let t = three_rowed m l c1 c2 c3 h in
@@ -68,7 +66,7 @@ owned m l (State3 c1 c2 c3) valid h =
     record {
       owner = g;
       within = function_of m c1 t.first valid t.one;
-      owns = all_three (demands_at m g c1) (demands_at m g c2) (demands_at m g c3) (demand_here m g c1 t.first t.one (itself g)) (demand_here m g c2 t.second t.mid (turned g t.second.g.0 s.0)) (demand_here m g c3 t.third t.other (turned g t.third.g.0 s.1));
+      owns = all_three (demands_at m g c1) (demands_at m g c2) (demands_at m g c3) (demand_here m g c1 t.first t.one (itself g)) (demand_here m g c2 t.second t.mid (turned_number g t.second.g.0 s.0)) (demand_here m g c3 t.third t.other (turned_number g t.third.g.0 s.1));
     }
 
 pub unowned : (m : Data) (l : Seen) (w : StateWitness) → IsValid m → is_own w ≡ true → ((k : ℕ) → k < size_of m → looks_after m k w ≡ false) → refutes m l w ≡ false

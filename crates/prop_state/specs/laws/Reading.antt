@@ -1,8 +1,7 @@
 -- What a witness reads, and that it lists guesses on this alone.
 use Rattle.std.specs.Prelude.{◌≡◌, ◌⊎◌, ℕ, Bool, true, false, ◌&&◌, ◌||◌, List, [], ◌∷◌, ◌++◌, Option, Some, None}
-use Rattle.std.proofs.Common.{refl, sym, ap, subst, ◌∙◌, inl, inr, arith}
+use Rattle.std.proofs.Common.{refl, sym, ap, subst, ◌∙◌, inl, inr}
 use Rattle.std.proofs.lemmas.Bool.{true≢false, or_left, or_right}
-use Rattle.std.proofs.lemmas.Bool.Decides.{nat_tests}
 use Rattle.sched_base.specs.declared.ids.Itv.{Itv}
 use Rattle.sched_model.specs.Words.{passes}
 use Rattle.sched_model.specs.Data.{Data, same, has}
@@ -25,18 +24,8 @@ use Rattle.refute_state.specs.Listed.{asks_times, asks_demand, lists}
 use Rattle.refute_state.specs.laws.Settled.{In}
 use Rattle.refute_state.specs.laws.Alike.{SameAt, state_alike, state3_alike}
 use Rattle.prop_state.specs.Tasks.{interval_in, intervals_at, constraints_of, reads_all, reads_of}
-
--- lists one after the other
-has_first : (xs ys : List Itv) (x : Itv) → has xs x ≡ true → has (xs ++ ys) x ≡ true
-has_first [] ys x h = absurd (true≢false (sym h))
-has_first (z ∷ xs) ys x h = elim (has_cases (same x z) (has xs x) h) [
-  | inl here ↦ or_left (same x z) (has (xs ++ ys) x) here
-  | inr later ↦ or_right (same x z) (has (xs ++ ys) x) (has_first xs ys x later)
-]
-
-has_second : (xs ys : List Itv) (x : Itv) → has ys x ≡ true → has (xs ++ ys) x ≡ true
-has_second [] ys x h = h
-has_second (z ∷ xs) ys x h = or_right (same x z) (has (xs ++ ys) x) (has_second xs ys x h)
+use Rattle.sched_model.specs.laws.Names.{has_left, has_right}
+use Rattle.region.specs.laws.Rows.{same_back}
 
 has_either : (xs ys : List Itv) (x : Itv) → has (xs ++ ys) x ≡ true → (has xs x ≡ true) ⊎ (has ys x ≡ true)
 has_either [] ys x h = inr h
@@ -49,8 +38,8 @@ has_either (z ∷ xs) ys x h = elim (has_cases (same x z) (has (xs ++ ys) x) h) 
 pub has_interval : (m : Data) (cs : List ℕ) (c : ℕ) (d : Demand) → In cs c → demand_at m c ≡ Some d → has (intervals_at m cs) d.x ≡ true
 has_interval m [] c d here is = absurd here
 has_interval m (e ∷ cs) c d here is = elim here [
-  | inl same_one ↦ has_first (interval_in (demand_at m e)) (intervals_at m cs) d.x (subst (λ o. has (interval_in o) d.x ≡ true) (sym is ∙ ap (demand_at m) (sym same_one)) (or_left (same d.x d.x) false (same_self d.x)))
-  | inr later ↦ has_second (interval_in (demand_at m e)) (intervals_at m cs) d.x (has_interval m cs c d later is)
+  | inl same_one ↦ has_left (interval_in (demand_at m e)) (intervals_at m cs) d.x (subst (λ o. has (interval_in o) d.x ≡ true) (sym is ∙ ap (demand_at m) (sym same_one)) (or_left (same d.x d.x) false (same_self d.x)))
+  | inr later ↦ has_right (interval_in (demand_at m e)) (intervals_at m cs) d.x (has_interval m cs c d later is)
 ]
 
 -- and the other way round
@@ -136,9 +125,6 @@ pub record IsOnDemand (m : Data) (c : ℕ) (z : Itv) (k : Claim) : Type 0 where
   pub same : z ≡ demand.x
   pub times : asks_times demand.x (One z k) ≡ true
 
-turned_same : (x y : Itv) → same x y ≡ true → same y x ≡ true
-turned_same x y h = grind (arith, nat_tests, h)
-
 pub of_times : (x z : Itv) (k : Claim) → asks_times x (One z k) ≡ true → same x z ≡ true
 of_times x z claim.Present h = h
 of_times x z claim.Absent h = absurd (true≢false (sym h))
@@ -152,7 +138,7 @@ on_demand m c z k h = at (demand_at m c) refl h
   where
     at : (o : Option Demand) → demand_at m c ≡ o → passes (λ d. asks_times d.x (One z k)) o ≡ true → IsOnDemand m c z k
     at None is h = absurd (true≢false (sym h))
-    at (Some d) is h = record { demand = d; is = is; same = same_is z d.x (turned_same d.x z (of_times d.x z k h)); times = h }
+    at (Some d) is h = record { demand = d; is = is; same = same_is z d.x (same_back d.x z (of_times d.x z k h)); times = h }
 
 pub never_order : {Z : Type 0} (m : Data) (c : ℕ) (t : Topic) → ((z : Itv) (k : Claim) → t ≡ One z k → Z) → asks_demand m c t ≡ true → Z
 never_order m c (One z k) f h = f z k refl

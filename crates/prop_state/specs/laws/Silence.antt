@@ -3,7 +3,7 @@ use Rattle.std.specs.Prelude.{◌≡◌, ◌⊎◌, ℕ, ◌<◌, ℤ, pos, Bool
 use Rattle.std.proofs.Common.{refl, sym, ap, subst, ◌∙◌, inl, inr, arith}
 use Rattle.std.proofs.lemmas.Bool.Decides.{nat_tests}
 use Rattle.std.proofs.lemmas.Bool.{true≢false, or_left, or_right, or_parts}
-use Rattle.base_laws.specs.laws.Truth.{all_three}
+use Rattle.base_laws.specs.laws.Truth.{all_three, all_four}
 use Rattle.sched_base.specs.declared.ids.Itv.{Itv}
 use Rattle.sched_model.specs.Data.{Data, same}
 use Rattle.region.specs.declared.types.Guess.{Guess}
@@ -18,8 +18,10 @@ use Rattle.region.specs.laws.Intervals.{bounds_there}
 use Rattle.sched_model.specs.Words.{passes}
 use Rattle.region.specs.Looks.{Seen, seen_at, lst_of, ect_of, lst_in, ect_in}
 use Rattle.region.specs.laws.Lists.{both_true, true_both}
-use Rattle.region.specs.laws.OneSequence.{same_is, same_self}
+use Rattle.region.specs.laws.OneSequence.{same_is, same_self, same_turned}
+use Rattle.findings.specs.declared.ends.Ends.{Ends}
 use Rattle.findings.specs.Ends.{is_open_end, is_end, is_asked}
+use Rattle.findings.specs.Numbers.{ends_in}
 use Rattle.findings.specs.Reads.{IsUnrefuted, is_among}
 use Rattle.findings.specs.laws.Kept.{asked_more}
 use Rattle.refute_state.specs.declared.demand.Demand.{Demand}
@@ -35,8 +37,7 @@ use Rattle.refute_state.specs.OnState.{refutes}
 use Rattle.refute_state.specs.Listed.{lists, asks_times, asks_demand}
 use Rattle.refute_state.specs.laws.Rowed.{two_rowed, three_rowed, PairParts, pair_parts, Parts, parts}
 use Rattle.prop_state.specs.Tasks.{IsSilent, constraints_of, reads_of}
-use Rattle.prop_state.specs.Silence.{ends_in, is_late_in, may_be_late, nearly_two, nearly_three, may_stand_two, may_stand_three, may_clash, may_refute_two, may_all_be_late, may_refute_three, may_refute_pair, may_refute_around, may_refute_triple, IsCovered}
-use Rattle.prop_state.specs.declared.ends.Ends.{Ends}
+use Rattle.prop_state.specs.Silence.{is_late_in, may_be_late, nearly_two, nearly_three, may_stand_two, may_stand_three, may_clash, may_refute_two, may_all_be_late, may_refute_three, may_refute_pair, may_refute_around, may_refute_triple, IsCovered}
 use Rattle.prop_state.specs.declared.demands.Named.{Named}
 use Rattle.prop_state.specs.Walks.{IsOf}
 use Rattle.prop_state.specs.laws.Reading.{asked_at, lists_at, never_order, IsDemanded, demanded, among}
@@ -66,9 +67,6 @@ differ x y z h = by_case (same x z) (same y z) refl refl
     by_case false d e f = inl e
     by_case true false e f = inr f
     by_case true true e f = absurd (true≢false (sym e ∙ subst (λ w. same x w ≡ false) (same_is y z f) h))
-
-neither : (p q : Bool) → (p || q) ≡ false → (p ≡ false) × (q ≡ false)
-neither p q h = or_parts p q h
 
 -- STATE: each of what is late may be, and one is, whose ends didn't move
 start_kept : (r q : Region) (z x : Itv) → Moved r q z → Other z x → lst_of q x ≡ lst_of r x
@@ -145,13 +143,10 @@ clash_may r a b h =
         last false false u v h = h
     of_parts false false false s t u v f g h = cc
 
-four_hold : (p q s t : Bool) → p ≡ true → q ≡ true → s ≡ true → t ≡ true → (p && q && s && t) ≡ true
-four_hold p q s t h i j k = true_both (p && q && s) t (all_three p q s h i j) k
-
 two_may : (r q : Region) (z x y : Itv) (n k : ℤ) → Moved r q z → same x y ≡ false → is_long q x ≡ true → is_long q y ≡ true → is_late q x n y ≡ true → is_late q y k x ≡ true → may_refute_two (ends_in r x) n (ends_in r y) k ≡ true
 unfolding may_refute_two
 two_may r q z x y n k is apart one other forward backward =
-    four_hold (may_stand_two (ends_in r x) (ends_in r y)) (nearly_two (is_late_in (ends_in r x) n (ends_in r y)) (is_late_in (ends_in r y) k (ends_in r x)))
+    all_four (may_stand_two (ends_in r x) (ends_in r y)) (nearly_two (is_late_in (ends_in r x) n (ends_in r y)) (is_late_in (ends_in r y) k (ends_in r x)))
     (may_be_late (ends_in r x) n (ends_in r y)) (may_be_late (ends_in r y) k (ends_in r x))
     (stand_two r q z x y is apart one other) (two_late r q z x y n k is apart forward backward)
     (late_may r q z x y n is forward) (late_may r q z y x k is backward)
@@ -173,7 +168,7 @@ pair_silent m r best k a b one other h guess asked = by_case (refutes m (seen_at
     contradiction : (q : Region) (z : Itv) → Moved r q z → PairParts m q a.demand b.demand → ⊥
     contradiction q z is p = elim (either_false (may_clash a.demand b.demand) _ h) [
       | inl off ↦ true≢false (sym (clash_may q a.demand b.demand p.apart) ∙ off)
-      | inr off ↦ let two = neither (same a.demand.x b.demand.x) _ off in
+      | inr off ↦ let two = or_parts (same a.demand.x b.demand.x) _ off in
           true≢false (sym (pair_may m r q z a.demand b.demand is two.0 p) ∙ numbers (λ c d. may_refute_two c (demand_gap m a.demand b.demand) d (demand_gap m b.demand a.demand)) one other two.1)
     ]
       where
@@ -189,10 +184,6 @@ pair_silent m r best k a b one other h guess asked = by_case (refutes m (seen_at
         let row = subst (λ d. state_pair m (looked_at guess r) d b.demand ≡ true) (same_demand t.first a.demand (demand_at m a.c) t.one one.is)
         (subst (λ e. state_pair m (looked_at guess r) t.first e ≡ true) (same_demand t.second b.demand (demand_at m b.c) t.other other.is) t.row) in
         absurd (contradiction (looked_at guess r) mv.on mv.is (pair_parts m (looked_at guess r) a.demand b.demand row))
-
--- STATE3: of three intervals two aren't the one
-turned_apart : (x y : Itv) → same x y ≡ false → same y x ≡ false
-turned_apart x y h = grind (arith, nat_tests, h)
 
 two_of : (u v w z : Itv) (k l n : Bool) → same u v ≡ false → same v w ≡ false → same u w ≡ false → (Other z u → k ≡ true) → (Other z v → l ≡ true) → (Other z w → n ≡ true) → nearly_three k l n ≡ true
 unfolding nearly_three
@@ -239,7 +230,7 @@ record AreApart (a x b : Demand) : Type 0 where
 three_late : (m : Data) (r q : Region) (z : Itv) (a x b : Demand) → Moved r q z → AreApart a x b → Parts m q a x b
     → nearly_three (is_late_in (ends_in r x.x) (pos 0) (ends_in r a.x)) (is_late_in (ends_in r b.x) (pos 0) (ends_in r x.x)) (is_late_in (ends_in r a.x) (demand_gap m a b) (ends_in r b.x)) ≡ true
 three_late m r q z a x b is apart p = elim is.one [
-  | inl start ↦ two_of x.x b.x a.x z (late x a (pos 0)) (late b x (pos 0)) (late a b (demand_gap m a b)) apart.second (turned_apart a.x b.x apart.third) (turned_apart a.x x.x apart.first)
+  | inl start ↦ two_of x.x b.x a.x z (late x a (pos 0)) (late b x (pos 0)) (late a b (demand_gap m a b)) apart.second (same_turned a.x b.x apart.third) (same_turned a.x x.x apart.first)
       (λ off. late_kept r q x.x a.x (pos 0) (starts_stay r q z a.x is start) (end_kept r q z x.x is off) p.before)
       (λ off. late_kept r q b.x x.x (pos 0) (starts_stay r q z x.x is start) (end_kept r q z b.x is off) p.behind)
       (λ off. late_kept r q a.x b.x (demand_gap m a b) (starts_stay r q z b.x is start) (end_kept r q z a.x is off) p.near)
@@ -255,7 +246,7 @@ three_late m r q z a x b is apart p = elim is.one [
 stand_three : (m : Data) (r q : Region) (z : Itv) (a x b : Demand) → Moved r q z → AreApart a x b → Parts m q a x b → may_stand_three (ends_in r a.x) (ends_in r x.x) (ends_in r b.x) ≡ true
 unfolding may_stand_three
 stand_three m r q z a x b is apart p =
-    four_hold (not (says_absent (ends_in r a.x).presence)) (not (says_absent (ends_in r x.x).presence)) (not (says_absent (ends_in r b.x).presence)) _
+    all_four (not (says_absent (ends_in r a.x).presence)) (not (says_absent (ends_in r x.x).presence)) (not (says_absent (ends_in r b.x).presence)) _
     (long_not_absent r q z a.x is p.first) (long_not_absent r q z x.x is p.second) (long_not_absent r q z b.x is p.third)
     (two_of a.x x.x b.x z (says_present (ends_in r a.x).presence) (says_present (ends_in r x.x).presence) (says_present (ends_in r b.x).presence) apart.first apart.second apart.third
     (λ off. long_present r q z a.x is off p.first) (λ off. long_present r q z x.x is off p.second) (λ off. long_present r q z b.x is off p.third))
@@ -295,9 +286,9 @@ triple_silent m r best k a x b one mid other h guess asked = never_refuting (ref
     let f = b.demand in
     let mv = asked_moves m r (State3 a.c x.c b.c) guess asked in
     let p = triple_from m r best a.c x.c b.c d e f guess one.is mid.is other.is is in
-    let last = neither (same d.x e.x || same e.x f.x || same d.x f.x) (may_refute_three a.ends x.ends b.ends (demand_gap m d f)) h in
-    let third = neither (same d.x e.x || same e.x f.x) (same d.x f.x) last.0 in
-    let two = neither (same d.x e.x) (same e.x f.x) third.0 in
+    let last = or_parts (same d.x e.x || same e.x f.x || same d.x f.x) (may_refute_three a.ends x.ends b.ends (demand_gap m d f)) h in
+    let third = or_parts (same d.x e.x || same e.x f.x) (same d.x f.x) last.0 in
+    let two = or_parts (same d.x e.x) (same e.x f.x) third.0 in
     true≢false (sym (triple_may m r (looked_at guess r) mv.on d e f mv.is (record { first = two.0; second = two.1; third = third.1 }) p)
     ∙ subst (λ u. may_refute_three (ends_in r d.x) u (ends_in r f.x) (demand_gap m d f) ≡ false) mid.ends (numbers (λ u v. may_refute_three u x.ends v (demand_gap m d f)) one other last.1)))
 
@@ -310,7 +301,7 @@ around_silent m r best k c2 n a b e one other mid covered h guess asked = never_
     let q = looked_at guess r in
     let mv = asked_moves m r (State3 a.c c2 b.c) guess asked in
     let p = triple_from m r best a.c c2 b.c d e f guess one.is mid other.is is in
-    let two = neither (same d.x f.x) (may_refute_two a.ends (demand_gap m d f) b.ends n) h in
+    let two = or_parts (same d.x f.x) (may_refute_two a.ends (demand_gap m d f) b.ends n) h in
     let part = covered e mid (not_true (says_absent (bounds_of r e.x).presence) (long_not_absent r q mv.on e.x mv.is p.second)) in
     true≢false (sym (two_may r q mv.on d.x f.x (demand_gap m d f) n mv.is two.0 p.first p.third p.near (late_across r q mv.on e.x d.x f.x n mv.is part p.before p.behind))
     ∙ numbers (λ u v. may_refute_two u (demand_gap m d f) v n) one other two.1))

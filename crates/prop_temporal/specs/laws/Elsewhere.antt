@@ -33,12 +33,11 @@ use Rattle.prop_temporal.specs.laws.Named.{named, ordered, IsPointOf}
 use Rattle.prop_temporal.specs.laws.Collecting.{lose_refute_none}
 use Rattle.prop_temporal.specs.laws.Quieting.{NoWalk}
 use Rattle.base_laws.specs.laws.Truth.{neither_alone}
+use Rattle.base_laws.specs.laws.Numbers.{other_number}
+use Rattle.sched_model.specs.laws.Members.{same_not}
 
 abbrev more : Itv → Region → Region
 more x r = with_bounds x as_present r
-
-different : (x y : Itv) → same x y ≡ false → y.0 ≡ x.0 → ⊥
-different x y h e = grind (arith, nat_tests)
 
 there_elsewhere : (x y : Itv) (r : Region) → (y.0 ≡ x.0 → ⊥) → is_there (more x r) y ≡ is_there r y
 there_elsewhere x y r off = ap (λ (c : Bounds). says_present c.presence) (bounds_elsewhere x y as_present r off)
@@ -46,7 +45,7 @@ there_elsewhere x y r off = ap (λ (c : Bounds). says_present c.presence) (bound
 forth_elsewhere : (x : Itv) (r : Region) (c : Constraint) → has (ends_of (Some c)) x ≡ false → forth (more x r) c ≡ forth r c
 forth_elsewhere x r (Temporal from to equal a b z) h =
     let two = neither_alone (same x a) (same x b) h in
-    rw (there_elsewhere x a r (different x a two.0), there_elsewhere x b r (different x b two.1)) refl
+    rw (there_elsewhere x a r (λ e. same_not x a two.0 (sym e)), there_elsewhere x b r (λ e. same_not x b two.1 (sym e))) refl
 forth_elsewhere x r (Logic e) h = refl
 forth_elsewhere x r (Span u parts) h = refl
 forth_elsewhere x r (Alternative u parts) h = refl
@@ -63,7 +62,7 @@ forth_elsewhere x r (AlwaysNoState g u) h = refl
 back_elsewhere : (x : Itv) (r : Region) (c : Constraint) → has (ends_of (Some c)) x ≡ false → back (more x r) c ≡ back r c
 back_elsewhere x r (Temporal from to equal a b z) h =
     let two = neither_alone (same x a) (same x b) h in
-    rw (there_elsewhere x a r (different x a two.0), there_elsewhere x b r (different x b two.1)) refl
+    rw (there_elsewhere x a r (λ e. same_not x a two.0 (sym e)), there_elsewhere x b r (λ e. same_not x b two.1 (sym e))) refl
 back_elsewhere x r (Logic e) h = refl
 back_elsewhere x r (Span u parts) h = refl
 back_elsewhere x r (Alternative u parts) h = refl
@@ -137,9 +136,6 @@ same_height r x hs start end p maybe of =
 
 same_number : (i j : ℕ) → nat_eq i j ≡ true → i ≡ j
 same_number i j h = grind (arith, nat_tests)
-
-other_number : (i j : ℕ) → nat_eq i j ≡ false → i ≡ j → ⊥
-other_number i j h e = grind (arith, nat_tests)
 
 in_either : (xs ys : List Itv) (x : Itv) → (has xs x ≡ true) ⊎ (has ys x ≡ true) → has (xs ++ ys) x ≡ true
 in_either xs ys x h = list_any-append (same x) xs ys ∙ elim h [ inl here ↦ or_left (has xs x) (has ys x) here | inr there ↦ or_right (has xs x) (has ys x) there ]

@@ -36,6 +36,7 @@ use Rattle.prop_temporal.specs.laws.Arcs.{asks_among}
 use Rattle.base_laws.specs.laws.Truth.{never_both}
 use Rattle.base_laws.specs.laws.Numbers.{differs}
 use Rattle.sched_model.specs.Bounds.{is_number}
+use Rattle.sched_model.specs.laws.Members.{same_not}
 
 -- the numbers under a guess at the end of a cell
 least_latest : (end : End) (k : Claim) (c : Bounds) → is_end_at k c ≡ true → lowest_in end c ≤ℤ latest_in end (guessed k c)
@@ -125,22 +126,16 @@ look_plain r a b = record {
   back = λ from to z. pair_plain (bounds_of r b) to (bounds_of r a) from z;
 }
 
-apart : (x y : Itv) → same x y ≡ false → y.0 ≡ x.0 → ⊥
-apart x y h e = grind (arith, nat_tests)
-
-apart_turned : (x y : Itv) → same x y ≡ false → x.0 ≡ y.0 → ⊥
-apart_turned x y h e = grind (arith, nat_tests)
-
 look_first : (k : Claim) (r : Region) (a b : Itv) → same a b ≡ false → a.0 < length r.bounds → is_end_at k (bounds_of r a) ≡ true → IsLookAt r (with_bounds a (guessed k) r) a b
 look_first k r a b other within end = record {
-  in_time = λ from to z h. rw (bounds_there a (guessed k) r within, bounds_elsewhere a b (guessed k) r (apart a b other)) (pair_first k (bounds_of r a) from (bounds_of r b) to z end h);
-  back = λ from to z h. rw (bounds_there a (guessed k) r within, bounds_elsewhere a b (guessed k) r (apart a b other)) (pair_second k (bounds_of r b) to (bounds_of r a) from z end h);
+  in_time = λ from to z h. rw (bounds_there a (guessed k) r within, bounds_elsewhere a b (guessed k) r (λ e. same_not a b other (sym e))) (pair_first k (bounds_of r a) from (bounds_of r b) to z end h);
+  back = λ from to z h. rw (bounds_there a (guessed k) r within, bounds_elsewhere a b (guessed k) r (λ e. same_not a b other (sym e))) (pair_second k (bounds_of r b) to (bounds_of r a) from z end h);
 }
 
 look_second : (k : Claim) (r : Region) (a b : Itv) → same a b ≡ false → b.0 < length r.bounds → is_end_at k (bounds_of r b) ≡ true → IsLookAt r (with_bounds b (guessed k) r) a b
 look_second k r a b other within end = record {
-  in_time = λ from to z h. rw (bounds_there b (guessed k) r within, bounds_elsewhere b a (guessed k) r (apart_turned a b other)) (pair_second k (bounds_of r a) from (bounds_of r b) to z end h);
-  back = λ from to z h. rw (bounds_there b (guessed k) r within, bounds_elsewhere b a (guessed k) r (apart_turned a b other)) (pair_first k (bounds_of r b) to (bounds_of r a) from z end h);
+  in_time = λ from to z h. rw (bounds_there b (guessed k) r within, bounds_elsewhere b a (guessed k) r (same_not a b other)) (pair_second k (bounds_of r a) from (bounds_of r b) to z end h);
+  back = λ from to z h. rw (bounds_there b (guessed k) r within, bounds_elsewhere b a (guessed k) r (same_not a b other)) (pair_first k (bounds_of r b) to (bounds_of r a) from z end h);
 }
 
 earliest_is : (r : Region) (end : End) (x : Itv) → earliest r end x ≡ earliest_in end (bounds_of r x)

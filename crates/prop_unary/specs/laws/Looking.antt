@@ -24,7 +24,7 @@ use Rattle.findings.specs.laws.Alike.{admits_alike}
 use Rattle.findings.specs.laws.Kept.{asked_admits, asked_alike, refuted_alike}
 use Rattle.findings.specs.laws.Members.{first_paired, second_paired}
 use Rattle.refute_seq.specs.declared.witness.SeqWitness.{SeqWitness}
-use Rattle.refute_seq.specs.declared.witness.SeqWitness.TheVariants.{Pair, Triple}
+use Rattle.refute_seq.specs.declared.witness.SeqWitness.TheVariants.{Pair, Triple, Overload, Edge, NotEnd, Detect}
 use Rattle.refute_seq.specs.Witness.{is_valid}
 use Rattle.refute_seq.specs.Listed.{lists, asks_order, asks_pair, asks_circle}
 use Rattle.refute_seq.specs.OnSequence.{refutes}
@@ -80,6 +80,10 @@ looks m (Triple s x y z) three l k of also alike best =
     let here = three_true (has (members_of m p) u) (has (members_of m p) v) (has (members_of m p) w) three in
     ap (λ t. is_valid (Triple s x y z) && t)
     (triple_alike l k s x y z (same_two m l.region k.region p u v here.0 here.1 alike, same_two m l.region k.region p v w here.1 here.2 alike, same_two m l.region k.region p w u here.2 here.0 alike))
+looks m (Overload c s) here l k of also alike best = cc
+looks m (Edge c side i s u v) here l k of also alike best = cc
+looks m (NotEnd c side i s) here l k of also alike best = cc
+looks m (Detect c side i s) here l k of also alike best = cc
 
 -- what is asked of PAIR in one region is asked in one that is alike
 topic_is : (p : Seq) (x y : Itv) (t : Topic) → asks_order p x y t ≡ true → t ≡ Two p x y
@@ -166,6 +170,10 @@ asked_back m (Triple p x y z) r q (Some g) three of also alike asked =
     let two = both_true (lists m (Triple p x y z) g) (is_open_end q g) asked in
     let both = circle_open m r q s u v w g of also (record { first = here.0; second = here.1; third = here.2 }) alike two.0 (both_true (admits q g) (is_end q (topic g)) two.1).0 in
     true_both (lists m (Triple p x y z) g) (is_open_end r g) two.0 (true_both (admits r g) (is_end r (topic g)) both.0 both.1)
+asked_back m (Overload c s) r q guess here of also alike asked = cc
+asked_back m (Edge c side i s u v) r q guess here of also alike asked = cc
+asked_back m (NotEnd c side i s) r q guess here of also alike asked = cc
+asked_back m (Detect c side i s) r q guess here of also alike asked = cc
 
 -- so it stays silent
 pub silent_kept : (m : Data) (w : SeqWitness) (r q : Region) (b c : Option ℤ) → are_members m w ≡ true → IsRegionOf m r → IsRegionOf m q → AreAlike (reads_of m w) r q → (IsTrue (reads_of m w).best → b ≡ c) → IsSilent m r b w → IsSilent m q c w

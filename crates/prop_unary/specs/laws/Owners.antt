@@ -10,7 +10,7 @@ use Rattle.sched_model.specs.Data.{Data, has, members_of}
 use Rattle.region.specs.Looks.{Seen, IsRegionOf}
 use Rattle.region.specs.laws.Lists.{both_true, true_both}
 use Rattle.refute_seq.specs.declared.witness.SeqWitness.{SeqWitness}
-use Rattle.refute_seq.specs.declared.witness.SeqWitness.TheVariants.{Pair, Triple}
+use Rattle.refute_seq.specs.declared.witness.SeqWitness.TheVariants.{Pair, Triple, Overload, Edge, NotEnd, Detect}
 use Rattle.refute_seq.specs.OnSequence.{refutes}
 use Rattle.prop_unary.specs.Tasks.{size_of, is_own, looks_after, sequence_in}
 use Rattle.prop_unary.specs.laws.Members.{are_two, strangers}
@@ -51,10 +51,10 @@ pub no_members : (m : Data) (p : Seq) → length m.sequences ≤ p.0 → members
 no_members m p beyond = ap (λ d. d.members) (get_or_past m.sequences p.0 _ beyond)
 
 pair_past : (m : Data) (l : Seen) (c a b n : ℕ) → IsRegionOf m l.region → length m.constraints ≤ c → refutes m l (Pair c a b n) ≡ false
-pair_past m l c a b n of beyond = strangers m l (Pair c a b n) of (ap (λ o. are_two m (sequence_in o) (record { 0 = a }) (record { 0 = b })) (slice_get_past m.constraints c beyond))
+pair_past m l c a b n of beyond = strangers m l (Pair c a b n) of refl (ap (λ o. are_two m (sequence_in o) (record { 0 = a }) (record { 0 = b })) (slice_get_past m.constraints c beyond))
 
 triple_past : (m : Data) (l : Seen) (p x y z : ℕ) → IsRegionOf m l.region → length m.sequences ≤ p → refutes m l (Triple p x y z) ≡ false
-triple_past m l p x y z of beyond = strangers m l (Triple p x y z) of (ap (λ ms. has ms (record { 0 = x }) && has ms (record { 0 = y }) && has ms (record { 0 = z })) (no_members m (record { 0 = p }) beyond))
+triple_past m l p x y z of beyond = strangers m l (Triple p x y z) of refl (ap (λ ms. has ms (record { 0 = x }) && has ms (record { 0 = y }) && has ms (record { 0 = z })) (no_members m (record { 0 = p }) beyond))
 
 pub unowned : (m : Data) (l : Seen) (w : SeqWitness) → IsRegionOf m l.region → is_own w ≡ true → ((k : ℕ) → k < size_of m → looks_after m k w ≡ false) → refutes m l w ≡ false
 unowned m l (Pair c a b n) of own none = by_case (nat_lt c (length m.constraints)) refl
@@ -71,3 +71,16 @@ unowned m l (Triple p x y z) of own none = by_case (nat_lt p (length m.sequences
         let within = below p (length m.sequences) is in
         absurd (true≢false (sym (owns_triple m p x y z within) ∙ none (length m.constraints + p) (omega (arith, within))))
     by_case false is = triple_past m l p x y z of (past p (length m.sequences) is)
+unowned m l (Overload c s) of own none = cc
+unowned m l (Edge c side i s u v) of own none = cc
+unowned m l (NotEnd c side i s) of own none = cc
+unowned m l (Detect c side i s) of own none = cc
+
+-- what a propagator looks after is of these kinds
+pub owned_kind : (m : Data) (k : ℕ) (w : SeqWitness) → looks_after m k w ≡ true → is_own w ≡ true
+owned_kind m k (Pair c a b n) mine = refl
+owned_kind m k (Triple p x y z) mine = refl
+owned_kind m k (Overload c s) mine = cc
+owned_kind m k (Edge c side i s u v) mine = cc
+owned_kind m k (NotEnd c side i s) mine = cc
+owned_kind m k (Detect c side i s) mine = cc

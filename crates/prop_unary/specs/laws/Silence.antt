@@ -29,9 +29,11 @@ use Rattle.region.specs.laws.Pairs.{paired}
 use Rattle.base_laws.specs.laws.Truth.{alone, four_true}
 use Rattle.findings.specs.declared.finding.Pair.{Pair as PairOf}
 use Rattle.findings.specs.Ends.{is_open_end, is_end, is_end_at}
+use Rattle.findings.specs.Numbers.{highest_end, lowest_start}
 use Rattle.findings.specs.Reads.{IsUnrefuted, is_among}
 use Rattle.findings.specs.laws.Members.{one_of_two}
 use Rattle.findings.specs.laws.Kept.{asked_more}
+use Rattle.findings.specs.laws.Numbers.{least_start, greatest_end, plain_start}
 use Rattle.findings.specs.laws.Open.{not_absent, open_not_absent}
 use Rattle.refute_seq.specs.declared.witness.SeqWitness.TheVariants.{Pair}
 use Rattle.refute_seq.specs.Witness.{is_valid}
@@ -42,8 +44,9 @@ use Rattle.refute_seq.specs.OnSequence.{refutes, row_of}
 use Rattle.refute_basic.specs.laws.Told.{AreTold, told}
 use Rattle.prop_unary.specs.declared.disjunctive.Disjunctive.{Disjunctive}
 use Rattle.prop_unary.specs.Tasks.{IsSilent}
-use Rattle.prop_unary.specs.Silence.{IsDisjunctive, highest_end, lowest_start, stays_in_time, is_silent_two, is_silent_order, reach, is_silent_pair, AreSilent}
-use Rattle.prop_unary.specs.laws.Under.{different, turned_number, never_itself, precedes_under, order_forward, told_closed}
+use Rattle.prop_unary.specs.Silence.{IsDisjunctive, stays_in_time, is_silent_two, is_silent_order, reach, is_silent_pair, AreSilent}
+use Rattle.prop_unary.specs.laws.Under.{different, never_itself, precedes_under, order_forward, told_closed}
+use Rattle.base_laws.specs.laws.Numbers.{turned_number}
 
 -- what it shows that PAIR refutes: two stand so that the first is too late for the second, with the greatest distance
 pub record IsLate (m : Data) (q : Region) (d : Disjunctive) (a b : Itv) : Type 0 where
@@ -72,26 +75,6 @@ case_late m q k a b d h =
 
 pub refuting_late : (m : Data) (l : Seen) (d : Disjunctive) (a b : Itv) (k : ℕ) → IsDisjunctive m d → refutes m l (Pair d.c a.0 b.0 k) ≡ true → IsLate m l.region d a b
 refuting_late m l d a b k is h = case_late m l.region k a b d (subst (λ o. passes (pair_of m l.region k a b) o ≡ true) is (both_true (is_valid (Pair d.c a.0 b.0 k)) (row_of m l (Pair d.c a.0 b.0 k)) h).1)
-
--- the numbers under a guess at the end of a cell
-least_start : (k : Claim) (c : Bounds) → is_end_at k c ≡ true → lowest_start c ≤ℤ lst_in (guessed k c)
-least_start claim.Present c h = grind (arith, ints)
-least_start claim.Absent c h = grind (arith, ints)
-least_start (claim.StartLe t) c h = grind (arith, ints)
-least_start (claim.StartGe t) c h = grind (arith, ints)
-least_start (claim.EndLe t) c h = grind (arith, ints)
-least_start (claim.EndGe t) c h = grind (arith, ints)
-
-start_least : (c : Bounds) → lowest_start c ≤ℤ lst_in c
-start_least c = grind (arith, ints)
-
-greatest_end : (k : Claim) (c : Bounds) → is_end_at k c ≡ true → ect_in (guessed k c) ≤ℤ highest_end c
-greatest_end claim.Present c h = grind (arith, ints)
-greatest_end claim.Absent c h = grind (arith, ints)
-greatest_end (claim.StartLe t) c h = grind (arith, ints)
-greatest_end (claim.StartGe t) c h = grind (arith, ints)
-greatest_end (claim.EndLe t) c h = grind (arith, ints)
-greatest_end (claim.EndGe t) c h = grind (arith, ints)
 
 -- what the test says of two of which neither is absent
 silent_there : (o : OrderCell) (c d : Bounds) (n : ℤ) → is_silent_two o c d n ≡ true → says_absent c.presence ≡ false → says_absent d.presence ≡ false → is_silent_order o c d n ≡ true
@@ -136,7 +119,7 @@ never_plain m r d a b h late =
     let n = reach m d.p d.matrix a b in
     let test = forward_test m r d a b h t.order (not_absent (bounds_of r a).presence t.first) (not_absent (bounds_of r b).presence t.second) in
     let second = both_true (not (says_present c.presence) || int_le (ect_in c +ℤ n) (lowest_start (bounds_of r b))) (not (says_present (bounds_of r b).presence) || int_le (highest_end c +ℤ n) (lst_in (bounds_of r b))) test in
-    late_second (ect_in c) n (lowest_start (bounds_of r b)) (lst_in (bounds_of r b)) (start_least (bounds_of r b)) (in_time (says_present c.presence) (int_le (ect_in c +ℤ n) (lowest_start (bounds_of r b))) t.first second.0) late.late
+    late_second (ect_in c) n (lowest_start (bounds_of r b)) (lst_in (bounds_of r b)) (plain_start (bounds_of r b)) (in_time (says_present c.presence) (int_le (ect_in c +ℤ n) (lowest_start (bounds_of r b))) t.first second.0) late.late
 
 -- under a guess on the first
 never_first : (m : Data) (r : Region) (d : Disjunctive) (a b : Itv) (k : Claim) → same a b ≡ false → is_silent_pair m r d a b ≡ true → admits_topic r (One a k) ≡ true → is_end_at k (bounds_of r a) ≡ true → IsLate m (with_bounds a (guessed k) r) d a b → ⊥

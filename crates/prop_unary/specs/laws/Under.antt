@@ -1,7 +1,7 @@
 -- What a region tells of members under a guess it told before, or the guess tells it.
 use Rattle.std.specs.Prelude.{◌≡◌, ◌⊎◌, ℕ, Bool, true, false, ◌&&◌, ◌||◌, nat_eq, nat_lt}
 use Rattle.std.proofs.Common.{refl, sym, ap, subst, ◌∙◌, inl, inr, arith}
-use Rattle.std.proofs.lemmas.Bool.{cases_eq, true≢false}
+use Rattle.std.proofs.lemmas.Bool.{cases_eq, true≢false, or_parts}
 use Rattle.std.proofs.lemmas.Bool.Decides.{nat_tests}
 use Rattle.sched_base.specs.declared.ids.Itv.{Itv}
 use Rattle.sched_base.specs.declared.ids.Seq.{Seq}
@@ -23,6 +23,7 @@ use Rattle.region.specs.laws.Intervals.{bounds_elsewhere}
 use Rattle.region.specs.laws.Pairs.{paired, pairs_at, cells_there, cells_elsewhere}
 use Rattle.refute_seq.specs.Standing.{precedes}
 use Rattle.refute_seq.specs.Listed.{asks_order}
+use Rattle.base_laws.specs.laws.Numbers.{turned_number}
 
 -- a member doesn't stand before itself
 no_place_before : (b : Bool) (c d : OrderCell) → b ≡ false → ((b && says_forward c) || (b && says_backward d)) ≡ false
@@ -43,10 +44,6 @@ apart r p x y h = decided (same x y) refl
     decided : (b : Bool) → same x y ≡ b → same x y ≡ false
     decided false is = is
     decided true is = absurd (never_itself r p x (subst (λ (z : Itv). precedes r p x z ≡ true) (sym (same_is x y is)) h))
-
--- orders
-pub turned_number : (i j : ℕ) → nat_eq i j ≡ true → nat_eq j i ≡ true
-turned_number i j h = grind (arith, nat_tests)
 
 number_itself : (n : ℕ) → nat_eq n n ≡ true
 number_itself n = grind (arith, nat_tests)
@@ -79,14 +76,10 @@ touches (Two p u v) x = same x u || same x v
 pub different : (i j : ℕ) → i ≡ j → nat_eq i j ≡ false → ⊥
 different i j e h = grind (arith, nat_tests)
 
-neither : (p q : Bool) → (p || q) ≡ false → (p ≡ false) × (q ≡ false)
-neither true q h = absurd (true≢false h)
-neither false q h = (refl, h)
-
 pub bounds_untouched : (r : Region) (t : Topic) (x : Itv) → touches t x ≡ false → bounds_of (assumed t r) x ≡ bounds_of r x
 bounds_untouched r (One z c) x off = bounds_elsewhere z x (guessed c) r (λ e. different x.0 z.0 e off)
 bounds_untouched r (Two p u v) x off =
-    let two = neither (same x u) (same x v) off in
+    let two = or_parts (same x u) (same x v) off in
     bounds_elsewhere u x as_present (with_bounds v as_present r) (λ e. different x.0 u.0 e two.0) ∙ bounds_elsewhere v x as_present r (λ e. different x.0 v.0 e two.1)
 
 pub there_before : (r : Region) (t : Topic) (x : Itv) → touches t x ≡ false → is_there (assumed t r) x ≡ true → is_there r x ≡ true

@@ -11,9 +11,9 @@ use Rattle.region.specs.Looks.{IsRegionOf}
 use Rattle.findings.specs.Reads.{Reads, AreAlike, reads_cell}
 use Rattle.findings.specs.laws.Alike.{alike_from_cells}
 use Rattle.refute_seq.specs.declared.witness.SeqWitness.{SeqWitness}
-use Rattle.refute_seq.specs.declared.witness.SeqWitness.TheVariants.{Pair, Triple}
+use Rattle.refute_seq.specs.declared.witness.SeqWitness.TheVariants.{Pair, Triple, Overload, Edge, NotEnd, Detect}
 use Rattle.prop_unary.specs.Tasks.{IsSilent, quiet, looks_after, sequence_in, reads_pair, reads_triple, reads_of, reads_at, watching, watching_best}
-use Rattle.prop_unary.specs.laws.Owners.{pair_owned, triple_owned}
+use Rattle.prop_unary.specs.laws.Owners.{pair_owned, triple_owned, owned_kind}
 use Rattle.prop_unary.specs.laws.Quieting.{by_members}
 use Rattle.prop_unary.specs.laws.Looking.{silent_kept}
 
@@ -39,6 +39,10 @@ triple_reads m p = ap (λ n. reads_triple m (record { 0 = n })) (back p (length 
 reads_owned : (m : Data) (k : ℕ) (w : SeqWitness) → looks_after m k w ≡ true → reads_of m w ≡ reads_at m k
 reads_owned m k (Pair c a b n) mine = let o = pair_owned m k c a b n mine in pair_reads m c o.1 ∙ ap (reads_at m) (sym o.0)
 reads_owned m k (Triple p x y z) mine = let o = triple_owned m k p x y z mine in triple_reads m p ∙ ap (reads_at m) (sym o.0)
+reads_owned m k (Overload c s) mine = cc
+reads_owned m k (Edge c side i s u v) mine = cc
+reads_owned m k (NotEnd c side i s) mine = cc
+reads_owned m k (Detect c side i s) mine = cc
 
 never_best : (m : Data) (w : SeqWitness) → (reads_of m w).best ≡ false
 never_best m (Pair c a b k) = at (sequence_in (slice_get m.constraints c))
@@ -47,6 +51,10 @@ never_best m (Pair c a b k) = at (sequence_in (slice_get m.constraints c))
     at None = refl
     at (Some p) = refl
 never_best m (Triple p x y z) = refl
+never_best m (Overload c s) = refl
+never_best m (Edge c side i s u v) = refl
+never_best m (NotEnd c side i s) = refl
+never_best m (Detect c side i s) = refl
 
 pub unwatched : (m : Data) (k : ℕ) (r q : Region) (b c : Option ℤ) → IsRegionOf m r → IsRegionOf m q → ((cell : CellName) → IsTrue (watching m k cell) → SameCell cell r q) → (IsTrue (watching_best m k) → b ≡ c) → quiet m k r b → quiet m k q c
 unwatched m k r q b c of also cells best still = record { unrefuted = λ w guess mine asked. kept w mine guess asked }
@@ -59,4 +67,4 @@ unwatched m k r q b c of also cells best still = record { unrefuted = λ w guess
     unread false e h = cc
 
     kept : (w : SeqWitness) → looks_after m k w ≡ true → IsSilent m q c w
-    kept w mine = by_members m q c w also (λ here. silent_kept m w r q b c here of also (alike w mine) (λ uses. unread (reads_of m w).best (never_best m w) uses) (λ guess asked. still.unrefuted w guess mine asked))
+    kept w mine = by_members m q c w also (owned_kind m k w mine) (λ here. silent_kept m w r q b c here of also (alike w mine) (λ uses. unread (reads_of m w).best (never_best m w) uses) (λ guess asked. still.unrefuted w guess mine asked))

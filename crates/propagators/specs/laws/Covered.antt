@@ -29,11 +29,13 @@ use Rattle.prop_temporal.specs.laws.Owners.{unowned as unowned_temporal}
 use Rattle.prop_hier.specs.Tasks.{size_of as size_of_hier, looks_after as looks_after_hier, quiet as quiet_hier}
 use Rattle.prop_hier.specs.laws.Owners.{unowned as unowned_hier}
 use Rattle.refute_seq.specs.declared.witness.SeqWitness.{SeqWitness}
-use Rattle.refute_seq.specs.declared.witness.SeqWitness.TheVariants.{Pair, Triple}
+use Rattle.refute_seq.specs.declared.witness.SeqWitness.TheVariants.{Pair, Triple, Overload, Edge, NotEnd, Detect}
 use Rattle.refute_seq.specs.OnSequence.{refutes as refutes_seq}
 use Rattle.refute_seq.specs.Listed.{lists as lists_seq}
 use Rattle.prop_unary.specs.Tasks.{size_of as size_of_unary, looks_after as looks_after_unary, quiet as quiet_unary, is_own as is_unary}
 use Rattle.prop_unary.specs.laws.Owners.{unowned as unowned_unary}
+use Rattle.prop_sets.specs.Tasks.{size_of as size_of_sets, looks_after as looks_after_sets, quiet as quiet_sets, is_own as is_sets}
+use Rattle.prop_sets.specs.laws.Owners.{unowned as unowned_sets}
 use Rattle.refute_cumul.specs.OnCumul.{refutes as refutes_cumul}
 use Rattle.refute_cumul.specs.Listed.{lists as lists_cumul}
 use Rattle.prop_cumul.specs.Tasks.{size_of as size_of_cumul, looks_after as looks_after_cumul, quiet as quiet_cumul}
@@ -91,6 +93,7 @@ pub record AllQuiet (m : Data) (r : Region) (best : Option ℤ) : Type 0 where
   pub temporal : (k : ℕ) → k < size_of_temporal m → quiet_temporal m k r best
   pub hier : (k : ℕ) → k < size_of_hier m → quiet_hier m k r best
   pub unary : (k : ℕ) → k < size_of_unary m → quiet_unary m k r best
+  pub sets : (k : ℕ) → k < size_of_sets m → quiet_sets m k r best
   pub cumul : (k : ℕ) → k < size_of_cumul m → quiet_cumul m k r best
   pub state : (k : ℕ) → k < size_of_state m → quiet_state m k r best
 
@@ -101,10 +104,14 @@ basic_unrefuted m r best of all w guess derived asked = elim (own_or_temporal w 
   | inr also ↦ unrefuted_by refutes lists looks_after_temporal (size_of_temporal m) m r best of all.temporal w (λ l stays none. unowned_temporal m l w also none) guess asked
 ]
 
--- a kind of `refute_seq` is asked by one crate
-unary_kind : (w : SeqWitness) → is_unary w ≡ true
-unary_kind (Pair c a b k) = refl
-unary_kind (Triple p x y z) = refl
+-- so is a kind of `refute_seq`: by few members at a time, or by sets
+unary_or_sets : (w : SeqWitness) → (is_unary w ≡ true) ⊎ (is_sets w ≡ true)
+unary_or_sets (Pair c a b k) = inl refl
+unary_or_sets (Triple p x y z) = inl refl
+unary_or_sets (Overload c s) = inr refl
+unary_or_sets (Edge c side i s u v) = inr refl
+unary_or_sets (NotEnd c side i s) = inr refl
+unary_or_sets (Detect c side i s) = inr refl
 
 -- so is a kind of `refute_state`
 state_kind : (w : StateWitness) → is_state w ≡ true
@@ -116,8 +123,10 @@ all_unrefuted : (m : Data) (r : Region) (best : Option ℤ) → IsValid m → Is
 all_unrefuted m r best valid of all (Basic w) guess derived asked = basic_unrefuted m r best of all w guess derived asked
 all_unrefuted m r best valid of all (Hier w) guess derived asked =
     unrefuted_by refutes_hier lists_hier looks_after_hier (size_of_hier m) m r best of all.hier w (λ l stays none. unowned_hier m l w stays refl none) guess asked
-all_unrefuted m r best valid of all (Seq w) guess derived asked =
-    unrefuted_by refutes_seq lists_seq looks_after_unary (size_of_unary m) m r best of all.unary w (λ l stays none. unowned_unary m l w stays (unary_kind w) none) guess asked
+all_unrefuted m r best valid of all (Seq w) guess derived asked = elim (unary_or_sets w) [
+  | inl few ↦ unrefuted_by refutes_seq lists_seq looks_after_unary (size_of_unary m) m r best of all.unary w (λ l stays none. unowned_unary m l w stays few none) guess asked
+  | inr sets ↦ unrefuted_by refutes_seq lists_seq looks_after_sets (size_of_sets m) m r best of all.sets w (λ l stays none. unowned_sets m l w sets none) guess asked
+]
 all_unrefuted m r best valid of all (Cumul w) guess derived asked =
     unrefuted_by refutes_cumul lists_cumul looks_after_cumul (size_of_cumul m) m r best of all.cumul w (λ l stays none. unowned_cumul m l w stays refl none) guess asked
 all_unrefuted m r best valid of all (State w) guess derived asked =

@@ -1,5 +1,5 @@
 use Rattle.std.proofs.Common.{refl, ◌∙◌, ◌-◌}
-use Rattle.engine.proofs.Turning.{dropped, later, within_levels, quiet_all, asleep_all}
+use Rattle.engine.proofs.Turning.{asleep, later, within_levels, quiet_all, asleep_all}
 use Rattle.engine.proofs.turns.find.Goals as goal
 
 pub returns-in_default-clause-none : goal.returns-in_default-clause-none
@@ -11,13 +11,13 @@ returns-in_default-clause-asleep g c = asleep_all c.awake.levels _ c.in_default.
 
 pub awake-smaller-in_default-2 : goal.awake-smaller-in_default-2
 awake-smaller-in_default-2 g c =
-    (dropped (g.P.Propagator.size c.args.model.now) (λ k. g.P.Propagator.quiet c.args.model.now k c.args.region.now.region c.args.best) c.awake.levels c.drop_first.new.self _ c.in-Some.turn
-    c.in-Some.ensures.turn refl c.drop_first.ensures (rw c.in_default-2.is at c.in_ok-f.ensures.none) c.awake.invariant.calm).lighter
+    (asleep (g.P.Propagator.size c.args.model.now) (λ k. g.P.Propagator.quiet c.args.model.now k c.args.region.now.region c.args.best) c.awake.levels c.unwake.new.self _ c.in-Some.turn
+    c.in-Some.ensures.turn refl c.unwake.ensures (rw c.in_default-2.is at c.in_ok-f.ensures.none) c.awake.invariant.calm).lighter
 
 pub awake-preserved-in_default-2 : goal.awake-preserved-in_default-2
 awake-preserved-in_default-2 g c =
-    let now = dropped (g.P.Propagator.size c.args.model.now) (λ k. g.P.Propagator.quiet c.args.model.now k c.args.region.now.region c.args.best) c.awake.levels c.drop_first.new.self _ c.in-Some.turn
-    c.in-Some.ensures.turn refl c.drop_first.ensures (rw c.in_default-2.is at c.in_ok-f.ensures.none) c.awake.invariant.calm in
+    let now = asleep (g.P.Propagator.size c.args.model.now) (λ k. g.P.Propagator.quiet c.args.model.now k c.args.region.now.region c.args.best) c.awake.levels c.unwake.new.self _ c.in-Some.turn
+    c.in-Some.ensures.turn refl c.unwake.ensures (rw c.in_default-2.is at c.in_ok-f.ensures.none) c.awake.invariant.calm in
     record {
       of = c.next.ensures.kept c.args.model.now c.awake.invariant.of;
       below = now.below ∙ c.awake.invariant.below;
@@ -27,17 +27,17 @@ awake-preserved-in_default-2 g c =
 
 pub wake-requires-clause-level : goal.wake-requires-clause-level
 wake-requires-clause-level g c =
-    within_levels c.awake.levels c.drop_first-then-is_late.new.self (c.levels-last.result - 1) c.awake.invariant.count c.drop_first-then-is_late.ensures
+    within_levels c.awake.levels c.unwake-then-is_late.new.self (c.levels-last.result - 1) _ c.awake.invariant.count c.unwake-then-is_late.ensures
 
 pub awake-smaller : goal.awake-smaller
 awake-smaller g c =
-    (later (g.P.Propagator.size c.args.model.now) (c.levels-last.result - 1) (λ k. g.P.Propagator.quiet c.args.model.now k c.args.region.now.region c.args.best) c.awake.levels c.drop_first-then-is_late.new.self c.wake.new.self _ c.in-Some.turn
-    c.in-Some.ensures.turn refl c.awake.invariant.count c.if-turn-last.true c.drop_first-then-is_late.ensures c.wake.ensures c.awake.invariant.calm).lighter
+    (later (g.P.Propagator.size c.args.model.now) (c.levels-last.result - 1) (λ k. g.P.Propagator.quiet c.args.model.now k c.args.region.now.region c.args.best) c.awake.levels c.unwake-then-is_late.new.self c.wake.new.self _ c.in-Some.turn
+    c.in-Some.ensures.turn refl c.awake.invariant.count c.if-turn-last.true c.unwake-then-is_late.ensures c.wake.ensures c.awake.invariant.calm).lighter
 
 pub awake-preserved : goal.awake-preserved
 awake-preserved g c =
-    let now = later (g.P.Propagator.size c.args.model.now) (c.levels-last.result - 1) (λ k. g.P.Propagator.quiet c.args.model.now k c.args.region.now.region c.args.best) c.awake.levels c.drop_first-then-is_late.new.self c.wake.new.self _ c.in-Some.turn
-    c.in-Some.ensures.turn refl c.awake.invariant.count c.if-turn-last.true c.drop_first-then-is_late.ensures c.wake.ensures c.awake.invariant.calm in
+    let now = later (g.P.Propagator.size c.args.model.now) (c.levels-last.result - 1) (λ k. g.P.Propagator.quiet c.args.model.now k c.args.region.now.region c.args.best) c.awake.levels c.unwake-then-is_late.new.self c.wake.new.self _ c.in-Some.turn
+    c.in-Some.ensures.turn refl c.awake.invariant.count c.if-turn-last.true c.unwake-then-is_late.ensures c.wake.ensures c.awake.invariant.calm in
     record {
       of = c.next.ensures.kept c.args.model.now c.awake.invariant.of;
       below = now.below ∙ c.awake.invariant.below;

@@ -2,7 +2,7 @@ use Rattle.std.proofs.Common.{◌≡◌, ◌<◌, ◌&&◌, ℕ, false, get_or, 
 use Rattle.region.specs.declared.types.Guess.TheVariants.{Present}
 use Rattle.region.specs.Cells.{bounds_of}
 use Rattle.region.specs.Guesses.{admits}
-use Rattle.findings.proofs.Ending.{end_guesses}
+use Rattle.findings.specs.laws.EndGuesses.{end_guesses}
 use Rattle.findings.proofs.searching.refuted_on.Given as goal
 
 abbrev pub invariant-loop-g : goal.invariant-loop-g

@@ -1,7 +1,7 @@
 use Rattle.std.proofs.Common.{arith, ◌∙◌, ap}
 use Rattle.std.proofs.lemmas.List.{length-set, get_or_default}
 use Rattle.region.specs.Cells.{bounds_of}
-use Rattle.prop_unary.specs.Silence.{ends_of}
+use Rattle.findings.specs.Numbers.{ends_of}
 use Rattle.prop_unary.proofs.Noted.{ends_set}
 use Rattle.prop_unary.proofs.ends.note_ends.Goals as goal
 
@@ -13,5 +13,5 @@ loop-k-preserved c =
     record {
       same = length-set c.loop-k.ends c.loop-k.k _ ∙ same;
       noted = ends_set c.args.look.now.region c.args.members.now c.loop-k.ends c.loop-k.k c.ends_at.result (omega (arith, room, same, below)) c.loop-k.invariant.noted
-          (λ x. c.ends_at.ensures ∙ ap (λ y. ends_of (bounds_of c.args.look.now.region y)) (get_or_default c.args.members.now c.loop-k.k _ x below));
+          (λ x. c.ends_at.ensures.value ∙ ap (λ y. ends_of (bounds_of c.args.look.now.region y)) (get_or_default c.args.members.now c.loop-k.k _ x below));
     }

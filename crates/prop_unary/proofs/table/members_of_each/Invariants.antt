@@ -1,5 +1,6 @@
-use Rattle.prop_unary.specs.Tables.{AreMembers}
+use Rattle.findings.specs.Tables.{AreLists}
+use Rattle.prop_unary.specs.Tables.{members_at}
 use Rattle.prop_unary.proofs.table.members_of_each.Given as goal
 
 abbrev pub invariant-loop-k : goal.invariant-loop-k
-invariant-loop-k l = AreMembers l.model l.k l.lists.items
+invariant-loop-k l = AreLists (members_at l.model) l.k l.lists.items

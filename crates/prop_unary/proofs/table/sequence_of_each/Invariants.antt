@@ -1,5 +1,6 @@
-use Rattle.prop_unary.specs.Tables.{AreSequences}
+use Rattle.findings.specs.Tables.{AreLists}
+use Rattle.prop_unary.specs.Tables.{sequences_at}
 use Rattle.prop_unary.proofs.table.sequence_of_each.Given as goal
 
 abbrev pub invariant-loop-k : goal.invariant-loop-k
-invariant-loop-k l = AreSequences l.model l.k l.lists.items
+invariant-loop-k l = AreLists (sequences_at l.model) l.k l.lists.items

@@ -5,6 +5,7 @@ use Rattle.prop_basic.specs.Tasks.{size_of, quiet}
 use Rattle.prop_temporal.specs.Tasks.{size_of as size_of_temporal, quiet as quiet_temporal}
 use Rattle.prop_hier.specs.Tasks.{size_of as size_of_hier, quiet as quiet_hier}
 use Rattle.prop_unary.specs.Tasks.{size_of as size_of_unary, quiet as quiet_unary}
+use Rattle.prop_sets.specs.Tasks.{size_of as size_of_sets, quiet as quiet_sets}
 use Rattle.prop_cumul.specs.Tasks.{size_of as size_of_cumul, quiet as quiet_cumul}
 use Rattle.prop_state.specs.Tasks.{size_of as size_of_state, quiet as quiet_state}
 use Rattle.engine.specs.Pairs.{chosen}
@@ -15,8 +16,11 @@ use Rattle.propagators.proofs.all.covers.Goals as goal
 abbrev functions : Data → Region → Option ℤ → ℕ → Type 0
 functions m r best k = chosen (nat_lt k (size_of_cumul m)) (quiet_cumul m k r best) (quiet_state m (k - size_of_cumul m) r best)
 
+abbrev many : Data → Region → Option ℤ → ℕ → Type 0
+many m r best k = chosen (nat_lt k (size_of_sets m)) (quiet_sets m k r best) (functions m r best (k - size_of_sets m))
+
 abbrev grouped : Data → Region → Option ℤ → ℕ → Type 0
-grouped m r best k = chosen (nat_lt k (size_of_unary m)) (quiet_unary m k r best) (functions m r best (k - size_of_unary m))
+grouped m r best k = chosen (nat_lt k (size_of_unary m)) (quiet_unary m k r best) (many m r best (k - size_of_unary m))
 
 abbrev last : Data → Region → Option ℤ → ℕ → Type 0
 last m r best k = chosen (nat_lt k (size_of_hier m)) (quiet_hier m k r best) (grouped m r best (k - size_of_hier m))
@@ -27,18 +31,21 @@ behind m r best k = chosen (nat_lt k (size_of_temporal m)) (quiet_temporal m k r
 pub returns : goal.returns
 returns c = λ m r best valid of still.
     let two = size_of_cumul m + size_of_state m in
-    let three = size_of_unary m + two in
-    let four = size_of_hier m + three in
-    let five = size_of_temporal m + four in
-    let rest = others (size_of m) five (λ k. quiet m k r best) (behind m r best) still in
-    let groups = others (size_of_temporal m) four (λ k. quiet_temporal m k r best) (last m r best) rest in
-    let end = others (size_of_hier m) three (λ k. quiet_hier m k r best) (grouped m r best) groups in
-    let of_functions = others (size_of_unary m) two (λ k. quiet_unary m k r best) (functions m r best) end in
+    let three = size_of_sets m + two in
+    let four = size_of_unary m + three in
+    let five = size_of_hier m + four in
+    let six = size_of_temporal m + five in
+    let rest = others (size_of m) six (λ k. quiet m k r best) (behind m r best) still in
+    let groups = others (size_of_temporal m) five (λ k. quiet_temporal m k r best) (last m r best) rest in
+    let end = others (size_of_hier m) four (λ k. quiet_hier m k r best) (grouped m r best) groups in
+    let by_sets = others (size_of_unary m) three (λ k. quiet_unary m k r best) (many m r best) end in
+    let of_functions = others (size_of_sets m) two (λ k. quiet_sets m k r best) (functions m r best) by_sets in
     covered m r best valid of (record {
-      basic = firsts (size_of m) five (λ k. quiet m k r best) (behind m r best) still;
-      temporal = firsts (size_of_temporal m) four (λ k. quiet_temporal m k r best) (last m r best) rest;
-      hier = firsts (size_of_hier m) three (λ k. quiet_hier m k r best) (grouped m r best) groups;
-      unary = firsts (size_of_unary m) two (λ k. quiet_unary m k r best) (functions m r best) end;
+      basic = firsts (size_of m) six (λ k. quiet m k r best) (behind m r best) still;
+      temporal = firsts (size_of_temporal m) five (λ k. quiet_temporal m k r best) (last m r best) rest;
+      hier = firsts (size_of_hier m) four (λ k. quiet_hier m k r best) (grouped m r best) groups;
+      unary = firsts (size_of_unary m) three (λ k. quiet_unary m k r best) (many m r best) end;
+      sets = firsts (size_of_sets m) two (λ k. quiet_sets m k r best) (functions m r best) by_sets;
       cumul = firsts (size_of_cumul m) (size_of_state m) (λ k. quiet_cumul m k r best) (λ k. quiet_state m k r best) of_functions;
       state = others (size_of_cumul m) (size_of_state m) (λ k. quiet_cumul m k r best) (λ k. quiet_state m k r best) of_functions;
     })

@@ -1,0 +1,9 @@
+mod Noted
+mod Marking
+mod Shown
+mod Ordering
+mod Answered
+mod Asking
+mod Making
+mod Remembering
+mod Watching

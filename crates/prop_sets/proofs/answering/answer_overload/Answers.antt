@@ -1,0 +1,10 @@
+use Rattle.std.proofs.Common.{◌∙◌, ap, length, List, ℕ}
+use Rattle.prop_sets.specs.Busy.{ids_of}
+use Rattle.prop_sets.proofs.Answered.{overload_by}
+use Rattle.prop_sets.proofs.answering.answer_overload.Goals as goal
+
+pub answer-requires-clause-busy : goal.answer-requires-clause-busy
+answer-requires-clause-busy c =
+    let ids : List ℕ → List ℕ = λ l. ids_of c.args.members.now l (length c.args.model.now.intervals) in
+    overload_by _ _ _ _ _ (length c.args.model.now.intervals) _ c.args.members.now c.args.found.now.set.items _ c.member_at-i.ensures
+    (c.in_ok-s.ensures ∙ ap ids c.deref.ensures.value) c.requires.busy

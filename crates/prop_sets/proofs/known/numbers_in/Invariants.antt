@@ -1,0 +1,5 @@
+use Rattle.prop_sets.specs.Known.{AreNumbers}
+use Rattle.prop_sets.proofs.known.numbers_in.Given as goal
+
+abbrev pub invariant-loop-k : goal.invariant-loop-k
+invariant-loop-k l = AreNumbers l.region.region l.members l.k l.list.items

@@ -1,0 +1,6 @@
+use Rattle.findings.specs.Tables.{AreLists}
+use Rattle.prop_sets.specs.Tasks.{members_at}
+use Rattle.prop_sets.proofs.table.members_of_each.Given as goal
+
+abbrev pub invariant-loop-k : goal.invariant-loop-k
+invariant-loop-k l = AreLists (members_at l.model) l.k l.lists.items

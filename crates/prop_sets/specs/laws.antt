@@ -1,0 +1,14 @@
+pub mod Owners
+pub mod Named
+pub mod Under
+pub mod Placed
+pub mod BySequence
+pub mod Distinct
+pub mod Reordering
+pub mod Members
+pub mod Quieting
+pub mod Silent
+pub mod Telling
+pub mod Found
+pub mod Known
+pub mod Unwatched

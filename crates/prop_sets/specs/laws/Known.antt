@@ -1,0 +1,116 @@
+-- Members with the same numbers have the same rows, and so nothing is found of them again.
+use Rattle.std.specs.Prelude.{◌≡◌, ℕ, ◌<◌, ℤ, ◌+ℤ◌, ◌-ℤ◌, Bool, true, false, List, [], length, Option, Some, None}
+use Rattle.std.specs.Int.{int_max, int_min}
+use Rattle.std.proofs.Common.{refl, sym, ap, subst, ◌∙◌, arith, get_or, set, inl, inr}
+use Rattle.std.proofs.lemmas.Bool.{cases_eq}
+use Rattle.std.proofs.lemmas.List.{get_or-set_same, get_or-set_other, length-set}
+use Rattle.sched_base.specs.declared.ids.Itv.{Itv}
+use Rattle.sched_base.specs.declared.ids.Seq.{Seq}
+use Rattle.sched_model.specs.Data.{Data, has, members_of}
+use Rattle.sched_model.specs.Valid.{IsValid}
+use Rattle.region.specs.declared.types.Bounds.{Bounds}
+use Rattle.region.specs.Cells.{Region, bounds_of}
+use Rattle.region.specs.Looks.{IsRegionOf}
+use Rattle.region.specs.Orders.{place_of}
+use Rattle.region.specs.laws.OneSequence.{place_within}
+use Rattle.task_sets.specs.Times.{Times}
+use Rattle.task_sets.specs.Mirror.{seen_in}
+use Rattle.theta_passes.specs.declared.rows.Row.{Row}
+use Rattle.theta_passes.specs.declared.rows.Presence.{Presence as RowPresence}
+use Rattle.prop_sets.specs.declared.known.Numbers.{Numbers}
+use Rattle.prop_sets.specs.Tasks.{quiet, sequence_at}
+use Rattle.prop_sets.specs.Rows.{chosen_row, member_at, AreRows, asks_early, asks_late}
+use Rattle.prop_sets.specs.Reordered.{IsReordered}
+use Rattle.prop_sets.specs.Sides.{IsSideQuiet, NoEdge, NoDetect, NoNotEnd}
+use Rattle.prop_sets.specs.Known.{numbers_of, AreNumbers, IsStill, IsKnown, IfKnown, AreKnown}
+use Rattle.prop_sets.specs.laws.Members.{has_at, has_same}
+use Rattle.prop_sets.specs.laws.Placed.{stands_at}
+use Rattle.prop_sets.specs.laws.Silent.{sets_quiet}
+
+-- the numbers under the guess that is asked about, and the row, from those without it
+abbrev asked_numbers : Bool → Numbers → Times
+asked_numbers true n = record { est = n.est; lct = n.lct; lst = int_min n.est (n.lct -ℤ n.p); ect = n.ect; p = n.p }
+asked_numbers false n = record { est = n.est; lct = n.lct; lst = n.lst; ect = int_max n.lct (n.est +ℤ n.p); p = n.p }
+
+abbrev plain_numbers : Numbers → Times
+plain_numbers n = record { est = n.est; lct = n.lct; lst = n.lst; ect = n.ect; p = n.p }
+
+abbrev with_guess : RowPresence → Times → Times → Row
+with_guess h t a = record { est = t.est; p = t.p; lst = t.lst; ect = t.ect; lct = t.lct; presence = h; bar = a.lst; reach = a.ect }
+
+abbrev row_from : Bool → ℕ → Bool → Numbers → Row
+row_from true side early n = with_guess n.presence (seen_in side (asked_numbers early n)) (seen_in side (asked_numbers early n))
+row_from false side early n = with_guess n.presence (seen_in side (plain_numbers n)) (seen_in side (asked_numbers early n))
+
+row_is : (chosen : Bool) (side : ℕ) (early : Bool) (c : Bounds) → chosen_row chosen side early c ≡ row_from chosen side early (numbers_of c)
+row_is true side true c = refl
+row_is true side false c = refl
+row_is false side true c = refl
+row_is false side false c = refl
+
+same_row : (chosen : Bool) (side : ℕ) (early : Bool) (c d : Bounds) → numbers_of c ≡ numbers_of d → chosen_row chosen side early c ≡ chosen_row chosen side early d
+same_row chosen side early c d same = row_is chosen side early c ∙ ap (row_from chosen side early) same ∙ sym (row_is chosen side early d)
+
+-- of each member of a list, and so of each in another order
+abbrev SameNumbers : Region → Region → List Itv → Type 0
+SameNumbers r q ms = (x : Itv) → has ms x ≡ true → numbers_of (bounds_of r x) ≡ numbers_of (bounds_of q x)
+
+same_numbers : (r q : Region) (ms : List Itv) (ns : List Numbers) → AreNumbers r ms (length ms) ns → AreNumbers q ms (length ms) ns → SameNumbers r q ms
+same_numbers r q ms ns old now x here =
+    let k = place_of ms x in
+    let low = place_within ms x here in
+    let at = stands_at ms x here in
+    subst (λ y. numbers_of (bounds_of r y) ≡ numbers_of (bounds_of q y)) at (sym (old.each k low) ∙ now.each k low)
+
+rows_again : (r q : Region) (ms xs : List Itv) (chosen : Bool) (side : ℕ) (early : Bool) (rows : List Row) → SameNumbers r q ms → IsReordered ms xs → AreRows (chosen_row chosen side early) r xs rows → AreRows (chosen_row chosen side early) q xs rows
+rows_again r q ms xs chosen side early rows same order are = record {
+  size = are.size;
+  each = λ k low. are.each k low ∙ same_row chosen side early (bounds_of r (member_at xs k)) (bounds_of q (member_at xs k)) (same (member_at xs k) (sym (has_same ms xs order (member_at xs k)) ∙ has_at xs k low));
+}
+
+side_again : (r q : Region) (ms xs : List Itv) (side : ℕ) → SameNumbers r q ms → IsReordered ms xs → IsSideQuiet side r xs → IsSideQuiet side q xs
+side_again r q ms xs side same order still = record { edge = edge still.edge; detect = detect still.detect; not_end = not_end still.not_end }
+  where
+    edge : NoEdge side r xs → NoEdge side q xs
+    edge h = let are = rows_again r q ms xs true side (asks_early side) h.rows same order (record { size = h.are.size; each = h.are.each }) in
+        record { rows = h.rows; are = record { size = are.size; each = are.each }; overloads = h.overloads; pass = h.pass }
+
+    detect : NoDetect side r xs → NoDetect side q xs
+    detect h = let are = rows_again r q ms xs false side (asks_early side) h.rows same order (record { size = h.are.size; each = h.are.each }) in
+        record { rows = h.rows; are = record { size = are.size; each = are.each }; pass = h.pass }
+
+    not_end : NoNotEnd side r xs → NoNotEnd side q xs
+    not_end h = let are = rows_again r q ms xs false side (asks_late side) h.rows same order (record { size = h.are.size; each = h.are.each }) in
+        record { rows = h.rows; are = record { size = are.size; each = are.each }; pass = h.pass }
+
+pub still_again : (q : Region) (ms : List Itv) (ns : List Numbers) → IsKnown ms ns → AreNumbers q ms (length ms) ns → IsStill q ms
+still_again q ms ns known now =
+    let same = same_numbers known.region q ms ns known.numbers now in
+    let still = known.still in
+    record {
+      xs = still.xs;
+      ys = still.ys;
+      first_order = still.first_order;
+      second_order = still.second_order;
+      first = side_again known.region q ms still.xs 0 same still.first_order still.first;
+      second = side_again known.region q ms still.ys 1 same still.second_order still.second;
+    }
+
+pub still_quiet : (m : Data) (c : ℕ) (p : Seq) (r : Region) (best : Option ℤ) (ms : List Itv) → IsValid m → IsRegionOf m r → sequence_at m c ≡ Some p → ms ≡ members_of m p → IsStill r ms → quiet m c r best
+still_quiet m c p r best ms valid of sequence members still =
+    sets_quiet m c p r best valid of sequence still.xs still.ys (subst (λ zs. IsReordered zs still.xs) members still.first_order) (subst (λ zs. IsReordered zs still.ys) members still.second_order) still.first still.second
+
+-- what is remembered of a list
+pub known_at : (members : List (List Itv)) (known : List (Option (List Numbers))) (k : ℕ) (ns : List Numbers) → k < length members → get_or known k None ≡ Some ns → AreKnown members known → IsKnown (get_or members k []) ns
+known_at members known k ns low is h = subst (IfKnown (get_or members k [])) is (h.each k low)
+
+-- one list more is remembered
+pub known_set : (members : List (List Itv)) (known : List (Option (List Numbers))) (k : ℕ) (ns : List Numbers) → k < length members → IsKnown (get_or members k []) ns → AreKnown members known → AreKnown members (set known k (Some ns))
+known_set members known k ns low mine h = record {
+  size = length-set known k (Some ns) ∙ h.size;
+  each = λ j within. elim (cases_eq j k) [
+    | inl same ↦ subst (λ i. IfKnown (get_or members i []) (get_or (set known k (Some ns)) i None)) (sym same)
+        (subst (IfKnown (get_or members k [])) (sym (get_or-set_same known k (Some ns) None (let size = h.size in omega (arith, low, size)))) mine)
+    | inr other ↦ subst (IfKnown (get_or members j [])) (sym (get_or-set_other known k j (Some ns) None other)) (h.each j within)
+  ];
+}

@@ -1,0 +1,202 @@
+//! Findings by sets of members at some places.
+ghost use Rattle.std.specs.Prelude.{◌≡◌, ◌<◌, true, length, nat_eq, map, IfOk, IfNone, IfSome};
+ghost use Rattle.task_sets.specs.Times.{has};
+ghost use Rattle.region.specs.Looks.{IsRegionOf};
+ghost use Rattle.findings.specs.Found.{IsFinding};
+ghost use Rattle.refute_seq.specs.declared.witness.SeqWitness.TheVariants as witness;
+ghost use Rattle.refute_seq.specs.OnSequence.{refutes};
+ghost use Rattle.prop_sets.specs.Tasks.{looks_after, quiet};
+ghost use Rattle.prop_sets.specs.Rows.{member_at, side_of};
+ghost use Rattle.prop_sets.specs.Busy.{IsBusy, name_at, ids_of};
+
+use crate::passes::{Behind, Cut};
+use findings::{Finding, ask};
+use refute_seq::{Few, OnSequence, SeqWitness};
+use region::Region;
+use sched_base::{Itv, NoMemory};
+use sched_model::Model;
+use std::alloc::Global;
+
+/// What a witness gives that refutes where it is asked, without a guess or under one on a member.
+#[tactic(auto, using(crate::proofs::Answered::never_unrefuted, crate::proofs::Answered::never_quiet))]
+fn answer(
+    model: &Model,
+    region: &Region,
+    best: Option<i64>,
+    c: u32,
+    i: Itv,
+    w: SeqWitness,
+) -> Option<Finding<SeqWitness>>
+    requires of { IsRegionOf model.now region.now.region }
+    requires mine { looks_after model.now c w ≡ true }
+    requires busy { IsBusy model.now region.now.region best i w }
+    ensures none { IfNone result ⊥ }
+    ensures some { IfSome result (IsFinding refutes model.now region.now.region best) }
+    ensures busy { IfSome result (λ f. quiet model.now c region.now.region best → ⊥) }
+{
+    let guess = ask::<OnSequence>(model, region, best, &w, &[i], &[])?;
+    Some(Finding { guess, witness: w })
+}
+
+/// The member at a place.
+fn member_at(members: &[Itv], k: u32) -> Itv
+    ensures { result ≡ member_at members.now k }
+{
+    if k as usize >= members.len() {
+        return Itv(0);
+    }
+    members[k as usize]
+}
+
+/// Whether one of the members at some places has this id.
+#[tactic(auto, using(crate::proofs::Answered::none_named, crate::proofs::Answered::more_named, crate::proofs::Answered::one_named, crate::proofs::Answered::all_named))]
+fn has_id(members: &[Itv], set: &[u32], x: u32) -> bool
+    ensures { result ≡ has (map (name_at members.now) set.now) x }
+{
+    for j in 0..set.len() {
+        if member_at(members, set[j]).0 == x {
+            return true;
+        }
+    }
+    false
+}
+
+/// The ids of the members at some places, in rising order; they lie below a number.
+#[tactic(auto, using(crate::proofs::Marking::none_picked, crate::proofs::Marking::one_picked, crate::proofs::Marking::one_passed, crate::proofs::Marking::all_picked))]
+fn ids_of(alloc: Global, members: &[Itv], set: &[u32], n: u32) -> Result<Few, NoMemory>
+    ensures { IfOk result (λ s. s ≡ ids_of members.now set.now n) }
+{
+    let mut ids = Few::new(alloc);
+    for x in 0..n {
+        if has_id(members, set, x) {
+            ids.push(x)?;
+        }
+    }
+    Ok(ids)
+}
+
+/// How many intervals a model has.
+fn intervals_in(model: &Model) -> u32
+    ensures { result ≡ length model.now.intervals }
+{
+    model.intervals().len() as u32
+}
+
+/// What a witness names members at some places by.
+fn few_ids(alloc: Global, model: &Model, members: &[Itv], set: &[u32]) -> Result<Few, NoMemory>
+    ensures { IfOk result (λ s. s ≡ ids_of members.now set.now (length model.now.intervals)) }
+{
+    ids_of(alloc, members, set, intervals_in(model))
+}
+
+pub fn answer_overload(
+    alloc: Global,
+    model: &Model,
+    region: &Region,
+    best: Option<i64>,
+    c: u32,
+    members: &[Itv],
+    found: &Behind,
+) -> Result<Option<Finding<SeqWitness>>, NoMemory>
+    requires of { IsRegionOf model.now region.now.region }
+    requires busy { IsBusy model.now region.now.region best (member_at members.now found.now.place) (witness.Overload c (ids_of members.now found.now.set.items (length model.now.intervals))) }
+    ensures none { IfOk result (λ o. IfNone o ⊥) }
+    ensures some { IfOk result (λ o. IfSome o (IsFinding refutes model.now region.now.region best)) }
+    ensures busy { IfOk result (λ o. IfSome o (λ f. quiet model.now c region.now.region best → ⊥)) }
+{
+    let s = few_ids(alloc, model, members, &found.set)?;
+    let i = member_at(members, found.place);
+    Ok(answer(model, region, best, c, i, SeqWitness::Overload { c, s }))
+}
+
+pub fn answer_detect(
+    alloc: Global,
+    model: &Model,
+    region: &Region,
+    best: Option<i64>,
+    c: u32,
+    back: bool,
+    members: &[Itv],
+    found: &Behind,
+) -> Result<Option<Finding<SeqWitness>>, NoMemory>
+    requires of { IsRegionOf model.now region.now.region }
+    requires busy { IsBusy model.now region.now.region best (member_at members.now found.now.place) (witness.Detect c (side_of back) (name_at members.now found.now.place) (ids_of members.now found.now.set.items (length model.now.intervals))) }
+    ensures none { IfOk result (λ o. IfNone o ⊥) }
+    ensures some { IfOk result (λ o. IfSome o (IsFinding refutes model.now region.now.region best)) }
+    ensures busy { IfOk result (λ o. IfSome o (λ f. quiet model.now c region.now.region best → ⊥)) }
+{
+    let s = few_ids(alloc, model, members, &found.set)?;
+    let i = member_at(members, found.place);
+    let w = SeqWitness::Detect {
+        c,
+        side: side_of(back),
+        i: i.0,
+        s,
+    };
+    Ok(answer(model, region, best, c, i, w))
+}
+
+pub fn answer_not_end(
+    alloc: Global,
+    model: &Model,
+    region: &Region,
+    best: Option<i64>,
+    c: u32,
+    back: bool,
+    members: &[Itv],
+    found: &Behind,
+) -> Result<Option<Finding<SeqWitness>>, NoMemory>
+    requires of { IsRegionOf model.now region.now.region }
+    requires busy { IsBusy model.now region.now.region best (member_at members.now found.now.place) (witness.NotEnd c (side_of back) (name_at members.now found.now.place) (ids_of members.now found.now.set.items (length model.now.intervals))) }
+    ensures none { IfOk result (λ o. IfNone o ⊥) }
+    ensures some { IfOk result (λ o. IfSome o (IsFinding refutes model.now region.now.region best)) }
+    ensures busy { IfOk result (λ o. IfSome o (λ f. quiet model.now c region.now.region best → ⊥)) }
+{
+    let s = few_ids(alloc, model, members, &found.set)?;
+    let i = member_at(members, found.place);
+    let w = SeqWitness::NotEnd {
+        c,
+        side: side_of(back),
+        i: i.0,
+        s,
+    };
+    Ok(answer(model, region, best, c, i, w))
+}
+
+pub fn answer_edge(
+    alloc: Global,
+    model: &Model,
+    region: &Region,
+    best: Option<i64>,
+    c: u32,
+    back: bool,
+    members: &[Itv],
+    found: &Cut,
+) -> Result<Option<Finding<SeqWitness>>, NoMemory>
+    requires of { IsRegionOf model.now region.now.region }
+    requires busy { IsBusy model.now region.now.region best (member_at members.now found.now.place) (witness.Edge c (side_of back) (name_at members.now found.now.place) (ids_of members.now found.now.s.items (length model.now.intervals)) (ids_of members.now found.now.u.items (length model.now.intervals)) (ids_of members.now found.now.v.items (length model.now.intervals))) }
+    ensures none { IfOk result (λ o. IfNone o ⊥) }
+    ensures some { IfOk result (λ o. IfSome o (IsFinding refutes model.now region.now.region best)) }
+    ensures busy { IfOk result (λ o. IfSome o (λ f. quiet model.now c region.now.region best → ⊥)) }
+{
+    let s = few_ids(alloc, model, members, &found.s)?;
+    let u = few_ids(alloc, model, members, &found.u)?;
+    let v = few_ids(alloc, model, members, &found.v)?;
+    let i = member_at(members, found.place);
+    let w = SeqWitness::Edge {
+        c,
+        side: side_of(back),
+        i: i.0,
+        s,
+        u,
+        v,
+    };
+    Ok(answer(model, region, best, c, i, w))
+}
+
+/// The side of a row.
+fn side_of(back: bool) -> u32
+    ensures { result ≡ side_of back }
+{
+    if back { 1 } else { 0 }
+}

@@ -1,0 +1,250 @@
+//! What is found of a sequence on one side.
+ghost use Rattle.std.specs.Prelude.{◌≡◌, ℕ, ◌≤◌, length, IfOk, IfNone, IfSome};
+ghost use Rattle.region.specs.Looks.{IsRegionOf};
+ghost use Rattle.findings.specs.Found.{IsFinding};
+ghost use Rattle.refute_seq.specs.OnSequence.{refutes};
+ghost use Rattle.prop_sets.specs.Tasks.{quiet};
+ghost use Rattle.prop_sets.specs.Rows.{side_of};
+ghost use Rattle.prop_sets.specs.Sides.{NoEdge, NoDetect, NoNotEnd, IsSideQuiet};
+ghost use Rattle.task_sets.specs.Times.{IsSized};
+ghost use Rattle.theta_passes.specs.Rows.{row_at, times_at, IsNearRow, IsByEst};
+ghost use Rattle.theta_passes.specs.Late.{IsLow};
+ghost use Rattle.prop_sets.specs.Given.{IsOf, IsRowed};
+ghost use Rattle.prop_sets.specs.Orders.{AreSpanned, IsByStart};
+
+use crate::answering::{answer_detect, answer_edge, answer_not_end, answer_overload};
+use crate::numbers::rows_of;
+use crate::passes::{find_edge, find_late, find_overload};
+use findings::Finding;
+use refute_seq::SeqWitness;
+use region::Region;
+use sched_base::{Itv, NoMemory, Seq};
+use sched_model::Model;
+use std::alloc::Global;
+use theta_passes::Row;
+use theta_passes::leaves::tree_of;
+
+/// A constraint without overlap: its number, its sequence and the members of this, in an order that
+/// the call names.
+#[derive(Clone, Copy)]
+pub struct Asked<'a> {
+    pub c: u32,
+    pub p: Seq,
+    pub members: &'a [Itv],
+}
+
+#[tactic(auto, using(crate::proofs::Asking::rowed))]
+fn rows_made(
+    alloc: Global,
+    model: &Model,
+    region: &Region,
+    asked: &Asked<'_>,
+    back: bool,
+    chosen: bool,
+    early: bool,
+) -> Result<Vec<Row>, NoMemory>
+    requires { IsOf model.now asked.now.c asked.now.p region.now.region asked.now.members.now }
+    ensures { IfOk result (λ v. IsRowed model.now asked.now.c asked.now.p region.now.region asked.now.members.now back chosen early v.items) }
+{
+    let _ = model;
+    rows_of(alloc, region, asked.members, chosen, back, early)
+}
+
+/// The rows of the members.
+#[tactic(auto, using(crate::proofs::Asking::few_rowed))]
+fn rows_for(
+    alloc: Global,
+    model: &Model,
+    region: &Region,
+    asked: &Asked<'_>,
+    back: bool,
+    chosen: bool,
+    early: bool,
+) -> Result<Vec<Row>, NoMemory>
+    requires is { IsOf model.now asked.now.c asked.now.p region.now.region asked.now.members.now }
+    requires few { length asked.now.members.now ≤ 500 }
+    requires sorted { IsByStart (side_of back) region.now.region asked.now.members.now }
+    ensures rowed { IfOk result (λ v. IsRowed model.now asked.now.c asked.now.p region.now.region asked.now.members.now back chosen early v.items) }
+    ensures few { IfOk result (λ v. length v.items ≤ 500) }
+    ensures near { IfOk result (λ v. (k : ℕ) → IsNearRow (row_at v.items k)) }
+    ensures sized { IfOk result (λ v. IsSized (times_at v.items)) }
+    ensures sorted { IfOk result (λ v. IsByEst v.items) }
+    ensures spanned { IfOk result (λ v. AreSpanned v.items) }
+    ensures low { IfOk result (λ v. IsLow v.items) }
+{
+    let rows = rows_made(alloc, model, region, asked, back, chosen, early)?;
+    Ok(rows)
+}
+
+/// OVERLOAD and EDGE.
+#[tactic(auto, using(crate::proofs::Asking::busy_overload, crate::proofs::Asking::busy_edge, crate::proofs::Asking::no_edge))]
+fn ask_edges(
+    alloc: Global,
+    model: &Model,
+    region: &Region,
+    best: Option<i64>,
+    back: bool,
+    asked: &Asked<'_>,
+) -> Result<Option<Finding<SeqWitness>>, NoMemory>
+    requires is { IsOf model.now asked.now.c asked.now.p region.now.region asked.now.members.now }
+    requires few { length asked.now.members.now ≤ 500 }
+    requires sorted { IsByStart (side_of back) region.now.region asked.now.members.now }
+    ensures none { IfOk result (λ o. IfNone o (NoEdge (side_of back) region.now.region asked.now.members.now)) }
+    ensures some { IfOk result (λ o. IfSome o (IsFinding refutes model.now region.now.region best)) }
+    ensures busy { IfOk result (λ o. IfSome o (λ f. quiet model.now asked.now.c region.now.region best → ⊥)) }
+{
+    let rows = rows_for(alloc, model, region, asked, back, true, !back)?;
+    let mut tree = tree_of(alloc, &rows)?;
+    if let Some(found) = find_overload(alloc, &rows, &mut tree)? {
+        return answer_overload(alloc, model, region, best, asked.c, asked.members, &found);
+    }
+    if let Some(found) = find_edge(alloc, &rows, &mut tree)? {
+        return answer_edge(
+            alloc,
+            model,
+            region,
+            best,
+            asked.c,
+            back,
+            asked.members,
+            &found,
+        );
+    }
+    Ok(None)
+}
+
+/// DETECT.
+#[tactic(auto, using(crate::proofs::Asking::busy_detect, crate::proofs::Asking::no_detect))]
+fn ask_detects(
+    alloc: Global,
+    model: &Model,
+    region: &Region,
+    best: Option<i64>,
+    back: bool,
+    asked: &Asked<'_>,
+) -> Result<Option<Finding<SeqWitness>>, NoMemory>
+    requires is { IsOf model.now asked.now.c asked.now.p region.now.region asked.now.members.now }
+    requires few { length asked.now.members.now ≤ 500 }
+    requires sorted { IsByStart (side_of back) region.now.region asked.now.members.now }
+    ensures none { IfOk result (λ o. IfNone o (NoDetect (side_of back) region.now.region asked.now.members.now)) }
+    ensures some { IfOk result (λ o. IfSome o (IsFinding refutes model.now region.now.region best)) }
+    ensures busy { IfOk result (λ o. IfSome o (λ f. quiet model.now asked.now.c region.now.region best → ⊥)) }
+{
+    let rows = rows_for(alloc, model, region, asked, back, false, !back)?;
+    if let Some(found) = find_late(alloc, &rows)? {
+        return answer_detect(
+            alloc,
+            model,
+            region,
+            best,
+            asked.c,
+            back,
+            asked.members,
+            &found,
+        );
+    }
+    Ok(None)
+}
+
+/// NOTEND.
+#[tactic(auto, using(crate::proofs::Asking::busy_not_end, crate::proofs::Asking::no_not_end))]
+fn ask_not_ends(
+    alloc: Global,
+    model: &Model,
+    region: &Region,
+    best: Option<i64>,
+    back: bool,
+    asked: &Asked<'_>,
+) -> Result<Option<Finding<SeqWitness>>, NoMemory>
+    requires is { IsOf model.now asked.now.c asked.now.p region.now.region asked.now.members.now }
+    requires few { length asked.now.members.now ≤ 500 }
+    requires sorted { IsByStart (side_of back) region.now.region asked.now.members.now }
+    ensures none { IfOk result (λ o. IfNone o (NoNotEnd (side_of back) region.now.region asked.now.members.now)) }
+    ensures some { IfOk result (λ o. IfSome o (IsFinding refutes model.now region.now.region best)) }
+    ensures busy { IfOk result (λ o. IfSome o (λ f. quiet model.now asked.now.c region.now.region best → ⊥)) }
+{
+    let rows = rows_for(alloc, model, region, asked, back, false, back)?;
+    if let Some(found) = find_late(alloc, &rows)? {
+        return answer_not_end(
+            alloc,
+            model,
+            region,
+            best,
+            asked.c,
+            back,
+            asked.members,
+            &found,
+        );
+    }
+    Ok(None)
+}
+
+/// OVERLOAD alone, which is asked first.
+#[tactic(auto, using(crate::proofs::Asking::busy_overload))]
+fn ask_overload(
+    alloc: Global,
+    model: &Model,
+    region: &Region,
+    best: Option<i64>,
+    asked: &Asked<'_>,
+) -> Result<Option<Finding<SeqWitness>>, NoMemory>
+    requires is { IsOf model.now asked.now.c asked.now.p region.now.region asked.now.members.now }
+    requires few { length asked.now.members.now ≤ 500 }
+    requires sorted { IsByStart 0 region.now.region asked.now.members.now }
+    ensures some { IfOk result (λ o. IfSome o (IsFinding refutes model.now region.now.region best)) }
+    ensures busy { IfOk result (λ o. IfSome o (λ f. quiet model.now asked.now.c region.now.region best → ⊥)) }
+{
+    let rows = rows_for(alloc, model, region, asked, false, true, true)?;
+    let mut tree = tree_of(alloc, &rows)?;
+    if let Some(found) = find_overload(alloc, &rows, &mut tree)? {
+        return answer_overload(alloc, model, region, best, asked.c, asked.members, &found);
+    }
+    Ok(None)
+}
+
+/// What is found of a constraint, by its members in the order of their earliest starts, and in that
+/// of their latest completions: first OVERLOAD, then DETECT, NOTEND and EDGE.
+#[tactic(auto, using(crate::proofs::Asking::side_quiet))]
+pub fn ask_sides(
+    alloc: Global,
+    model: &Model,
+    region: &Region,
+    best: Option<i64>,
+    first: &Asked<'_>,
+    second: &Asked<'_>,
+) -> Result<Option<Finding<SeqWitness>>, NoMemory>
+    requires is { IsOf model.now first.now.c first.now.p region.now.region first.now.members.now }
+    requires also { IsOf model.now second.now.c second.now.p region.now.region second.now.members.now }
+    requires same { first.now.c ≡ second.now.c }
+    requires few { length first.now.members.now ≤ 500 }
+    requires few_too { length second.now.members.now ≤ 500 }
+    requires sorted { IsByStart 0 region.now.region first.now.members.now }
+    requires turned { IsByStart 1 region.now.region second.now.members.now }
+    ensures none { IfOk result (λ o. IfNone o (IsSideQuiet 0 region.now.region first.now.members.now)) }
+    ensures none_turned { IfOk result (λ o. IfNone o (IsSideQuiet 1 region.now.region second.now.members.now)) }
+    ensures some { IfOk result (λ o. IfSome o (IsFinding refutes model.now region.now.region best)) }
+    ensures busy { IfOk result (λ o. IfSome o (λ f. quiet model.now first.now.c region.now.region best → ⊥)) }
+{
+    if let Some(found) = ask_overload(alloc, model, region, best, first)? {
+        return Ok(Some(found));
+    }
+    if let Some(found) = ask_detects(alloc, model, region, best, false, first)? {
+        return Ok(Some(found));
+    }
+    if let Some(found) = ask_detects(alloc, model, region, best, true, second)? {
+        return Ok(Some(found));
+    }
+    if let Some(found) = ask_not_ends(alloc, model, region, best, false, first)? {
+        return Ok(Some(found));
+    }
+    if let Some(found) = ask_not_ends(alloc, model, region, best, true, second)? {
+        return Ok(Some(found));
+    }
+    if let Some(found) = ask_edges(alloc, model, region, best, false, first)? {
+        return Ok(Some(found));
+    }
+    if let Some(found) = ask_edges(alloc, model, region, best, true, second)? {
+        return Ok(Some(found));
+    }
+    Ok(None)
+}

@@ -1,0 +1,222 @@
+//! The propagators of a model.
+ghost use Rattle.std.specs.Prelude.{◌≡◌, ◌<◌, ◌≤◌, ◌^◌, length, true, Some, IsTrue, IfOk, IfNone, IfSome, slice_get};
+ghost use Rattle.sched_base.specs.declared.ids.Itv.{Itv as Itvs};
+ghost use Rattle.sched_model.specs.Data.{Data, has, members_of};
+ghost use Rattle.sched_model.specs.Valid.{IsValid};
+ghost use Rattle.region.specs.declared.types.CellName.{CellName as CellNames};
+ghost use Rattle.region.specs.declared.types.CellName.TheVariants as cell;
+ghost use Rattle.region.specs.Looks.{IsRegionOf};
+ghost use Rattle.findings.specs.Found.{IsFinding};
+ghost use Rattle.findings.specs.Tables.{AreLists, members_in};
+ghost use Rattle.refute_seq.specs.OnSequence.{refutes};
+ghost use Rattle.prop_sets.specs.Tasks.{size_of, sequence_in, sequence_at, members_at, quiet, watching, watching_best, is_bound, is_bound_of};
+ghost use Rattle.prop_sets.specs.Tables.{IsFor};
+ghost use Rattle.prop_sets.specs.Known.{IsStill, AreUnknown};
+
+use crate::known::{Numbers, is_remembered, numbers_in};
+use crate::orders::by_start;
+use crate::sides::{Asked, ask_sides};
+use findings::Finding;
+use refute_seq::{SeqWitness, members_of};
+use region::Region;
+use sched_base::{Itv, List, NoMemory, Seq, at};
+use sched_model::{Constraint, Model};
+use std::alloc::Global;
+
+/// One propagator for each constraint, which is quiet where the constraint isn't one without overlap.
+#[derive(Drop)]
+pub struct PropSets {
+    alloc: Global,
+    /// The members of each one's sequence.
+    members: Vec<List<Itv>>,
+    /// Their numbers when nothing was found of them last: nothing is found while they have these.
+    known: Vec<Option<List<Numbers>>>,
+}
+
+impl std::marker::Model for PropSets {
+    ghost use Rattle.std.specs.Prelude.{◌<◌, ◌^◌, length};
+    ghost use Rattle.prop_sets.specs.Tables.{Table};
+    ghost use Rattle.prop_sets.specs.Known.{AreKnown};
+
+    ghost Value = { Table };
+
+    ghost view = { λ p. record { members = p.members.items } };
+
+    ghost invariant = { λ p. (length p.members.items < 2 ^ 32) × AreKnown p.members.items p.known.items };
+}
+
+fn sequence_in(constraint: &Constraint) -> Option<Seq>
+    ensures { result ≡ sequence_in (Some constraint.now) }
+{
+    match constraint {
+        Constraint::NoOverlap { p, .. } => Some(*p),
+        _ => None,
+    }
+}
+
+/// The sequence of a constraint without overlap.
+fn sequence_at(model: &Model, k: u32) -> Option<Seq>
+    ensures { result ≡ sequence_at model.now k }
+{
+    sequence_in(at(model.constraints(), k as usize)?)
+}
+
+/// The members of a sequence, where there is one.
+fn members_in(alloc: Global, model: &Model, p: Option<Seq>) -> Result<List<Itv>, NoMemory>
+    ensures { IfOk result (λ xs. xs ≡ members_in model.now p) }
+{
+    let mut list = Vec::new(alloc);
+    if let Some(p) = p {
+        list.extend_from_slice(members_of(model, p))?;
+    }
+    Ok(List::from_vec(list))
+}
+
+#[tactic(auto, using(findings::specs::laws::Tables::no_lists, findings::specs::laws::Tables::more_lists, findings::specs::laws::Tables::all_lists))]
+fn members_of_each(alloc: Global, model: &Model, n: u32) -> Result<Vec<List<Itv>>, NoMemory>
+    ensures { IfOk result (λ v. AreLists (members_at model.now) n v.items) }
+{
+    let mut lists = Vec::new(alloc);
+    for k in 0..n {
+        lists.push(members_in(alloc, model, sequence_at(model, k))?)?;
+    }
+    Ok(lists)
+}
+
+/// The members of a sequence, of which a valid model has few.
+fn few_members(model: &Model, p: Seq) -> &[Itv]
+    ensures members { result.now ≡ members_of model.now p }
+    ensures few { length result.now ≤ 500 }
+    ensures valid { IsValid model.now }
+{
+    let _ = model.sequences();
+    members_of(model, p)
+}
+
+/// Nothing is remembered of so many.
+#[tactic(auto, using(crate::proofs::Remembering::none_known, crate::proofs::Remembering::none_more))]
+fn unknown(alloc: Global, n: usize) -> Result<Vec<Option<List<Numbers>>>, NoMemory>
+    ensures { IfOk result (λ v. AreUnknown n v.items) }
+{
+    let mut known = Vec::new(alloc);
+    for k in 0..n {
+        let _ = k;
+        known.push(None)?;
+    }
+    Ok(known)
+}
+
+/// What is found of the members of a sequence.
+#[tactic(auto, using(crate::proofs::Making::is_of))]
+fn ask_members(
+    alloc: Global,
+    model: &Model,
+    region: &Region,
+    best: Option<i64>,
+    c: u32,
+    p: Seq,
+) -> Result<Option<Finding<SeqWitness>>, NoMemory>
+    requires of { IsRegionOf model.now region.now.region }
+    requires within { c < length model.now.constraints }
+    requires sequence { sequence_at model.now c ≡ Some p }
+    ensures none { IfOk result (λ o. IfNone o (IsStill region.now.region (members_of model.now p))) }
+    ensures some { IfOk result (λ o. IfSome o (IsFinding refutes model.now region.now.region best)) }
+    ensures busy { IfOk result (λ o. IfSome o (λ f. quiet model.now c region.now.region best → ⊥)) }
+{
+    let members = few_members(model, p);
+    let xs = by_start(alloc, region, members, false)?;
+    let ys = by_start(alloc, region, members, true)?;
+    let first = Asked { c, p, members: &xs };
+    let second = Asked { c, p, members: &ys };
+    if let Some(found) = ask_sides(alloc, model, region, best, &first, &second)? {
+        return Ok(Some(found));
+    }
+    Ok(None)
+}
+
+impl PropSets {
+    /// The propagators of a model.
+    pub fn new(alloc: Global, model: &Model) -> Result<PropSets, NoMemory>
+        ensures { IfOk result (λ p. IsFor p model.now) }
+    {
+        let n = model.constraints().len() as u32;
+        let members = members_of_each(alloc, model, n)?;
+        let known = unknown(alloc, members.len())?;
+        Ok(PropSets {
+            alloc,
+            members,
+            known,
+        })
+    }
+
+    /// How many there are.
+    pub fn count(&self) -> u32
+        ensures { (m : Data) → IsFor self.now m → result ≡ size_of m }
+    {
+        self.members.len() as u32
+    }
+
+    /// What one of them finds; nothing exactly where it is quiet.
+    pub fn next(
+        &mut self,
+        k: u32,
+        model: &Model,
+        region: &Region,
+        best: Option<i64>,
+    ) -> Result<Option<Finding<SeqWitness>>, NoMemory>
+        requires of { IsFor self.old model.now }
+        requires below { k < size_of model.now }
+        requires region { IsRegionOf model.now region.now.region }
+        ensures kept { (m : Data) → IsFor self.old m → IsFor self.new m }
+        ensures none { IfOk result (λ o. IfNone o (quiet model.now k region.now.region best)) }
+        ensures some { IfOk result (λ o. IfSome o (IsFinding refutes model.now region.now.region best)) }
+        ensures busy { IfOk result (λ o. IfSome o (λ f. quiet model.now k region.now.region best → ⊥)) }
+    {
+        // The model is valid by its type.
+        let _ = model.sequences();
+        let Some(p) = sequence_at(model, k) else {
+            return Ok(None);
+        };
+        let i = k as usize;
+        let now = numbers_in(self.alloc, region, self.members[i].as_slice())?;
+        if is_remembered(&self.known[i], &now) {
+            return Ok(None);
+        }
+        let Some(found) = ask_members(self.alloc, model, region, best, k, p)? else {
+            self.known[i] = Some(List::from_vec(now));
+            return Ok(None);
+        };
+        Ok(Some(found))
+    }
+
+    /// The intervals whose presence it watches.
+    pub fn watched_presences(&self, k: u32) -> &[Itv]
+        requires { (m : Data) × IsFor self.now m × (k < size_of m) }
+        ensures { (m : Data) → IsFor self.now m → (x : Itvs) → IsTrue (watching m k (cell.Presence x)) → IsTrue (has result.now x) }
+    {
+        self.members[k as usize].as_slice()
+    }
+
+    /// The intervals whose bounds it watches.
+    pub fn watched_bounds(&self, k: u32) -> &[Itv]
+        requires { (m : Data) × IsFor self.now m × (k < size_of m) }
+        ensures { (m : Data) → IsFor self.now m → (c : CellNames) → is_bound c ≡ true → IsTrue (watching m k c) → IsTrue (is_bound_of result.now c) }
+    {
+        self.members[k as usize].as_slice()
+    }
+
+    /// Whether it watches the best value.
+    pub fn watches_best(&self, k: u32) -> bool
+        ensures { (m : Data) → result ≡ watching_best m k }
+    {
+        let _ = k;
+        false
+    }
+
+    /// The level on which it is woken: with those that look at two members at a time, before those
+    /// that look at three.
+    pub fn level(&self, k: u32) -> u8 {
+        let _ = k;
+        0
+    }
+}
