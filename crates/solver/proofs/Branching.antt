@@ -16,9 +16,8 @@ use Rattle.region.specs.declared.types.Guess.TheVariants.{Present, Absent, Start
 use Rattle.region.specs.declared.types.Claim.{Claim}
 use Rattle.region.specs.declared.types.Claim.TheVariants as claim
 use Rattle.region.specs.declared.types.Topic.TheVariants.{One}
-use Rattle.region.specs.declared.types.Presence.{Presence}
 use Rattle.region.specs.declared.types.Presence.TheVariants as presence
-use Rattle.region.specs.Cells.{Region, unknown, bounds_of, is_fixed, says_present, says_maybe}
+use Rattle.region.specs.Cells.{Region, unknown, bounds_of, is_fixed, says_present}
 use Rattle.region.specs.Claims.{is_open_at, is_ready_at}
 use Rattle.region.specs.Guesses.{admits_topic, is_ready}
 use Rattle.region.specs.Looks.{IsRegionOf, is_narrowed}

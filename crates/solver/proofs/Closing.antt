@@ -1,18 +1,15 @@
 -- The line that ends a node, what it steps to, and the log with it.
-use Rattle.std.proofs.Common.{◌≡◌, ℕ, ◌+◌, ℤ, Bool, true, false, ◌&&◌, List, [], ◌∷◌, ◌++◌, Option, Some, None, Ok, refl, sym, ap, subst, ◌∙◌, true≢false}
+use Rattle.std.proofs.Common.{◌≡◌, ℕ, ◌+◌, ℤ, Bool, true, ◌&&◌, List, [], ◌∷◌, ◌++◌, Option, Some, None, Ok, refl, sym, ap, subst, ◌∙◌, true≢false}
 use Rattle.std.specs.Prelude.{IfSome, is_some, option_map}
-use Rattle.std.specs.List.{All}
-use Rattle.std.proofs.lemmas.List.Elements.{All-append, All-cons, All-nil}
 use Rattle.sched_model.specs.declared.types.Assignment.{Assignment}
 use Rattle.sched_model.specs.declared.types.Objective.{Objective}
 use Rattle.sched_model.specs.Words.{passes_if_any}
 use Rattle.sched_model.specs.Data.{Data}
 use Rattle.sched_model.specs.Solution.{is_solution, is_better, objective_of}
-use Rattle.sched_model.specs.Valid.{IsValid}
 use Rattle.region.specs.declared.types.Guess.{Guess}
 use Rattle.region.specs.Cells.{Region, is_settled, allows}
 use Rattle.region.specs.Guesses.{splits, with_guess, with_fact}
-use Rattle.region.specs.Looks.{Refuting, IsRegionOf, seen_at}
+use Rattle.region.specs.Looks.{Refuting, seen_at}
 use Rattle.region.specs.laws.Lists.{true_both}
 use Rattle.kernel.specs.declared.types.Witness.{Witness}
 use Rattle.kernel.specs.declared.types.Line.{Line}
@@ -21,14 +18,14 @@ use Rattle.kernel.specs.declared.types.Found.{Found}
 use Rattle.kernel.specs.declared.types.StepFault.{StepFault}
 use Rattle.kernel.specs.declared.types.StepFault.TheVariants.{NotRefuted, NotSplitting, NotSolution}
 use Rattle.kernel.specs.Agenda.{first_in}
-use Rattle.kernel.specs.Steps.{LogState, Node, Steps, done, more, step, step_at, step_on, taken, node_of, unless, closed, best_of, is_wanted, found_in, left_after}
+use Rattle.kernel.specs.Steps.{LogState, Node, Steps, done, more, step_at, step_on, taken, node_of, unless, closed, best_of, is_wanted, found_in, left_after}
 use Rattle.kernel.specs.laws.Outcomes.{same_ok}
 use Rattle.logtext.specs.Logs.{PlainLine}
 use Rattle.engine.specs.Plain.{refutes_plain}
 use Rattle.solver.specs.Cuts.{plain_step}
 use Rattle.solver.specs.Splits.{SplitsWell, IsWellSplit, SplitFrom, derived_after, derived_in}
 use Rattle.solver.specs.Leaves.{settled_assignment, Solves}
-use Rattle.solver.specs.Searching.{Closes, HasValue}
+use Rattle.solver.specs.Searching.{HasValue}
 
 -- steps, one after another
 pub steps_on : {W : Type 0} {refutes : Refuting (Witness W)} {m : Data} {s t u : LogState} {xs ys : List (Line W)} → Steps refutes m s xs t → Steps refutes m t ys u → Steps refutes m s (xs ++ ys) u

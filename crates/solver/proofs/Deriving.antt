@@ -4,17 +4,13 @@ use Rattle.std.specs.List.{All}
 use Rattle.std.proofs.lemmas.List.Elements.{All-append, All-cons, All-nil}
 use Rattle.sched_model.specs.Data.{Data}
 use Rattle.sched_model.specs.Valid.{IsValid}
-use Rattle.region.specs.declared.types.Guess.{Guess}
 use Rattle.region.specs.Cells.{Region}
-use Rattle.region.specs.Guesses.{with_fact}
 use Rattle.region.specs.Looks.{IsRegionOf}
 use Rattle.region.specs.laws.Narrowing.{fact_stays}
-use Rattle.kernel.specs.declared.types.Witness.{Witness}
 use Rattle.kernel.specs.declared.types.Line.TheVariants.{Derive}
 use Rattle.kernel.specs.declared.types.Found.{Found}
-use Rattle.kernel.specs.declared.no_extra.NoWitness.{NoWitness}
 use Rattle.kernel.specs.NoExtra.{numbers_of, is_valid}
-use Rattle.kernel.specs.Derives.{Derives, IsDerived, stays, learns}
+use Rattle.kernel.specs.Derives.{Derives, stays, learns}
 use Rattle.kernel.specs.Steps.{LogState, Node, Steps, done, more, step_at, node_of, best_of}
 use Rattle.kernel.specs.laws.Derives.{derives_more, derives_takes}
 use Rattle.logtext.specs.Logs.{PlainLine, IsLine}
@@ -28,13 +24,12 @@ use Rattle.sched_base.specs.Calls.{Rose}
 use Rattle.std.specs.Result.{IsErrAnd}
 use Rattle.engine.specs.Plain.{refutes_plain}
 use Rattle.engine.specs.Runs.{Led, Broke, held, further, broken, Ends, Counts}
-use Rattle.solver.specs.Cuts.{plain_step}
 use Rattle.solver.specs.Splits.{IsWellSplit, SplitFrom, derived_after, derived_in}
 use Rattle.solver.specs.Searching.{IsSearchLog, IsLogged, IsAtNode, IsSpent, RefutesIf, Stopped, between, within, Breaks, Causes, Derived, GoesOn}
 use Rattle.solver.specs.declared.fault.SolveFault.{SolveFault}
 use Rattle.solver.specs.declared.state.Search.{Search}
 use Rattle.solver.specs.Faults.{passed_on}
-use Rattle.solver.proofs.Closing.{steps_on, splits_on, derived_on, node_first, node_steps, well_split}
+use Rattle.solver.proofs.Closing.{steps_on, splits_on, derived_on, node_first, node_steps}
 use Rattle.solver.proofs.Fitting.{derive_line}
 
 abbrev Plain : Type 0

@@ -1,13 +1,12 @@
 -- The line that ends a node: that a log may hold it, that it is such a split as it should be, and what is left then.
-use Rattle.std.proofs.Common.{◌≡◌, ℕ, ◌+◌, ℤ, Bool, true, false, List, [], ◌∷◌, Option, Some, None, Ok, Err, Result, ◌⊎◌, inl, inr, refl, sym, ap, subst, ◌∙◌, true≢false}
-use Rattle.std.specs.Prelude.{IfOk, IfSome, IsTrue}
-use Rattle.sched_base.specs.declared.list.NoMemory.{NoMemory}
+use Rattle.std.proofs.Common.{◌≡◌, ℕ, ℤ, Bool, true, false, ◌∷◌, Option, Some, None, Ok, ◌⊎◌, inl, inr, refl, sym, subst, ◌∙◌, true≢false}
+use Rattle.std.specs.Prelude.{IfSome}
 use Rattle.sched_model.specs.declared.types.Assignment.{Assignment}
 use Rattle.sched_model.specs.Data.{Data}
 use Rattle.sched_model.specs.Valid.{IsValid}
 use Rattle.region.specs.declared.types.Guess.{Guess}
 use Rattle.region.specs.Cells.{Region, is_settled}
-use Rattle.region.specs.Looks.{Seen, IsRegionOf, seen_at}
+use Rattle.region.specs.Looks.{IsRegionOf, seen_at}
 use Rattle.kernel.specs.declared.types.Line.TheVariants.{Derive, Fail, Split, Sol}
 use Rattle.kernel.specs.NoExtra.{numbers_of, is_valid}
 use Rattle.logtext.specs.Logs.{PlainLine, IsLine}
@@ -16,9 +15,9 @@ use Rattle.engine.specs.declared.stops.Stop.TheVariants.{Quiet, Failed, Capped}
 use Rattle.engine.specs.Plain.{refutes_plain}
 use Rattle.engine.specs.Runs.{Ends, Counts, cap_at}
 use Rattle.propagators.specs.Quiet.{IsQuietRegion}
-use Rattle.solver.specs.Leaves.{settled_assignment, Solves}
+use Rattle.solver.specs.Leaves.{settled_assignment}
 use Rattle.solver.specs.laws.Quiet.{quiet_solves}
-use Rattle.solver.specs.Splits.{SplitsWell, IsWellSplit, derived_after}
+use Rattle.solver.specs.Splits.{IsWellSplit, derived_after}
 use Rattle.kernel.specs.Steps.{LogState, Node, step_at, best_of, closed, left_after, found_in}
 use Rattle.region.specs.Guesses.{with_guess, with_fact}
 use Rattle.solver.specs.Searching.{RefutesIf, Closes, IsSpent, HasValue, QuietUnlessFailed, is_failed, is_capped}
@@ -26,7 +25,7 @@ use Rattle.solver.proofs.Closing.{fail_steps, split_steps, sol_steps}
 use Rattle.solver.proofs.Fitting.{fail_line, split_line, sol_line}
 
 pub closes_line : (m : Data) (r : Region) (best : Option ℤ) (failed : Bool) (line : PlainLine) → IsValid m → IsRegionOf m r → Closes m r best failed line → IsLine numbers_of is_valid line
-closes_line m r best failed (Fail w) valid of h = fail_line m (seen_at r best None) w h
+closes_line m r best failed (Fail w) valid of h = fail_line m (seen_at r best None) w valid h
 closes_line m r best failed (Split g) valid of h = split_line m r g valid of h.0.splits_it
 closes_line m r best failed (Sol a) valid of h = subst (λ b. IsLine numbers_of is_valid (Sol b)) (sym h.1) (sol_line m r valid of h.2.solution)
 closes_line m r best failed (Derive g w) valid of h = absurd h

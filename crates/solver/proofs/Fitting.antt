@@ -1,5 +1,5 @@
 -- The lines of the search are lines that a log may hold.
-use Rattle.std.proofs.Common.{◌≡◌, ℕ, ◌+◌, ◌*◌, ◌<◌, ◌≤◌, ◌^◌, ℤ, pos, negsuc, Bool, true, List, [], ◌∷◌, ◌++◌, length, Option, Some, refl, sym, ap, subst, ◌∙◌, arith, length-append}
+use Rattle.std.proofs.Common.{◌≡◌, ℕ, suc, ◌+◌, ◌*◌, ◌<◌, ◌≤◌, ◌^◌, ℤ, pos, negsuc, true, List, [], ◌∷◌, ◌++◌, length, Option, Some, refl, sym, ap, subst, ◌∙◌, arith, length-append}
 use Rattle.std.specs.Prelude.{◌&&◌, flat_map, map, nat_le, nat_lt, int_lt}
 use Rattle.std.specs.Fmt.{decimal, signed_decimal}
 use Rattle.std.specs.Int.Signed.{mag}
@@ -31,6 +31,7 @@ use Rattle.region.specs.Orders.{SequenceCells, is_before}
 use Rattle.region.specs.Cells.{Region, is_there, settled_slots}
 use Rattle.region.specs.Guesses.{splits}
 use Rattle.region.specs.Looks.{Seen, IsRegionOf, seen_at}
+use Rattle.region.specs.Spelled.{AreSmall}
 use Rattle.region.specs.laws.Lists.{both_true, true_both, placewise-length}
 use Rattle.refute_basic.specs.declared.witness.BasicWitness.{BasicWitness}
 use Rattle.refute_basic.specs.declared.witness.BasicWitness.TheVariants.{Size, Arc, Cycle, Expr, Obj, Leaf}
@@ -44,9 +45,11 @@ use Rattle.refute_hier.specs.declared.witness.HierWitness.TheVariants.{Span, Alt
 use Rattle.refute_hier.specs.Witness.{is_valid as is_valid_hier}
 use Rattle.refute_hier.specs.laws.Spelling.{refuting_valid as hier_valid}
 use Rattle.refute_seq.specs.declared.witness.SeqWitness.{SeqWitness}
-use Rattle.refute_seq.specs.declared.witness.SeqWitness.TheVariants.{Pair, Triple}
-use Rattle.refute_seq.specs.Witness.{is_valid as is_valid_seq}
-use Rattle.refute_seq.specs.laws.Spelling.{refuting_valid as seq_valid}
+use Rattle.refute_seq.specs.declared.witness.SeqWitness.TheVariants.{Pair, Triple, Overload, Edge, NotEnd, Detect}
+use Rattle.refute_seq.specs.Witness.{set_numbers, numbers_of as seq_numbers, is_valid as is_valid_seq}
+use Rattle.refute_seq.specs.OnSequence.{refutes as seq_refutes}
+use Rattle.refute_seq.specs.laws.Spelling.{refuting_valid as seq_valid, small_numbers as seq_small}
+use Rattle.refute_seq.specs.laws.Few.{refuting_few}
 use Rattle.refute_cumul.specs.declared.witness.CumulWitness.{CumulWitness}
 use Rattle.refute_cumul.specs.declared.witness.CumulWitness.TheVariants.{Point}
 use Rattle.refute_cumul.specs.Witness.{is_valid as is_valid_cumul}
@@ -166,9 +169,34 @@ four_short a b c d h =
     let three = both_true (is_number a && is_number b) (is_number c) four.0 in
     let two = both_true (is_number a) (is_number b) three.0 in (count_short a two.0, (count_short b two.1, (count_short c three.1, (count_short d four.1, tt))))
 
-seq_short : (w : SeqWitness) → is_valid_seq w ≡ true → AreShort (witness_words numbers_of (Seq w)) × (length (witness_words numbers_of (Seq w)) ≤ 5)
-seq_short (Pair c a b k) h = ((omega arith, four_short c a b k h), omega arith)
-seq_short (Triple p x y z) h = ((omega arith, four_short p x y z h), omega arith)
+behind_first : (z : ℤ) (zs : List ℤ) → AreSmall (z ∷ zs) → AreSmall zs
+behind_first z zs small i d within = small (suc i) d (omega (arith, within))
+
+-- small numbers are short words
+numbers_short : (zs : List ℤ) → AreSmall zs → AreShort (map signed_decimal zs)
+numbers_short [] small = tt
+numbers_short (z ∷ zs) small = (signed_short z (small 0 z (omega arith)), numbers_short zs (λ i d within. small (suc i) d (omega (arith, within))))
+
+seq_short : (w : SeqWitness) → is_valid_seq w ≡ true → AreShort (witness_words numbers_of (Seq w))
+seq_short (Pair c a b k) h = (omega arith, four_short c a b k h)
+seq_short (Triple p x y z) h = (omega arith, four_short p x y z h)
+seq_short (Overload c s) h = (omega arith, numbers_short (pos c ∷ set_numbers s) (behind_first (pos 2) (pos c ∷ set_numbers s) (seq_small (Overload c s) h)))
+seq_short (Edge c side i s u v) h = (omega arith, numbers_short (pos c ∷ pos side ∷ pos i ∷ (set_numbers s ++ (set_numbers u ++ set_numbers v))) (behind_first (pos 3) (pos c ∷ pos side ∷ pos i ∷ (set_numbers s ++ (set_numbers u ++ set_numbers v))) (seq_small (Edge c side i s u v) h)))
+seq_short (NotEnd c side i s) h = (omega arith, numbers_short (pos c ∷ pos side ∷ pos i ∷ set_numbers s) (behind_first (pos 4) (pos c ∷ pos side ∷ pos i ∷ set_numbers s) (seq_small (NotEnd c side i s) h)))
+seq_short (Detect c side i s) h = (omega arith, numbers_short (pos c ∷ pos side ∷ pos i ∷ set_numbers s) (behind_first (pos 5) (pos c ∷ pos side ∷ pos i ∷ set_numbers s) (seq_small (Detect c side i s) h)))
+
+-- as many words as numbers
+seq_words : (w : SeqWitness) → length (witness_words numbers_of (Seq w)) ≡ length (seq_numbers w)
+seq_words (Pair c a b k) = refl
+seq_words (Triple p x y z) = refl
+seq_words (Overload c s) = ap suc (length-map (pos c ∷ set_numbers s) signed_decimal)
+seq_words (Edge c side i s u v) = ap suc (length-map (pos c ∷ pos side ∷ pos i ∷ (set_numbers s ++ (set_numbers u ++ set_numbers v))) signed_decimal)
+seq_words (NotEnd c side i s) = ap suc (length-map (pos c ∷ pos side ∷ pos i ∷ set_numbers s) signed_decimal)
+seq_words (Detect c side i s) = ap suc (length-map (pos c ∷ pos side ∷ pos i ∷ set_numbers s) signed_decimal)
+
+-- a witness of a sequence that refutes: each of three sets has 2,000 members at most
+seq_few : (m : Data) (l : Seen) (w : SeqWitness) → IsValid m → seq_refutes m l w ≡ true → length (witness_words numbers_of (Seq w)) ≤ 6007
+seq_few m l w valid h = let few = refuting_few m l w valid h in let words = seq_words w in omega (arith, few, words)
 
 cumul_short : (w : CumulWitness) → is_valid_cumul w ≡ true → AreShort (witness_words numbers_of (Cumul w)) × (length (witness_words numbers_of (Cumul w)) ≤ 4)
 cumul_short (Point c t u) h =
@@ -193,28 +221,28 @@ split_line m r g valid of h =
     line_is (Split g) fit (omega arith, words.0) (omega (arith, words.1))
 
 -- a witness that refutes is fit
-pub fail_line : (m : Data) (l : Seen) (w : Witness NoWitness) → refutes_plain m l w ≡ true → IsLine numbers_of is_valid (Fail w)
-fail_line m l (Basic w) h =
+pub fail_line : (m : Data) (l : Seen) (w : Witness NoWitness) → IsValid m → refutes_plain m l w ≡ true → IsLine numbers_of is_valid (Fail w)
+fail_line m l (Basic w) valid h =
     let fit = refuting_valid m l w h in
     let words = witness_short m l w h in
     line_is (Fail (Basic w)) fit (omega arith, words.0) (omega (arith, words.1))
-fail_line m l (Hier w) h =
+fail_line m l (Hier w) valid h =
     let fit = hier_valid m l w h in
     let words = hier_short w fit in
     line_is (Fail (Hier w)) fit (omega arith, words.0) (omega (arith, words.1))
-fail_line m l (Seq w) h =
+fail_line m l (Seq w) valid h =
     let fit = seq_valid m l w h in
-    let words = seq_short w fit in
-    line_is (Fail (Seq w)) fit (omega arith, words.0) (omega (arith, words.1))
-fail_line m l (Cumul w) h =
+    let few = seq_few m l w valid h in
+    line_is (Fail (Seq w)) fit (omega arith, seq_short w fit) (omega (arith, few))
+fail_line m l (Cumul w) valid h =
     let fit = cumul_valid m l w h in
     let words = cumul_short w fit in
     line_is (Fail (Cumul w)) fit (omega arith, words.0) (omega (arith, words.1))
-fail_line m l (State w) h =
+fail_line m l (State w) valid h =
     let fit = state_valid m l w h in
     let words = state_short w fit in
     line_is (Fail (State w)) fit (omega arith, words.0) (omega (arith, words.1))
-fail_line m l (Extra w) h = cc
+fail_line m l (Extra w) valid h = cc
 
 -- and a line that derives
 pub derive_line : (m : Data) (r : Region) (best : Option ℤ) (g : Guess) (w : Witness NoWitness) → IsValid m → IsRegionOf m r → IsDerived refutes_plain m best r g w → IsLine numbers_of is_valid (Derive g w)
@@ -238,10 +266,10 @@ derive_line m r best g (Seq w) valid of is =
     let fit = seq_valid m (seen_at r best (Some g)) w is.refuted in
     let admitted = fit_admitted m r g valid of is.admitted in
     let first = guess_short g admitted in
-    let second = seq_short w fit in
+    let few = seq_few m (seen_at r best (Some g)) w valid is.refuted in
     line_is (Derive g (Seq w)) (true_both (is_fit_guess g) (is_valid_seq w) admitted fit)
-    (omega arith, short_append (guess_words g) (witness_words numbers_of (Seq w)) first.0 second.0)
-    (omega (arith, first.1, second.1, length-append (guess_words g) (witness_words numbers_of (Seq w))))
+    (omega arith, short_append (guess_words g) (witness_words numbers_of (Seq w)) first.0 (seq_short w fit))
+    (omega (arith, first.1, few, length-append (guess_words g) (witness_words numbers_of (Seq w))))
 derive_line m r best g (Cumul w) valid of is =
     let fit = cumul_valid m (seen_at r best (Some g)) w is.refuted in
     let admitted = fit_admitted m r g valid of is.admitted in

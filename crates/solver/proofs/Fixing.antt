@@ -1,12 +1,9 @@
 -- What is fixed stays fixed in each part of a region, and after each fact.
-use Rattle.std.proofs.Common.{◌≡◌, ℕ, ◌<◌, ℤ, Bool, true, false, List, length, Option, refl, sym, ap, subst, ◌∙◌, arith, true≢false}
-use Rattle.std.specs.Prelude.{nat_eq, nat_lt, not, ◌&&◌, int_le, int_lt}
+use Rattle.std.proofs.Common.{◌≡◌, ℕ, ◌<◌, ℤ, Bool, true, false, List, length, Option, refl, sym, subst, ◌∙◌, arith, true≢false}
+use Rattle.std.specs.Prelude.{nat_lt, not, ◌&&◌, int_le, int_lt}
 use Rattle.std.specs.Ordering.{int_eq}
 use Rattle.std.proofs.lemmas.Int.{ints}
-use Rattle.std.proofs.lemmas.Bool.{ltb-true}
-use Rattle.std.proofs.lemmas.Bool.Decides.{nat_tests}
 use Rattle.sched_base.specs.declared.ids.Itv.{Itv}
-use Rattle.sched_base.specs.declared.ids.Seq.{Seq}
 use Rattle.sched_model.specs.Words.{◌implies◌}
 use Rattle.sched_model.specs.Data.{Data}
 use Rattle.region.specs.declared.types.Bounds.{Bounds}
@@ -18,7 +15,7 @@ use Rattle.region.specs.declared.types.Topic.{Topic}
 use Rattle.region.specs.declared.types.Topic.TheVariants.{One, Two}
 use Rattle.region.specs.declared.types.Guess.{Guess}
 use Rattle.region.specs.Cells.{Region, bounds_of, is_fixed, is_there, says_absent, says_present, says_maybe}
-use Rattle.region.specs.Claims.{is_open_at, as_present, guessed, denied}
+use Rattle.region.specs.Claims.{is_open_at, guessed, denied}
 use Rattle.region.specs.Guesses.{topic, admits, admits_topic, splits, is_ready, with_guess, with_fact, with_bounds, with_order, assumed, refused}
 use Rattle.region.specs.laws.Lists.{both_true, length-changed_at}
 use Rattle.region.specs.laws.Intervals.{bounds_elsewhere}

@@ -1,14 +1,13 @@
 -- What the search holds after a run, in the first part of a split, and back at a region that was saved.
-use Rattle.std.proofs.Common.{◌≡◌, ℕ, ◌<◌, ◌≤◌, ℤ, Bool, true, false, List, [], ◌∷◌, ◌++◌, length, Option, Some, None, refl, sym, ap, subst, ◌∙◌, arith}
-use Rattle.std.specs.Prelude.{IsTrue, IfSome}
+use Rattle.std.proofs.Common.{◌≡◌, ℕ, ◌<◌, ◌≤◌, true, false, List, [], ◌∷◌, ◌++◌, length, Some, refl, sym, ap, subst, ◌∙◌, arith}
+use Rattle.std.specs.Prelude.{IfSome}
 use Rattle.std.specs.List.{All}
-use Rattle.std.proofs.lemmas.List.Elements.{All-nil, All-push, All-pop}
+use Rattle.std.proofs.lemmas.List.Elements.{All-push, All-pop}
 use Rattle.sched_model.specs.Data.{Data}
-use Rattle.sched_model.specs.Words.{placewise}
 use Rattle.region.specs.declared.types.CellName.{CellName}
 use Rattle.region.specs.declared.types.Guess.{Guess}
 use Rattle.region.specs.Cells.{Region}
-use Rattle.region.specs.Guesses.{admits, splits, with_guess, with_fact}
+use Rattle.region.specs.Guesses.{admits, splits, with_guess}
 use Rattle.region.specs.Held.{Held, IsHeldOf}
 use Rattle.region.specs.Looks.{IsRegionOf}
 use Rattle.region.specs.laws.Narrowing.{guess_stays, splitting, as_many_bounds}
@@ -64,6 +63,30 @@ sifted_ready p m s xs ready is sifts = record {
   where
     fewer_still : (ks : List Mark) → All (λ (k : Mark). s.intervals.count ≤ k.count) ks → All (λ (k : Mark). xs.count ≤ k.count) ks
     fewer_still ks all = λ n k within. omega (arith, all n k within, sifts.fewer)
+
+-- there is other room for changes
+pub roomy_ready : {P : Type 0} (p : Ghosts P) (m : Data) (s : Search P) (k : ℕ) → IsReady p m s → (let t : Search P = record s { region = record s.region { spare = k } } in IsReady p m t)
+roomy_ready p m s k ready = record {
+  holding = record {
+    of = record { region = ready.holding.of.region; saved = ready.holding.of.saved };
+    pending = pending_kept s.region (record s.region { spare = k }) s.pending refl refl ready.holding.pending;
+    engine = ready.holding.engine;
+    below = ready.holding.below;
+    marks = ready.holding.marks;
+    fewer = ready.holding.fewer;
+    valued = ready.holding.valued;
+  };
+  calm = ready.calm;
+  within = ready.within;
+  holds = ready.holds;
+}
+
+-- the list was sifted, and there may be other room
+abbrev chosen_with : {P : Type 0} → Search P → OpenList → ℕ → Search P
+chosen_with s xs k = record s { intervals = xs; region = record s.region { spare = k } }
+
+pub chosen_is : {P : Type 0} (s t : Search P) → t ≡ record s { intervals = t.intervals } → t ≡ record s { intervals = t.intervals; region = record s.region { spare = t.region.spare } }
+chosen_is s t same = same ∙ ap (chosen_with s t.intervals) (sym (ap (λ u. u.region.spare) same))
 
 pub open_list : {P : Type 0} (p : Ghosts P) (m : Data) (s : Search P) → IsReady p m s → IsOpenList s.region.region s.intervals
 open_list p m s ready = record { within = ready.within; below = ready.holding.below; holds = ready.holds }

@@ -1,7 +1,7 @@
 -- The segments that settled slots leave are no more than the state constraints.
-use Rattle.std.specs.Prelude.{◌&&◌, not, nat_eq, if◌then◌else◌}
+use Rattle.std.specs.Prelude.{not, nat_eq, if◌then◌else◌}
 use Rattle.std.specs.List.{filter_map, filter, cons_option}
-use Rattle.std.proofs.Common.{◌≡◌, ℕ, zero, suc, ◌+◌, ◌<◌, ◌≤◌, ℤ, Bool, true, false, List, [], ◌∷◌, length, Option, Some, None, refl, sym, ap, ◌∙◌, arith}
+use Rattle.std.proofs.Common.{◌≡◌, ℕ, zero, suc, ◌+◌, ◌<◌, ◌≤◌, ℤ, Bool, true, false, List, [], ◌∷◌, length, Option, Some, None, refl, arith}
 use Rattle.std.proofs.lemmas.Bool.Decides.{nat_tests}
 use Rattle.std.proofs.lemmas.List.Filters.{length-filter_both}
 use Rattle.sched_base.specs.declared.ids.Stf.{Stf}
@@ -12,6 +12,7 @@ use Rattle.sched_model.specs.declared.types.Constraint.TheVariants.{Temporal, Lo
 use Rattle.refute_state.specs.declared.stretch.Stretch.{Stretch}
 use Rattle.refute_state.specs.Groups.{is_linked, is_first_of, placed, absorbed, others, with_demand, groups_from, groups_of, are_joined, segment_of, extended, runs_from, runs, canonical_of}
 use Rattle.refute_state.specs.Canonical.{stretch_of}
+use Rattle.base_laws.specs.laws.Numbers.{differs}
 
 -- the segments of one state function are no more than its demands
 placed_one : (i : Stretch) (js : List Stretch) → length (placed i js) ≡ 1 + length js
@@ -54,11 +55,8 @@ demands_from ss cs a (suc k) = length (filter_map (stretch_of ss (record { 0 = a
 abbrev IsOf : List Slot → ℕ → Constraint → Type 0
 IsOf ss h c = (g : Stf) → (h ≡ g.0 → ⊥) → stretch_of ss g c ≡ None
 
-other_number : (h g : ℕ) → (h ≡ g → ⊥) → nat_eq h g ≡ false
-other_number h g other = grind (arith, nat_tests, other)
-
 of_one : (ss : List Slot) (c : Constraint) → (h : ℕ) × IsOf ss h c
-of_one ss (AlwaysEqual h x v i j) = (h.0, λ g other. rw (other_number h.0 g.0 other) refl)
+of_one ss (AlwaysEqual h x v i j) = (h.0, λ g other. rw (differs h.0 g.0 other) refl)
 of_one ss (AlwaysNoState g x) = (0, λ g other. refl)
 of_one ss (Temporal from to equal x y z) = (0, λ g other. refl)
 of_one ss (Logic e) = (0, λ g other. refl)

@@ -8,7 +8,6 @@ use Rattle.std.proofs.lemmas.List.Elements.{All-get_or, All-set, All-from_get_or
 use Rattle.std.proofs.lemmas.List.{length-map}
 use Rattle.std.proofs.lemmas.List.FromFn.{get_or-range_with_len, length-range_with_len}
 use Rattle.sched_model.specs.Data.{Data}
-use Rattle.sched_base.specs.declared.ids.Itv.{Itv}
 use Rattle.region.specs.declared.types.Bounds.{Bounds}
 use Rattle.region.specs.Cells.{Region, unknown, bounds_of, is_fixed, root, root_bounds}
 use Rattle.region.specs.laws.Lists.{true_both}

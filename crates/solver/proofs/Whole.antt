@@ -1,5 +1,5 @@
 -- The text of a whole log, or of a front part of one, as the calls of one search appended it.
-use Rattle.std.proofs.Common.{◌≡◌, ℕ, ◌+◌, ◌≤◌, true, List, [], ◌∷◌, ◌++◌, length, take, drop, Option, Some, None, Result, Ok, Err, refl, sym, ap, subst, ◌∙◌, arith, append_assoc, append-nil, length-append}
+use Rattle.std.proofs.Common.{◌≡◌, ℕ, ◌≤◌, List, [], ◌∷◌, ◌++◌, length, take, drop, Option, Result, Ok, Err, refl, sym, ap, subst, ◌∙◌, arith, append_assoc, append-nil, length-append}
 use Rattle.std.specs.Result.{IsErrAnd}
 use Rattle.std.proofs.lemmas.Grind.{flat_map-append}
 use Rattle.std.proofs.lemmas.List.{take-append-drop, take-append-le}
@@ -10,7 +10,7 @@ use Rattle.sched_base.specs.laws.Appended.{appended_nothing}
 use Rattle.sched_model.specs.declared.types.Solved.{Solved}
 use Rattle.sched_model.specs.Data.{Data}
 use Rattle.kernel.specs.NoExtra.{numbers_of, is_valid}
-use Rattle.kernel.specs.Steps.{LogState, Steps, done, opening}
+use Rattle.kernel.specs.Steps.{LogState, done, opening}
 use Rattle.textline.specs.Lines.{Bytes}
 use Rattle.logtext.specs.Spelling.{head_text, end_text}
 use Rattle.logtext.specs.Logs.{PlainLine, IsLine, plain_text, plain_lines, plain_log}

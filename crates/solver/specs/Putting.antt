@@ -1,5 +1,5 @@
 -- What putting lines to a log does to the bytes that wait and to the desk.
-use Rattle.std.specs.Prelude.{◌≡◌, ℕ, ◌≤◌, true, List, ◌++◌, length, take, drop}
+use Rattle.std.specs.Prelude.{◌≡◌, ℕ, ◌≤◌, true, ◌++◌, length, take, drop}
 use Rattle.sched_base.specs.State.{State}
 use Rattle.sched_base.specs.Calls.{Rose, appended}
 use Rattle.textline.specs.Lines.{Bytes}

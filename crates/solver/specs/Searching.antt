@@ -1,5 +1,5 @@
 -- The search under way: what it holds, and what was written so far.
-use Rattle.std.specs.Prelude.{◌≡◌, ◌⊎◌, ℕ, ◌+◌, ◌≤◌, ◌<◌, ℤ, Bool, true, false, not, ◌&&◌, List, [], ◌∷◌, ◌++◌, length, nat_lt, int_le, Option, Some, None, option_map, is_some, IfSome, Result, Ok, Err, IsTrue, All, ⊤}
+use Rattle.std.specs.Prelude.{◌≡◌, ℕ, ◌+◌, ◌≤◌, ◌<◌, ℤ, Bool, true, false, not, ◌&&◌, List, [], ◌∷◌, ◌++◌, length, int_le, Option, Some, None, option_map, is_some, IfSome, Result, Ok, Err, IsTrue, All, ⊤}
 use Rattle.std.specs.List.{list_all}
 use Rattle.sched_base.specs.declared.ids.Itv.{Itv}
 use Rattle.sched_base.specs.declared.ids.Seq.{Seq}
@@ -12,9 +12,9 @@ use Rattle.sched_model.specs.Valid.{are_distinct}
 use Rattle.sched_model.specs.Solution.{objective_of}
 use Rattle.region.specs.declared.types.Bounds.{Bounds}
 use Rattle.region.specs.declared.types.Guess.{Guess}
-use Rattle.region.specs.Cells.{Region, bounds_of, cells_of, is_settled, says_maybe}
+use Rattle.region.specs.Cells.{Region, bounds_of, cells_of, is_settled}
 use Rattle.region.specs.Guesses.{splits}
-use Rattle.region.specs.Looks.{Seen, seen_at}
+use Rattle.region.specs.Looks.{seen_at}
 use Rattle.region.specs.Held.{IsHeldOf}
 use Rattle.kernel.specs.declared.types.Found.{Found}
 use Rattle.kernel.specs.declared.types.Line.TheVariants.{Derive, Fail, Split, Sol}
@@ -27,7 +27,7 @@ use Rattle.engine.specs.declared.stops.Stop.{Stop}
 use Rattle.engine.specs.declared.stops.Stop.TheVariants.{Quiet, Failed, Capped}
 use Rattle.engine.specs.Engines.{IsFor, IsCalm, AreQuiet}
 use Rattle.engine.specs.Plain.{refutes_plain}
-use Rattle.engine.specs.Runs.{Ends, cap_at}
+use Rattle.engine.specs.Runs.{cap_at}
 use Rattle.solver.specs.declared.fault.SolveFault.{SolveFault}
 use Rattle.solver.specs.declared.fault.SolveFault.TheVariants.{Fault, NoMemory}
 use Rattle.solver.specs.declared.state.Search.{Search}

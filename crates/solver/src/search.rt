@@ -204,18 +204,31 @@ impl<P: Propagator> Search<P> {
         self.pick(model, cut, pair)
     }
 
+    /// Room for the cells that the two parts of a split write.
+    fn make_room(&mut self) -> Result<(), NoMemory>
+        ensures ready { (m : Data) → IsReady P.Propagator m self.old → IsReady P.Propagator m self.new }
+        ensures same { self.new ≡ record self.old { region = record self.old.region { spare = self.new.region.spare } } }
+        ensures room { OnOk result (2 ≤ self.new.region.spare) }
+    {
+        self.region.reserve(2)
+    }
+
     /// What is left of a region that isn't refuted: two parts, or the solution of a settled one, of
     /// which all is quiet.
     fn leave(&mut self, alloc: Global, model: &Model) -> Result<Line<NoWitness>, NoMemory>
         requires ready { IsReady P.Propagator model.now self.old }
         requires quiet { IsTrue (is_settled self.old.region.region) → IsQuietRegion model.now self.old.region.region (best_of self.old.found) }
         ensures ready { IsReady P.Propagator model.now self.new }
-        ensures same { self.new ≡ record self.old { intervals = self.new.intervals } }
+        ensures same { self.new ≡ record self.old { intervals = self.new.intervals; region = record self.old.region { spare = self.new.region.spare } } }
+        ensures room { IfOk result (λ line. (g : GuessData) → line ≡ line_is.Split g → 2 ≤ self.new.region.spare) }
         ensures line { IfOk result (Closes model.now self.old.region.region (best_of self.old.found) false) }
     {
         // The model is valid by its type.
         let _ = model.intervals();
         if let Some(g) = self.choose(model) {
+            // Before the line is put there is room for the save and for the cell of the first part.
+            // That of the second takes the save's place, so `back` is never refused it.
+            self.make_room()?;
             return Ok(Line::Split(g));
         }
         let look = self.region.look(None, None);
@@ -234,7 +247,8 @@ impl<P: Propagator> Search<P> {
         requires stop { RefutesIf model.now self.old.region.region (best_of self.old.found) stop }
         requires settled { IsTrue (is_settled self.old.region.region) → QuietUnlessFailed (AreQuiet P.Propagator model.now self.old.region.region (best_of self.old.found)) stop }
         ensures ready { IsReady P.Propagator model.now self.new }
-        ensures same { self.new ≡ record self.old { intervals = self.new.intervals } }
+        ensures same { self.new ≡ record self.old { intervals = self.new.intervals; region = record self.old.region { spare = self.new.region.spare } } }
+        ensures room { IfOk result (λ line. (g : GuessData) → line ≡ line_is.Split g → 2 ≤ self.new.region.spare) }
         ensures line { IfOk result (Closes model.now self.old.region.region (best_of self.old.found) (is_failed stop)) }
     {
         match stop {

@@ -64,6 +64,10 @@ fn named_by_seq(w: &SeqWitness) -> Option<(Itv, Itv)> {
     match w {
         SeqWitness::Pair { a, b, .. } => Some((Itv(*a), Itv(*b))),
         SeqWitness::Triple { .. } => None,
+        SeqWitness::Overload { .. } => None,
+        SeqWitness::Edge { i, .. } => Some((Itv(*i), Itv(*i))),
+        SeqWitness::NotEnd { i, .. } => Some((Itv(*i), Itv(*i))),
+        SeqWitness::Detect { i, .. } => Some((Itv(*i), Itv(*i))),
     }
 }
 
@@ -174,10 +178,32 @@ impl Weights {
         }
     }
 
+    /// Counts the intervals of a set.
+    fn count_each(&mut self, set: &[u32]) {
+        for n in set {
+            self.raise(Itv(*n));
+        }
+    }
+
+    /// Counts the intervals of the set that a witness names.
+    fn count_set(&mut self, w: &SeqWitness) {
+        match w {
+            SeqWitness::Overload { s, .. } => self.count_each(s.as_slice()),
+            SeqWitness::Edge { s, .. } => self.count_each(s.as_slice()),
+            SeqWitness::NotEnd { s, .. } => self.count_each(s.as_slice()),
+            SeqWitness::Detect { s, .. } => self.count_each(s.as_slice()),
+            SeqWitness::Pair { .. } => {}
+            SeqWitness::Triple { .. } => {}
+        }
+    }
+
     /// Counts the intervals that a witness names which refuted a region.
     pub fn count(&mut self, model: &Model, look: &Look<'_>, w: &Witness<NoWitness>) {
         if let Witness::Cumul(CumulWitness::Point { c, t, .. }) = w {
             self.count_at_work(model, look, *c, *t);
+        }
+        if let Witness::Seq(w) = w {
+            self.count_set(w);
         }
         if let Some((x, y)) = named(model, w) {
             self.raise(x);

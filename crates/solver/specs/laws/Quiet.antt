@@ -14,7 +14,7 @@ use Rattle.sched_model.specs.declared.types.Objective.{Objective}
 use Rattle.sched_model.specs.Words.{◌implies◌, passes, passes_if_any, placewise}
 use Rattle.sched_model.specs.Data.{Data}
 use Rattle.sched_model.specs.Value.{value_of}
-use Rattle.sched_model.specs.Domain.{fits_def, lists_present, are_segments, is_in_domain}
+use Rattle.sched_model.specs.Domain.{fits_def, lists_present, is_in_domain}
 use Rattle.sched_model.specs.Sentences.{holds}
 use Rattle.sched_model.specs.Solution.{is_better, beats}
 use Rattle.sched_model.specs.Valid.{IsValid}
@@ -40,6 +40,7 @@ use Rattle.refute_hier.specs.laws.Settled.{keeps_family, all_unrefuted_hold}
 use Rattle.refute_hier.specs.laws.Relations.{unrefuted_related}
 use Rattle.refute_seq.specs.declared.witness.SeqWitness.{SeqWitness}
 use Rattle.refute_seq.specs.OnSequence.{refutes as seq_refutes}
+use Rattle.refute_seq.specs.Listed.{is_derived as is_derived_seq}
 use Rattle.refute_seq.specs.Order.{settled_orders}
 use Rattle.refute_seq.specs.laws.Ordered.{IsSettledLook, settled_ordered, orders_settled}
 use Rattle.refute_seq.specs.laws.Whole.{orders_present, orders_allowed, keeps_apart, all_unrefuted_hold as all_kept_apart}
@@ -139,7 +140,7 @@ kept_holds m r a (AlwaysNoState g x) same kept = kept.state
 -- no witness of an interval and its parts, of a sequence, or of a cumulative or a state function refutes
 pub record NoneRefutes (m : Data) (l : Seen) : Type 0 where
   pub hier : (w : HierWitness) → hier_refutes m l w ≡ false
-  pub seq : (w : SeqWitness) → seq_refutes m l w ≡ false
+  pub seq : (w : SeqWitness) → is_derived_seq w ≡ true → seq_refutes m l w ≡ false
   pub cumul : (w : CumulWitness) → cumul_refutes m l w ≡ false
   pub state : (w : StateWitness) → state_refutes m l w ≡ false
 
@@ -178,7 +179,7 @@ quiet_solves m r best valid of settled quiet = unrefuted_solves m (seen_at r bes
     (λ w derived. quiet.unrefuted (witness.Basic w) None derived refl)
     (record {
       hier = λ w. quiet.unrefuted (witness.Hier w) None refl refl;
-      seq = λ w. quiet.unrefuted (witness.Seq w) None refl refl;
+      seq = λ w derived. quiet.unrefuted (witness.Seq w) None derived refl;
       cumul = λ w. quiet.unrefuted (witness.Cumul w) None refl refl;
       state = λ w. quiet.unrefuted (witness.State w) None refl refl;
     })

@@ -1,4 +1,4 @@
-use Rattle.std.proofs.Common.{rules, w64, SFits}
+use Rattle.std.proofs.Common.{rules}
 use Rattle.solver.proofs.Branching.{early_end, late_end}
 use Rattle.solver.proofs.branch.cut_end.Goals as goal
 

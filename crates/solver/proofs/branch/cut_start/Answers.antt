@@ -1,4 +1,4 @@
-use Rattle.std.proofs.Common.{rules, w64, SFits}
+use Rattle.std.proofs.Common.{rules}
 use Rattle.solver.proofs.Branching.{early_start, late_start}
 use Rattle.solver.proofs.branch.cut_start.Goals as goal
 

@@ -1,4 +1,4 @@
-use Rattle.std.proofs.Common.{rules, ◌≡◌, Ok, Err, refl, sym, ap, subst, ◌∙◌}
+use Rattle.std.proofs.Common.{Ok, Err, refl, sym, ap, subst}
 use Rattle.solver.specs.declared.fault.SolveFault.TheVariants.{Fault, NoMemory}
 use Rattle.sched_base.specs.State.{State}
 use Rattle.solver.specs.Putting.{Puts}

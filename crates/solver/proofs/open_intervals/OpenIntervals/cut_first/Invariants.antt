@@ -1,4 +1,4 @@
-use Rattle.std.proofs.Common.{◌≡◌, ℕ, ◌-◌, Option, Some, None}
+use Rattle.std.proofs.Common.{◌≡◌, ◌-◌, None}
 use Rattle.std.specs.Prelude.{IfSome}
 use Rattle.solver.specs.OpenIntervals.{IsOpenList, Sifts}
 use Rattle.solver.specs.Searching.{CutsRegion}

@@ -1,4 +1,3 @@
-use Rattle.std.proofs.Common.{arith}
 use Rattle.solver.proofs.Sifting.{leaves_by}
 use Rattle.solver.proofs.open_intervals.OpenIntervals.leave.Goals as goal
 

@@ -1,4 +1,4 @@
-use Rattle.std.proofs.Common.{◌≡◌, sym, subst, ◌∙◌}
+use Rattle.std.proofs.Common.{sym, subst, ◌∙◌}
 use Rattle.kernel.specs.Steps.{best_of}
 use Rattle.engine.specs.Engines.{AreQuiet}
 use Rattle.solver.specs.declared.state.Search.{Search}

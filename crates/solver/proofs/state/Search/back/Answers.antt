@@ -1,4 +1,4 @@
-use Rattle.std.proofs.Common.{rules, ◌≡◌, ◌<◌, false, refl, sym, ap, subst, ◌∙◌, arith, true≢false}
+use Rattle.std.proofs.Common.{rules, ◌≡◌, ◌<◌, refl, sym, ap, subst, true≢false}
 use Rattle.region.specs.Guesses.{turned}
 use Rattle.kernel.specs.Steps.{best_of}
 use Rattle.engine.specs.Engines.{IsCalm}

@@ -1,5 +1,4 @@
-use Rattle.std.proofs.Common.{◌≡◌, sym, ap, subst, ◌∙◌}
-use Rattle.kernel.specs.Steps.{best_of}
+use Rattle.std.proofs.Common.{sym, subst}
 use Rattle.kernel.specs.Pending.{after_saved}
 use Rattle.engine.specs.Engines.{IsCalm, AreQuiet}
 use Rattle.engine.specs.declared.stops.EngineFault.TheVariants as fault

@@ -1,4 +1,3 @@
-use Rattle.std.proofs.Common.{◌≡◌, false, sym, subst}
 use Rattle.kernel.specs.Steps.{best_of}
 use Rattle.engine.specs.laws.Calm.{quiet_is_calm}
 use Rattle.solver.proofs.state.Search.rouse.Goals as goal

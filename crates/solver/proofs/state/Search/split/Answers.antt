@@ -1,4 +1,4 @@
-use Rattle.std.proofs.Common.{rules, ◌≡◌, false, refl, sym, ap, subst, ◌∙◌}
+use Rattle.std.proofs.Common.{rules, ◌≡◌, refl, sym, subst}
 use Rattle.region.specs.Guesses.{turned}
 use Rattle.engine.specs.Engines.{AreQuiet}
 use Rattle.kernel.specs.Steps.{best_of}
