@@ -1,10 +1,12 @@
--- What clap takes of the words of `solve`: a word that looks as an option is no value of `--nodes`.
+-- What clap takes of the words: a word that looks as an option is no value of `--nodes`.
 use Rattle.std.proofs.Common.{◌≡◌, Bool, true, false, refl, sym, ap, ◌∙◌, List, [], ◌∷◌, Option, Some, None, option_map, codes, eqb-true}
-use Rattle.std.specs.Prelude.{◌||◌, option_and_then, if◌then◌else◌}
+use Rattle.std.specs.Prelude.{◌||◌, option_and_then, unwrap_or, if◌then◌else◌}
 use Rattle.std.specs.Str.{bytes_eq}
 use Rattle.std.proofs.lemmas.Bool.{or_right, or_left}
-use Rattle.command_line.specs.Commands.{Command, Parts, Word, is_option, limit_of, parts_of, placed, solve_in, solve_of, stripped, with_argument, with_limit}
-use Rattle.command_line.specs.Found.{listed, solve_found}
+use Rattle.command_line.specs.declared.commands.Verb.{Verb}
+use Rattle.command_line.specs.declared.commands.Verb.TheVariants as verb
+use Rattle.command_line.specs.Commands.{Parts, Word, check_in, command_by, command_for, gen_in, is_option, limit_of, parts_of, placed, show_in, solve_in, stripped, trial_in, verify_in, with_argument, with_limit}
+use Rattle.command_line.specs.Found.{arguments_found, listed}
 use Rattle.base_laws.specs.laws.Truth.{alone}
 
 abbrev pub taken_of : Bool → List Word → Option Parts
@@ -16,8 +18,9 @@ taken_of false (w ∷ ws) =
     else (if bytes_eq w (codes "--nodes") then taken_of true ws
     else placed (stripped (codes "--nodes=") w) w (taken_of false ws))
 
+-- the arguments and the value of `--nodes`, each where there is one
 abbrev pub Taken : Type 0
-Taken = (Word × Word) × Option Word
+Taken = Option Word × Option Word × Option Word × Option Word × Option Word
 
 -- at most one
 abbrev pub limits_from : List Word → Option (Option Word)
@@ -25,27 +28,22 @@ limits_from [] = Some None
 limits_from (n ∷ []) = Some (Some n)
 limits_from _ = None
 
-abbrev pub pair_from : List Word → Option (Word × Word)
-pair_from (m ∷ l ∷ []) = Some (m, l)
-pair_from _ = None
+-- at most four
+abbrev pub answer_from : List Word → Option Word → Option Taken
+answer_from [] n = Some (None, None, None, None, n)
+answer_from (a ∷ []) n = Some (Some a, None, None, None, n)
+answer_from (a ∷ b ∷ []) n = Some (Some a, Some b, None, None, n)
+answer_from (a ∷ b ∷ c ∷ []) n = Some (Some a, Some b, Some c, None, n)
+answer_from (a ∷ b ∷ c ∷ d ∷ []) n = Some (Some a, Some b, Some c, Some d, n)
+answer_from _ n = None
 
 abbrev pub taken_from : Parts → Option Taken
-taken_from p = option_and_then (λ n. option_map (λ ml. (ml, n)) (pair_from p.arguments)) (limits_from p.limits)
+taken_from p = option_and_then (answer_from p.arguments) (limits_from p.limits)
 
 abbrev pub all_taken : List Word → Option Taken
 all_taken ws = option_and_then taken_from (taken_of false ws)
 
-abbrev pub taken_found : Option Word → Option Word → Option Word → Option Taken
-taken_found (Some m) (Some l) n = Some ((m, l), n)
-taken_found _ _ n = None
-
-abbrev pub taken_somes : Taken → Option Word × Option Word × Option Word
-taken_somes t = (Some t.0.0, Some t.0.1, t.1)
-
--- ---- the definition says the same, once N is tested
-
-abbrev pub tested : Taken → Option Command
-tested t = solve_in (t.0.0 ∷ t.0.1 ∷ []) (limit_of (listed t.1))
+-- ---- the definition says the same, once what `--nodes` gives is tested
 
 abbrev has_option : List Word → Bool
 has_option [] = false
@@ -93,37 +91,114 @@ no_limit [] is = absurd (cc is)
 no_limit (b ∷ []) is = absurd (cc is)
 no_limit (b ∷ c ∷ rest) is = ap (λ x. limit_of ((x ∷ c ∷ rest) ∷ [])) (eqb-true b 45 is)
 
-none_solved : (arguments : List Word) → solve_in arguments None ≡ None
-none_solved [] = refl
-none_solved (a ∷ []) = refl
-none_solved (a ∷ b ∷ []) = refl
-none_solved (a ∷ b ∷ c ∷ rest) = refl
+-- no command, whatever its arguments: without a limit, ...
+unlimited_solve : (arguments : List Word) → solve_in arguments None ≡ None
+unlimited_solve [] = refl
+unlimited_solve (a ∷ []) = refl
+unlimited_solve (a ∷ b ∷ []) = refl
+unlimited_solve (a ∷ b ∷ c ∷ more) = refl
 
-not_solved : (arguments limits : List Word) → has_option limits ≡ true → solve_in arguments (limit_of limits) ≡ None
-not_solved arguments [] has = absurd (cc has)
-not_solved arguments (n ∷ []) has = ap (solve_in arguments) (no_limit n (alone (is_option n) has)) ∙ none_solved arguments
-not_solved arguments (n ∷ k ∷ rest) has = none_solved arguments
+unlimited_trial : (arguments : List Word) → trial_in arguments None ≡ None
+unlimited_trial [] = refl
+unlimited_trial (a ∷ []) = refl
+unlimited_trial (a ∷ b ∷ []) = refl
+unlimited_trial (a ∷ b ∷ c ∷ []) = refl
+unlimited_trial (a ∷ b ∷ c ∷ d ∷ []) = refl
+unlimited_trial (a ∷ b ∷ c ∷ d ∷ e ∷ more) = refl
 
-tested_is : (arguments limits : List Word) → option_and_then tested (taken_from (record { arguments = arguments; limits = limits })) ≡ solve_in arguments (limit_of limits)
-tested_is [] [] = refl
-tested_is (a ∷ []) [] = refl
-tested_is (a ∷ b ∷ []) [] = refl
-tested_is (a ∷ b ∷ c ∷ rest) [] = refl
-tested_is [] (n ∷ []) = refl
-tested_is (a ∷ []) (n ∷ []) = refl
-tested_is (a ∷ b ∷ []) (n ∷ []) = refl
-tested_is (a ∷ b ∷ c ∷ rest) (n ∷ []) = refl
-tested_is arguments (n ∷ k ∷ rest) = sym (none_solved arguments)
+-- ... or with `--nodes` where it doesn't belong
+no_check : (arguments : List Word) (n : Word) (rest : List Word) → check_in arguments (n ∷ rest) ≡ None
+no_check [] n rest = refl
+no_check (a ∷ []) n rest = refl
+no_check (a ∷ b ∷ []) n rest = refl
+no_check (a ∷ b ∷ c ∷ more) n rest = refl
 
-joined : (x y : Option Parts) → Near x y → option_and_then tested (option_and_then taken_from x) ≡ option_and_then (λ p. solve_in p.arguments (limit_of p.limits)) y
-joined x y (alike None) = refl
-joined x y (alike (Some p)) = tested_is p.arguments p.limits
-joined x y (missed p has) = sym (not_solved p.arguments p.limits has)
+no_verify : (arguments : List Word) (n : Word) (rest : List Word) → verify_in arguments (n ∷ rest) ≡ None
+no_verify [] n rest = refl
+no_verify (a ∷ []) n rest = refl
+no_verify (a ∷ b ∷ []) n rest = refl
+no_verify (a ∷ b ∷ c ∷ more) n rest = refl
 
-pub solve_is : (ws : List Word) → option_and_then tested (all_taken ws) ≡ solve_of ws
-solve_is ws = joined (taken_of false ws) (parts_of false ws) (near_of false ws)
+no_show : (arguments : List Word) (n : Word) (rest : List Word) → show_in arguments (n ∷ rest) ≡ None
+no_show [] n rest = refl
+no_show (a ∷ []) n rest = refl
+no_show (a ∷ b ∷ more) n rest = refl
 
-pub found_tested : (a b n : Option Word) → option_and_then tested (taken_found a b n) ≡ solve_found a b n
-found_tested None b n = refl
-found_tested (Some a) None n = refl
-found_tested (Some a) (Some b) n = refl
+no_gen : (arguments : List Word) (n : Word) (rest : List Word) → gen_in arguments (n ∷ rest) ≡ None
+no_gen [] n rest = refl
+no_gen (a ∷ []) n rest = refl
+no_gen (a ∷ b ∷ []) n rest = refl
+no_gen (a ∷ b ∷ c ∷ []) n rest = refl
+no_gen (a ∷ b ∷ c ∷ d ∷ more) n rest = refl
+
+not_for : (v : Verb) (arguments : List Word) (n : Word) (rest : List Word) → limit_of (n ∷ rest) ≡ None → command_for v (record { arguments = arguments; limits = n ∷ rest }) ≡ None
+not_for verb.Solve arguments n rest none = ap (solve_in arguments) none ∙ unlimited_solve arguments
+not_for verb.Check arguments n rest none = no_check arguments n rest
+not_for verb.Verify arguments n rest none = no_verify arguments n rest
+not_for verb.Show arguments n rest none = no_show arguments n rest
+not_for verb.Gen arguments n rest none = no_gen arguments n rest
+not_for verb.Trial arguments n rest none = ap (trial_in arguments) none ∙ unlimited_trial arguments
+
+not_limited : (v : Verb) (arguments limits : List Word) → has_option limits ≡ true → command_for v (record { arguments = arguments; limits = limits }) ≡ None
+not_limited v arguments [] has = absurd (cc has)
+not_limited v arguments (n ∷ []) has = not_for v arguments n [] (no_limit n (alone (is_option n) has))
+not_limited v arguments (n ∷ k ∷ rest) has = not_for v arguments n (k ∷ rest) refl
+
+many : (v : Verb) (a b c d e : Word) (more limits : List Word) → command_for v (record { arguments = a ∷ b ∷ c ∷ d ∷ e ∷ more; limits = limits }) ≡ None
+many verb.Solve a b c d e more limits = refl
+many verb.Check a b c d e more limits = refl
+many verb.Verify a b c d e more limits = refl
+many verb.Show a b c d e more limits = refl
+many verb.Gen a b c d e more limits = refl
+many verb.Trial a b c d e more limits = refl
+
+too_many : (v : Verb) (arguments limits : List Word) → taken_from (record { arguments = arguments; limits = limits }) ≡ None → command_for v (record { arguments = arguments; limits = limits }) ≡ None
+too_many v [] [] is = absurd (cc is)
+too_many v (a ∷ []) [] is = absurd (cc is)
+too_many v (a ∷ b ∷ []) [] is = absurd (cc is)
+too_many v (a ∷ b ∷ c ∷ []) [] is = absurd (cc is)
+too_many v (a ∷ b ∷ c ∷ d ∷ []) [] is = absurd (cc is)
+too_many v (a ∷ b ∷ c ∷ d ∷ e ∷ more) [] is = many v a b c d e more []
+too_many v [] (n ∷ []) is = absurd (cc is)
+too_many v (a ∷ []) (n ∷ []) is = absurd (cc is)
+too_many v (a ∷ b ∷ []) (n ∷ []) is = absurd (cc is)
+too_many v (a ∷ b ∷ c ∷ []) (n ∷ []) is = absurd (cc is)
+too_many v (a ∷ b ∷ c ∷ d ∷ []) (n ∷ []) is = absurd (cc is)
+too_many v (a ∷ b ∷ c ∷ d ∷ e ∷ more) (n ∷ []) is = many v a b c d e more (n ∷ [])
+too_many v arguments (n ∷ k ∷ rest) is = not_for v arguments n (k ∷ rest) refl
+
+none_by : (v : Verb) (x y : Option Parts) → Near x y → option_and_then taken_from x ≡ None → option_and_then (command_for v) y ≡ None
+none_by v x y (alike None) is = refl
+none_by v x y (alike (Some p)) is = too_many v p.arguments p.limits is
+none_by v x y (missed p has) is = not_limited v p.arguments p.limits has
+
+-- words that clap doesn't take are no command
+pub not_taken : (v : Verb) (ws : List Word) → all_taken ws ≡ None → command_by v ws ≡ None
+not_taken v ws is = none_by v (taken_of false ws) (parts_of false ws) (near_of false ws) is
+
+abbrev pub found : Taken → Parts
+found t = record { arguments = arguments_found t.0 t.1 t.2 t.3; limits = listed t.4 }
+
+from_taken : (arguments limits : List Word) (t : Taken) → taken_from (record { arguments = arguments; limits = limits }) ≡ Some t → record { arguments = arguments; limits = limits } ≡ found t
+from_taken [] [] t is = ap (λ o. found (unwrap_or o t)) is
+from_taken (a ∷ []) [] t is = ap (λ o. found (unwrap_or o t)) is
+from_taken (a ∷ b ∷ []) [] t is = ap (λ o. found (unwrap_or o t)) is
+from_taken (a ∷ b ∷ c ∷ []) [] t is = ap (λ o. found (unwrap_or o t)) is
+from_taken (a ∷ b ∷ c ∷ d ∷ []) [] t is = ap (λ o. found (unwrap_or o t)) is
+from_taken (a ∷ b ∷ c ∷ d ∷ e ∷ more) [] t is = absurd (cc is)
+from_taken [] (n ∷ []) t is = ap (λ o. found (unwrap_or o t)) is
+from_taken (a ∷ []) (n ∷ []) t is = ap (λ o. found (unwrap_or o t)) is
+from_taken (a ∷ b ∷ []) (n ∷ []) t is = ap (λ o. found (unwrap_or o t)) is
+from_taken (a ∷ b ∷ c ∷ []) (n ∷ []) t is = ap (λ o. found (unwrap_or o t)) is
+from_taken (a ∷ b ∷ c ∷ d ∷ []) (n ∷ []) t is = ap (λ o. found (unwrap_or o t)) is
+from_taken (a ∷ b ∷ c ∷ d ∷ e ∷ more) (n ∷ []) t is = absurd (cc is)
+from_taken arguments (n ∷ k ∷ rest) t is = absurd (cc is)
+
+some_by : (x y : Option Parts) (t : Taken) → Near x y → option_and_then taken_from x ≡ Some t → y ≡ Some (found t)
+some_by x y t (alike None) is = absurd (cc is)
+some_by x y t (alike (Some p)) is = ap Some (from_taken p.arguments p.limits t is)
+some_by x y t (missed p has) is = absurd (cc is)
+
+-- and those that it takes have the parts that it finds
+pub found_taken : (ws : List Word) (t : Taken) → all_taken ws ≡ Some t → parts_of false ws ≡ Some (found t)
+found_taken ws t is = some_by (taken_of false ws) (parts_of false ws) t (near_of false ws) is

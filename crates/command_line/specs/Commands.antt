@@ -2,16 +2,22 @@
 use Rattle.std.specs.Prelude.{ℕ, ◌==◌, ◌&&◌, Bool, true, false, codes, length, List, [], ◌∷◌, nat_le, Option, Some, None, option_map, option_and_then, if◌then◌else◌}
 use Rattle.std.specs.Str.{all_ascii_digits, bytes_eq}
 use Rattle.std.specs.Str.Parse.{digits_value}
+use Rattle.modelgen.specs.Generated.{are_within}
+use Rattle.command_line.specs.declared.shop.Shop.{Shop}
+use Rattle.command_line.specs.declared.commands.Verb.{Verb}
+use Rattle.command_line.specs.declared.commands.Verb.TheVariants as verb
 
 abbrev pub Word : Type 0
 Word = List ℕ
 
--- the words MODEL and LOG or SCHEDULE, and the limit on nodes
+-- the words MODEL and LOG or SCHEDULE, the job shop that SEED, JOBS and MACHINES give, and the limit on nodes
 pub data Command : Type 0 where
   Solve : Word → Word → ℕ → Command
   Check : Word → Word → Command
   Verify : Word → Word → Command
   Show : Word → Command
+  Gen : Shop → Command
+  Trial : Shop → Word → ℕ → Command
 
 -- ---- options and arguments
 
@@ -65,38 +71,75 @@ limit_of [] = Some 100000
 limit_of (n ∷ []) = if is_limit n then Some (digits_value 10 n) else None
 limit_of _ = None
 
+-- ---- job shops
+
+-- digits, one at least and so many at most
+abbrev pub is_number : ℕ → Word → Bool
+is_number most w = all_ascii_digits w && nat_le 1 (length w) && nat_le (length w) most
+
+abbrev pub number_of : ℕ → Word → Option ℕ
+number_of most w = if is_number most w then Some (digits_value 10 w) else None
+
+-- with as many jobs and machines as a generated model may have
+abbrev pub shop_in : Option ℕ → Option ℕ → Option ℕ → Option Shop
+shop_in (Some s) (Some j) (Some m) = if are_within j m then Some (record { seed = s; jobs = j; machines = m }) else None
+shop_in _ _ _ = None
+
+-- a seed of 18 digits at most, and numbers of jobs and of machines of 4 at most
+abbrev pub shop_of : Word → Word → Word → Option Shop
+shop_of seed jobs machines = shop_in (number_of 18 seed) (number_of 4 jobs) (number_of 4 machines)
+
 -- ---- the commands
 
-abbrev pub one_in : List Word → List Word → Option Word
-one_in (a ∷ []) [] = Some a
-one_in _ _ = None
-
-abbrev pub two_in : List Word → List Word → Option (Word × Word)
-two_in (a ∷ b ∷ []) [] = Some (a, b)
-two_in _ _ = None
+-- which command the first word is
+abbrev pub verb_of : Word → Option Verb
+verb_of name =
+    if bytes_eq name (codes "solve") then Some verb.Solve
+    else (if bytes_eq name (codes "check") then Some verb.Check
+    else (if bytes_eq name (codes "verify") then Some verb.Verify
+    else (if bytes_eq name (codes "show") then Some verb.Show
+    else (if bytes_eq name (codes "gen") then Some verb.Gen
+    else (if bytes_eq name (codes "trial") then Some verb.Trial
+    else None)))))
 
 abbrev pub solve_in : List Word → Option ℕ → Option Command
 solve_in (model ∷ log ∷ []) (Some n) = Some (Solve model log n)
 solve_in _ _ = None
 
--- one argument and no `--nodes`
-abbrev pub one_of : List Word → Option Word
-one_of ws = option_and_then (λ p. one_in p.arguments p.limits) (parts_of false ws)
+abbrev pub check_in : List Word → List Word → Option Command
+check_in (model ∷ log ∷ []) [] = Some (Check model log)
+check_in _ _ = None
 
--- two arguments and no `--nodes`
-abbrev pub two_of : List Word → Option (Word × Word)
-two_of ws = option_and_then (λ p. two_in p.arguments p.limits) (parts_of false ws)
+abbrev pub verify_in : List Word → List Word → Option Command
+verify_in (model ∷ schedule ∷ []) [] = Some (Verify model schedule)
+verify_in _ _ = None
 
--- two arguments, and `--nodes` at most once
-abbrev pub solve_of : List Word → Option Command
-solve_of ws = option_and_then (λ p. solve_in p.arguments (limit_of p.limits)) (parts_of false ws)
+abbrev pub show_in : List Word → List Word → Option Command
+show_in (model ∷ []) [] = Some (Show model)
+show_in _ _ = None
+
+abbrev pub gen_in : List Word → List Word → Option Command
+gen_in (seed ∷ jobs ∷ machines ∷ []) [] = option_map Gen (shop_of seed jobs machines)
+gen_in _ _ = None
+
+abbrev pub trial_in : List Word → Option ℕ → Option Command
+trial_in (seed ∷ jobs ∷ machines ∷ log ∷ []) (Some n) = option_map (λ s. Trial s log n) (shop_of seed jobs machines)
+trial_in _ _ = None
+
+-- all arguments are there, and no others; `--nodes` belongs to `solve` and `trial` alone, at most once
+abbrev pub command_for : Verb → Parts → Option Command
+command_for verb.Solve p = solve_in p.arguments (limit_of p.limits)
+command_for verb.Check p = check_in p.arguments p.limits
+command_for verb.Verify p = verify_in p.arguments p.limits
+command_for verb.Show p = show_in p.arguments p.limits
+command_for verb.Gen p = gen_in p.arguments p.limits
+command_for verb.Trial p = trial_in p.arguments (limit_of p.limits)
+
+-- the command of the words behind the first
+abbrev pub command_by : Verb → List Word → Option Command
+command_by v ws = option_and_then (command_for v) (parts_of false ws)
 
 -- the command of all the words
 abbrev pub command_of : List Word → Option Command
 command_of [] = None
-command_of (name ∷ ws) =
-    if bytes_eq name (codes "solve") then solve_of ws
-    else (if bytes_eq name (codes "check") then option_map (λ p. Check p.0 p.1) (two_of ws)
-    else (if bytes_eq name (codes "verify") then option_map (λ p. Verify p.0 p.1) (two_of ws)
-    else (if bytes_eq name (codes "show") then option_map Show (one_of ws)
-    else None)))
+command_of (name ∷ ws) = option_and_then (λ v. command_by v ws) (verb_of name)

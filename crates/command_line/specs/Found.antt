@@ -1,6 +1,10 @@
 -- What the values that a parse found say.
-use Rattle.std.specs.Prelude.{ℕ, ◌≤◌, List, [], ◌∷◌, Option, Some, None, ⊤}
-use Rattle.command_line.specs.Commands.{Command, Solve, Check, Verify, Show, Word, limit_of, solve_in}
+use Rattle.std.specs.Prelude.{◌≡◌, ℕ, ◌≤◌, true, List, [], ◌∷◌, Option, Some, None, codes, ⊤}
+use Rattle.clap.specs.declared.parser.matches.Found.{Found}
+use Rattle.clap.specs.Matches.{first_value}
+use Rattle.modelgen.specs.Generated.{are_within}
+use Rattle.command_line.specs.Commands.{Command, Solve, Check, Verify, Show, Gen, Trial, Parts, Word}
+use Rattle.command_line.specs.declared.shop.Shop.{Shop}
 use Rattle.command_line.specs.declared.commands.Command as code
 use Rattle.command_line.specs.declared.commands.Command.TheVariants as view
 
@@ -8,13 +12,19 @@ abbrev pub listed : Option Word → List Word
 listed None = []
 listed (Some w) = w ∷ []
 
-abbrev pub two_found : Option Word → Option Word → Option (Word × Word)
-two_found (Some a) (Some b) = Some (a, b)
-two_found _ _ = None
+-- the arguments in their order, up to the first that isn't there
+abbrev pub arguments_found : Option Word → Option Word → Option Word → Option Word → List Word
+arguments_found None b c d = []
+arguments_found (Some a) None c d = a ∷ []
+arguments_found (Some a) (Some b) None d = a ∷ b ∷ []
+arguments_found (Some a) (Some b) (Some c) None = a ∷ b ∷ c ∷ []
+arguments_found (Some a) (Some b) (Some c) (Some d) = a ∷ b ∷ c ∷ d ∷ []
 
-abbrev pub solve_found : Option Word → Option Word → Option Word → Option Command
-solve_found (Some model) (Some log) n = solve_in (model ∷ log ∷ []) (limit_of (listed n))
-solve_found _ _ n = None
+abbrev pub parts_found : Found → Parts
+parts_found m = record {
+  arguments = arguments_found (first_value m (codes "first")) (first_value m (codes "second")) (first_value m (codes "third")) (first_value m (codes "fourth"));
+  limits = listed (first_value m (codes "nodes"));
+}
 
 -- what the program's own command says
 abbrev pub seen_of : code.Command → Command
@@ -22,12 +32,20 @@ seen_of (view.Solve model log nodes) = Solve model.now log.now nodes
 seen_of (view.Check model log) = Check model.now log.now
 seen_of (view.Verify model schedule) = Verify model.now schedule.now
 seen_of (view.Show model) = Show model.now
+seen_of (view.Gen shop) = Gen shop
+seen_of (view.Trial shop log nodes) = Trial shop log.now nodes
 
 -- from 1 to 10,000,000
 abbrev pub IsLimit : ℕ → Type 0
 IsLimit n = (1 ≤ n) × (n ≤ 10000000)
 
--- so is the limit on nodes in a command
-abbrev pub HasLimit : Command → Type 0
-HasLimit (Solve model log nodes) = IsLimit nodes
-HasLimit _ = ⊤
+-- as many jobs and machines as a generated model may have
+abbrev pub IsShop : Shop → Type 0
+IsShop s = are_within s.jobs s.machines ≡ true
+
+-- each limit on nodes and each job shop in a command is so
+abbrev pub HasLimits : Command → Type 0
+HasLimits (Solve model log nodes) = IsLimit nodes
+HasLimits (Gen shop) = IsShop shop
+HasLimits (Trial shop log nodes) = IsShop shop × IsLimit nodes
+HasLimits _ = ⊤

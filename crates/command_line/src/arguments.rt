@@ -1,139 +1,147 @@
-ghost use Rattle.std.specs.Prelude.{◌≡◌, ◌⊎◌, IfOk, IfErr, Some, None, Err, codes, map, string_bytes};
-ghost use Rattle.clap.specs.Words.{first_value, found_of, kind_of};
-ghost use Rattle.command_line.specs.Commands.{Solve, one_of, two_of, solve_of};
-ghost use Rattle.command_line.specs.Found.{IsLimit, two_found, solve_found};
+ghost use Rattle.std.specs.Prelude.{◌≡◌, ◌⊎◌, IfOk, IfErr, IfSome, Some, None, Err, false, codes, map, option_map, string_bytes};
+ghost use Rattle.clap.specs.Words.{found_of, kind_of};
+ghost use Rattle.command_line.specs.Commands.{command_by, command_for, parts_of};
+ghost use Rattle.command_line.specs.Found.{HasLimits, parts_found, seen_of};
 
-use crate::commands::WordsFault;
+use crate::commands::{Command as Line, Verb, WordsFault};
 use crate::limit::limit;
+use crate::shop::read_shop;
 use clap::error::ErrorKind;
 use clap::{Arg, ArgMatches, Command, Error};
 use std::alloc::Global;
 
-/// Two arguments.
-#[derive(Clone, Copy, Debug)]
-pub struct Two<'a> {
-    pub first: &'a str,
-    pub second: &'a str,
-}
-
-/// The arguments of `solve`, and the limit on nodes.
-#[derive(Clone, Copy, Debug)]
-pub struct SolveWords<'a> {
-    pub model: &'a str,
-    pub log: &'a str,
-    pub nodes: u32,
-}
-
-fn one_matched<'a>(alloc: Global, words: &'a [String]) -> Result<ArgMatches<'a>, Error>
-    ensures ok { IfOk result (λ m. one_of (map string_bytes words.entry.now)
-        ≡ first_value (found_of m) (codes "first")) }
+/// What `clap` makes of the words behind the verb: at most four arguments, and `--nodes`.
+fn matched<'a>(alloc: Global, words: &'a [String]) -> Result<ArgMatches<'a>, Error>
+    ensures ok { IfOk result (λ m. parts_of false (map string_bytes words.entry.now) ≡ Some (parts_found (found_of m))) }
     ensures err { IfErr result (λ e. (kind_of e ≡ ErrorKind.OutOfMemory)
-        ⊎ (one_of (map string_bytes words.entry.now) ≡ None)) }
+        ⊎ ((v : Verb) → command_by v (map string_bytes words.entry.now) ≡ None)) }
 {
-    let first = Arg::new(alloc, "first").required(true);
-    let command = Command::new(alloc, "one")
-        .no_binary_name(true)
-        .disable_help_flag(true)
-        .arg(first)?;
-    command.try_get_matches_from(words)
-}
-
-/// The one argument of some words.
-pub fn read_one<'a>(alloc: Global, words: &'a [String]) -> Result<&'a str, WordsFault>
-    ensures ok { IfOk result (λ a. one_of (map string_bytes words.entry.now) ≡ Some a.now) }
-    ensures usage { result ≡ Err WordsFault.Usage → one_of (map string_bytes words.entry.now) ≡ None }
-{
-    match one_matched(alloc, words) {
-        Ok(matches) => {
-            let Some(first) = matches.get_str("first") else {
-                return Err(WordsFault::Usage);
-            };
-            Ok(first)
-        }
-        Err(error) => match error.kind() {
-            ErrorKind::OutOfMemory => Err(WordsFault::NoMemory),
-            _ => Err(WordsFault::Usage),
-        },
-    }
-}
-
-fn two_matched<'a>(alloc: Global, words: &'a [String]) -> Result<ArgMatches<'a>, Error>
-    ensures ok { IfOk result (λ m. two_of (map string_bytes words.entry.now)
-        ≡ two_found (first_value (found_of m) (codes "first"))
-        (first_value (found_of m) (codes "second"))) }
-    ensures err { IfErr result (λ e. (kind_of e ≡ ErrorKind.OutOfMemory)
-        ⊎ (two_of (map string_bytes words.entry.now) ≡ None)) }
-{
-    let first = Arg::new(alloc, "first").required(true);
-    let second = Arg::new(alloc, "second").required(true);
-    let command = Command::new(alloc, "two")
+    let first = Arg::new(alloc, "first");
+    let second = Arg::new(alloc, "second");
+    let third = Arg::new(alloc, "third");
+    let fourth = Arg::new(alloc, "fourth");
+    let nodes = Arg::new(alloc, "nodes").long("nodes");
+    let command = Command::new(alloc, "schedtool")
         .no_binary_name(true)
         .disable_help_flag(true)
         .arg(first)?
-        .arg(second)?;
-    command.try_get_matches_from(words)
-}
-
-/// The two arguments of some words.
-pub fn read_two<'a>(alloc: Global, words: &'a [String]) -> Result<Two<'a>, WordsFault>
-    ensures ok { IfOk result (λ p. two_of (map string_bytes words.entry.now) ≡ Some (p.first.now, p.second.now)) }
-    ensures usage { result ≡ Err WordsFault.Usage → two_of (map string_bytes words.entry.now) ≡ None }
-{
-    match two_matched(alloc, words) {
-        Ok(matches) => {
-            let Some(first) = matches.get_str("first") else {
-                return Err(WordsFault::Usage);
-            };
-            let Some(second) = matches.get_str("second") else {
-                return Err(WordsFault::Usage);
-            };
-            Ok(Two { first, second })
-        }
-        Err(error) => match error.kind() {
-            ErrorKind::OutOfMemory => Err(WordsFault::NoMemory),
-            _ => Err(WordsFault::Usage),
-        },
-    }
-}
-
-fn solve_matched<'a>(alloc: Global, words: &'a [String]) -> Result<ArgMatches<'a>, Error>
-    ensures ok { IfOk result (λ m. solve_of (map string_bytes words.entry.now)
-        ≡ solve_found (first_value (found_of m) (codes "model"))
-        (first_value (found_of m) (codes "log")) (first_value (found_of m) (codes "nodes"))) }
-    ensures err { IfErr result (λ e. (kind_of e ≡ ErrorKind.OutOfMemory)
-        ⊎ (solve_of (map string_bytes words.entry.now) ≡ None)) }
-{
-    let model = Arg::new(alloc, "model").required(true);
-    let log = Arg::new(alloc, "log").required(true);
-    let nodes = Arg::new(alloc, "nodes").long("nodes");
-    let command = Command::new(alloc, "solve")
-        .no_binary_name(true)
-        .disable_help_flag(true)
-        .arg(model)?
-        .arg(log)?
+        .arg(second)?
+        .arg(third)?
+        .arg(fourth)?
         .arg(nodes)?;
     command.try_get_matches_from(words)
 }
 
-/// The arguments of `solve`. A `--nodes` whose word is no limit is a fault.
-pub fn read_solve<'a>(alloc: Global, words: &'a [String]) -> Result<SolveWords<'a>, WordsFault>
-    ensures ok { IfOk result (λ s. solve_of (map string_bytes words.entry.now) ≡ Some (Solve s.model.now s.log.now s.nodes)) }
-    ensures within { IfOk result (λ s. IsLimit s.nodes) }
-    ensures usage { result ≡ Err WordsFault.Usage → solve_of (map string_bytes words.entry.now) ≡ None }
+/// `solve`, by its arguments.
+fn solve<'a>(matches: &ArgMatches<'a>) -> Option<Line<'a>>
+    ensures is { option_map seen_of result ≡ command_for Verb.Solve (parts_found (found_of matches.now)) }
+    ensures within { IfSome result (λ c. HasLimits (seen_of c)) }
 {
-    match solve_matched(alloc, words) {
-        Ok(matches) => {
-            let Some(model) = matches.get_str("model") else {
-                return Err(WordsFault::Usage);
-            };
-            let Some(log) = matches.get_str("log") else {
-                return Err(WordsFault::Usage);
-            };
-            let Some(nodes) = limit(matches.get_str("nodes")) else {
-                return Err(WordsFault::Usage);
-            };
-            Ok(SolveWords { model, log, nodes })
-        }
+    let model = matches.get_str("first")?;
+    let log = matches.get_str("second")?;
+    if matches.get_str("third").is_some() {
+        return None;
+    }
+    let nodes = limit(matches.get_str("nodes"))?;
+    Some(Line::Solve { model, log, nodes })
+}
+
+/// `check`, by its arguments.
+fn check<'a>(matches: &ArgMatches<'a>) -> Option<Line<'a>>
+    ensures is { option_map seen_of result ≡ command_for Verb.Check (parts_found (found_of matches.now)) }
+    ensures within { IfSome result (λ c. HasLimits (seen_of c)) }
+{
+    let model = matches.get_str("first")?;
+    let log = matches.get_str("second")?;
+    if matches.get_str("third").is_some() || matches.get_str("nodes").is_some() {
+        return None;
+    }
+    Some(Line::Check { model, log })
+}
+
+/// `verify`, by its arguments.
+fn verify<'a>(matches: &ArgMatches<'a>) -> Option<Line<'a>>
+    ensures is { option_map seen_of result ≡ command_for Verb.Verify (parts_found (found_of matches.now)) }
+    ensures within { IfSome result (λ c. HasLimits (seen_of c)) }
+{
+    let model = matches.get_str("first")?;
+    let schedule = matches.get_str("second")?;
+    if matches.get_str("third").is_some() || matches.get_str("nodes").is_some() {
+        return None;
+    }
+    Some(Line::Verify { model, schedule })
+}
+
+/// `show`, by its argument.
+fn show<'a>(matches: &ArgMatches<'a>) -> Option<Line<'a>>
+    ensures is { option_map seen_of result ≡ command_for Verb.Show (parts_found (found_of matches.now)) }
+    ensures within { IfSome result (λ c. HasLimits (seen_of c)) }
+{
+    let model = matches.get_str("first")?;
+    if matches.get_str("second").is_some() || matches.get_str("nodes").is_some() {
+        return None;
+    }
+    Some(Line::Show { model })
+}
+
+/// `gen`, by its arguments.
+fn generate<'a>(matches: &ArgMatches<'a>) -> Option<Line<'a>>
+    ensures is { option_map seen_of result ≡ command_for Verb.Gen (parts_found (found_of matches.now)) }
+    ensures within { IfSome result (λ c. HasLimits (seen_of c)) }
+{
+    let seed = matches.get_str("first")?;
+    let jobs = matches.get_str("second")?;
+    let machines = matches.get_str("third")?;
+    if matches.get_str("fourth").is_some() || matches.get_str("nodes").is_some() {
+        return None;
+    }
+    let shop = read_shop(seed, jobs, machines)?;
+    Some(Line::Gen { shop })
+}
+
+/// `trial`, by its arguments.
+fn trial<'a>(matches: &ArgMatches<'a>) -> Option<Line<'a>>
+    ensures is { option_map seen_of result ≡ command_for Verb.Trial (parts_found (found_of matches.now)) }
+    ensures within { IfSome result (λ c. HasLimits (seen_of c)) }
+{
+    let seed = matches.get_str("first")?;
+    let jobs = matches.get_str("second")?;
+    let machines = matches.get_str("third")?;
+    let log = matches.get_str("fourth")?;
+    let nodes = limit(matches.get_str("nodes"))?;
+    let shop = read_shop(seed, jobs, machines)?;
+    Some(Line::Trial { shop, log, nodes })
+}
+
+fn line_of<'a>(verb: Verb, matches: &ArgMatches<'a>) -> Option<Line<'a>>
+    ensures is { option_map seen_of result ≡ command_for verb (parts_found (found_of matches.now)) }
+    ensures within { IfSome result (λ c. HasLimits (seen_of c)) }
+{
+    match verb {
+        Verb::Solve => solve(matches),
+        Verb::Check => check(matches),
+        Verb::Verify => verify(matches),
+        Verb::Show => show(matches),
+        Verb::Gen => generate(matches),
+        Verb::Trial => trial(matches),
+    }
+}
+
+/// The command of a verb and the words behind it.
+pub fn read_arguments<'a>(
+    alloc: Global,
+    verb: Verb,
+    words: &'a [String],
+) -> Result<Line<'a>, WordsFault>
+    ensures ok { IfOk result (λ c. command_by verb (map string_bytes words.entry.now) ≡ Some (seen_of c)) }
+    ensures within { IfOk result (λ c. HasLimits (seen_of c)) }
+    ensures usage { result ≡ Err WordsFault.Usage → command_by verb (map string_bytes words.entry.now) ≡ None }
+{
+    match matched(alloc, words) {
+        Ok(matches) => match line_of(verb, &matches) {
+            Some(line) => Ok(line),
+            None => Err(WordsFault::Usage),
+        },
         Err(error) => match error.kind() {
             ErrorKind::OutOfMemory => Err(WordsFault::NoMemory),
             _ => Err(WordsFault::Usage),

@@ -1,7 +1,9 @@
 ghost use Rattle.std.specs.Prelude.{◌≡◌, IfOk, None, Some, Err, map, string_bytes};
-ghost use Rattle.command_line.specs.Commands.{command_of};
+ghost use Rattle.command_line.specs.Commands.{command_of, verb_of};
+ghost use Rattle.command_line.specs.Found.{HasLimits, seen_of};
 
-use crate::arguments::{read_one, read_solve, read_two};
+use crate::arguments::read_arguments;
+use crate::shop::Shop;
 use std::alloc::Global;
 use thiserror::Error;
 
@@ -12,6 +14,17 @@ pub enum WordsFault {
     Usage,
     #[error("no memory")]
     NoMemory,
+}
+
+/// The first word of a command.
+#[derive(Clone, Copy, Debug, PartialEq, Eq)]
+pub enum Verb {
+    Solve,
+    Check,
+    Verify,
+    Show,
+    Gen,
+    Trial,
 }
 
 /// What the program is asked to do. `model`, `log` and `schedule` name files.
@@ -37,54 +50,55 @@ pub enum Command<'a> {
     Show {
         model: &'a str,
     },
+    /// Print the model of this job shop.
+    Gen {
+        shop: Shop,
+    },
+    /// Solve the model of this job shop, open at most this many nodes, and write the log.
+    Trial {
+        shop: Shop,
+        log: &'a str,
+        nodes: u32,
+    },
 }
 
-ghost use Rattle.command_line.specs.Found.{HasLimit, seen_of};
+/// The verb that a word is.
+fn verb_named(name: &str) -> Option<Verb>
+    ensures { result ≡ verb_of name.now }
+{
+    if name == "solve" {
+        return Some(Verb::Solve);
+    }
+    if name == "check" {
+        return Some(Verb::Check);
+    }
+    if name == "verify" {
+        return Some(Verb::Verify);
+    }
+    if name == "show" {
+        return Some(Verb::Show);
+    }
+    if name == "gen" {
+        return Some(Verb::Gen);
+    }
+    if name == "trial" {
+        return Some(Verb::Trial);
+    }
+    None
+}
 
-/// The command of the words after the program's name. A limit on nodes is from 1 to 10,000,000.
+/// The command of the words after the program's name. A limit on nodes is from 1 to 10,000,000; a job
+/// shop has at most 500 jobs, 200 machines and 2,000 operations, and one of each at least.
 pub fn read_command<'a>(alloc: Global, words: &'a [String]) -> Result<Command<'a>, WordsFault>
     ensures ok { IfOk result (λ c. command_of (map string_bytes words.entry.now) ≡ Some (seen_of c)) }
-    ensures within { IfOk result (λ c. HasLimit (seen_of c)) }
+    ensures within { IfOk result (λ c. HasLimits (seen_of c)) }
     ensures usage { result ≡ Err WordsFault.Usage → command_of (map string_bytes words.entry.now) ≡ None }
 {
     let Some((first, rest)) = words.split_first() else {
         return Err(WordsFault::Usage);
     };
-    let name = first.as_str();
-    if name == "solve" {
-        return match read_solve(alloc, rest) {
-            Ok(s) => Ok(Command::Solve {
-                model: s.model,
-                log: s.log,
-                nodes: s.nodes,
-            }),
-            Err(fault) => Err(fault),
-        };
-    }
-    if name == "check" {
-        return match read_two(alloc, rest) {
-            Ok(p) => Ok(Command::Check {
-                model: p.first,
-                log: p.second,
-            }),
-            Err(fault) => Err(fault),
-        };
-    }
-    if name == "verify" {
-        let files = read_two(alloc, rest);
-        return match files {
-            Ok(two) => Ok(Command::Verify {
-                model: two.first,
-                schedule: two.second,
-            }),
-            Err(fault) => Err(fault),
-        };
-    }
-    if name == "show" {
-        return match read_one(alloc, rest) {
-            Ok(model) => Ok(Command::Show { model }),
-            Err(fault) => Err(fault),
-        };
-    }
-    Err(WordsFault::Usage)
+    let Some(verb) = verb_named(first.as_str()) else {
+        return Err(WordsFault::Usage);
+    };
+    read_arguments(alloc, verb, rest)
 }

@@ -4,5 +4,7 @@
 mod arguments;
 mod commands;
 mod limit;
+mod shop;
 
-pub use commands::{Command, WordsFault, read_command};
+pub use commands::{Command, Verb, WordsFault, read_command};
+pub use shop::Shop;

@@ -1,11 +1,13 @@
 -- The promise of a command, by how it ended.
+use Rattle.std.specs.Prelude.{⊤}
 use Rattle.std.proofs.Common.{◌≡◌, ◌≤◌, ◌+◌, ℕ, true, false, Option, Some, None, Ok, Err, refl, sym, ap, subst, ◌∙◌, inl, inr, arith}
 use Rattle.sched_base.specs.State.{State, Place}
 use Rattle.sched_base.specs.Calls.{Rose, appended}
 use Rattle.sched_model.specs.declared.types.Answer.{Answer}
 use Rattle.sched_model.specs.declared.types.Answer.TheVariants as answer
 use Rattle.cpo_text.specs.declared.text.Refusal.{Refusal}
-use Rattle.command_line.specs.Commands.{Command, Solve, Check, Verify, Show}
+use Rattle.command_line.specs.declared.shop.Shop.{Shop}
+use Rattle.command_line.specs.Commands.{Command, Solve, Check, Verify, Show, Gen, Trial}
 use Rattle.textline.specs.Lines.{Bytes}
 use Rattle.logtext.specs.Writing.{AppendedFrom}
 use Rattle.checker.specs.Judgement.{log_limit}
@@ -14,18 +16,19 @@ use Rattle.commands.specs.declared.ended.Ended.{Ended}
 use Rattle.commands.specs.declared.ended.Ended.TheVariants as end
 use Rattle.commands.specs.declared.stop.Stop.{Stop}
 use Rattle.commands.specs.declared.stop.Stop.TheVariants as stop
-use Rattle.sched_text.specs.Answers.{answer_text}
 use Rattle.sched_text.specs.Canonical.{canonical_text}
 use Rattle.commands.specs.CheckText.{check_text}
 use Rattle.commands.specs.Ended.{is_success}
 use Rattle.commands.specs.Told.{Tells, Reports, usage_line, fault_line, memory_line, refusal_line, log_line, too_long_line, unfit_line}
-use Rattle.commands.specs.Runs.{RunPromise, EveryRun, CommandPromise, HasFiles, RefusesModel, FileDeserves, ShowsPart, LogPromise, HoldsBegunLog, CutShort, AnswerPromise, AcceptsPart, ending_of, SolveEnds, file_of, ReadsModel, ReadsLog, schedule_limit, ReadsSchedule, VerifiesPart}
+use Rattle.commands.specs.Runs.{Source, SourceDeserves, HasSource, ReadsSource, IsUnread, SolvePromise, shop_text, told_text, RunPromise, NeverRefused, EveryRun, CommandPromise, HasFiles, RefusesModel, ShowsPart, LogPromise, HoldsBegunLog, CutShort, AnswerPromise, AcceptsPart, ending_of, SolveEnds, file_of, ReadsModel, ReadsLog, schedule_limit, ReadsSchedule, VerifiesPart}
 use Rattle.commands.specs.VerifyText.{verify_text}
 use Rattle.sched_model.specs.Solution.{objective_of}
+use Rattle.commands.specs.Runs.Source.{file, generated}
 use Rattle.commands.specs.Runs.CutShort.{before_log, in_log, in_answer}
 use Rattle.cpo_elab.specs.Answers.Answer.{Refused}
 use Rattle.commands.specs.Runs.RefusesLog.{at_line, too_long}
-use Rattle.commands.specs.Tries.{OnlyReads, TriesSolve, TriesCheck, TriesVerify, TriesShow, EndsStopped}
+use Rattle.commands.proofs.Solved.{unread_on}
+use Rattle.commands.specs.Tries.{OnlyReads, TriesSolve, TriesCheck, TriesVerify, TriesShow, TriesGen, EndsStopped}
 
 -- A line on standard error behind whatever a command has done.
 
@@ -144,15 +147,15 @@ refused_only : (text : Bytes) (old s new : State) → OnlyReads old s → Report
 refused_only text old s new reads reports =
     subst (OnlyRefuses old) (sym (reports.only ∙ ap (λ (x : State). record x { err = new.err; faults = new.faults }) reads.only)) refl
 
-cut_told : (name log : Bytes) (limit : ℕ) (text : Bytes) (old s new : State) → CutShort name log limit old s → Reports text s new → CutShort name log limit old new
-cut_told name log limit text old s new (before_log only) reports =
+cut_told : (model : Source) (log : Bytes) (limit : ℕ) (text : Bytes) (old s new : State) → CutShort model log limit old s → Reports text s new → CutShort model log limit old new
+cut_told model log limit text old s new (before_log only) reports =
     before_log (subst (OnlyRefuses old) (sym (reports.only ∙ ap (λ (x : State). record x { err = new.err; faults = new.faults }) only)) refl)
-cut_told name log limit text old s new (in_log m deserved created holds out) reports =
+cut_told model log limit text old s new (in_log m deserved created holds out) reports =
     in_log m deserved (ap (λ (x : State). x.created) reports.only ∙ created.0, ap (λ (x : State). x.logs) reports.only ∙ created.1) (subst (λ b. HoldsBegunLog m old.logged b) (sym (ap (λ (x : State). x.logged) reports.only)) holds)
     (ap (λ (x : State). x.out) reports.only ∙ out)
-cut_told name log limit text old s new (in_answer m solved deserved answer created written part) reports =
+cut_told model log limit text old s new (in_answer m solved deserved answer created written part) reports =
     in_answer m solved deserved answer (ap (λ (x : State). x.created) reports.only ∙ created.0, ap (λ (x : State). x.logs) reports.only ∙ created.1) (subst (λ b. LogPromise m limit solved old.logged b) (sym (ap (λ (x : State). x.logged) reports.only)) written)
-    (subst (λ b. AppendedFrom (answer_text m solved) old.out b) (sym (ap (λ (x : State). x.out) reports.only)) part)
+    (subst (λ b. AppendedFrom (told_text model m solved) old.out b) (sym (ap (λ (x : State). x.out) reports.only)) part)
 
 -- how far the files were read, after the line too
 model_read : (model text : Bytes) (old s new : State) → ReadsModel model old s → Reports text s new → ReadsModel model old new
@@ -165,7 +168,7 @@ part_told : (model log text : Bytes) (old s new : State) → AcceptsPart model l
 part_told model log text old s new (inl out) reports = inl (ap (λ (x : State). x.out) reports.only ∙ out)
 part_told model log text old s new (inr part) reports = inr (part.0, part.1, part.2, subst (λ b. AppendedFrom (check_text part.0 part.1) old.out b) (sym (ap (λ (x : State). x.out) reports.only)) part.3)
 
-refuses : (model : Bytes) (old s new : State) → OnlyReads old s → (r : Refusal) → FileDeserves old model (Refused r) → Reports (refusal_line r) s new → RefusesModel model old new
+refuses : (model : Source) (old s new : State) → OnlyReads old s → (r : Refusal) → SourceDeserves old model (Refused r) → Reports (refusal_line r) s new → RefusesModel model old new
 refuses model old s new reads r due reports = record {
   refusal = r;
   due = due;
@@ -173,7 +176,49 @@ refuses model old s new reads r due reports = record {
   only = refused_only (refusal_line r) old s new reads reports;
 }
 
--- `solve`.
+-- `solve` and `trial`.
+
+-- the command that solves a model from there
+abbrev pub solving : Source → Bytes → ℕ → Command
+solving (file model) log limit = Solve model log limit
+solving (generated shop) log limit = Trial shop log limit
+
+source_there : (model : Source) (log : Bytes) (limit : ℕ) (old : State) → HasFiles (Some (solving model log limit)) old → HasSource old model
+source_there (file name) log limit old there = there
+source_there (generated shop) log limit old there = tt
+
+-- a generated text isn't refused
+abbrev pub IsTaken : Source → Ended → Type 0
+IsTaken (file name) e = ⊤
+IsTaken (generated shop) e = NeverRefused e
+
+taken : (model : Source) (e : Ended) → NeverRefused e → IsTaken model e
+taken (file name) e never = tt
+taken (generated shop) e never = never
+
+success_taken : (model : Source) (e : Ended) → is_success e ≡ true → IsTaken model e
+success_taken model end.Done won = taken model end.Done (λ is. cc)
+success_taken model end.Infeasible won = taken model end.Infeasible (λ is. cc)
+success_taken model end.Unfinished won = taken model end.Unfinished (λ is. cc)
+success_taken model end.Accepted won = taken model end.Accepted (λ is. cc)
+success_taken model end.Usage won = cc
+success_taken model end.ModelRefused won = absurd cc
+success_taken model end.Fault won = absurd cc
+success_taken model end.LogRefused won = cc
+success_taken model end.ScheduleRefused won = cc
+success_taken model end.NoMemory won = absurd cc
+
+as_run : (model : Source) (log : Bytes) (limit : ℕ) (e : Ended) (old new : State) → EveryRun (Some (solving model log limit)) e old new → SolvePromise model log limit e old new → IsTaken model e
+    → ((e ≡ end.Fault → ⊥) → (e ≡ end.NoMemory → ⊥) → ReadsSource model old new) → RunPromise (Some (solving model log limit)) e old new
+as_run (file name) log limit e old new every promise is reads = record { every = every; its_own = promise; reads = reads }
+as_run (generated shop) log limit e old new every promise never reads = record { every = every; its_own = (promise, never); reads = λ no_fault enough. tt }
+
+source_read : (model : Source) (text : Bytes) (old s new : State) → ReadsSource model old s → Reports text s new → ReadsSource model old new
+source_read (file name) text old s new far reports = model_read name text old s new far reports
+source_read (generated shop) text old s new far reports = tt
+
+unread_told : (model : Source) (text : Bytes) (old s new : State) → IsUnread model old s → Reports text s new → IsUnread model old new
+unread_told model text old s new unread reports = unread_on model old s new unread (ap (λ (x : State). x.model) reports.only)
 
 never_accepted : (a : Answer) → end.Accepted ≡ ending_of a → ⊥
 never_accepted (answer.Optimal v a) is = cc
@@ -181,7 +226,7 @@ never_accepted (answer.Feasible a) is = cc
 never_accepted answer.Infeasible is = cc
 never_accepted (answer.Unfinished found) is = cc
 
-solve_ends : (model log : Bytes) (limit : ℕ) (e : Ended) (old new : State) → is_success e ≡ true → AnswerPromise model log limit e old new → SolveEnds model log limit e old new
+solve_ends : (model : Source) (log : Bytes) (limit : ℕ) (e : Ended) (old new : State) → is_success e ≡ true → AnswerPromise model log limit e old new → SolveEnds model log limit e old new
 solve_ends model log limit end.Done old new won promise = promise
 solve_ends model log limit end.Infeasible old new won promise = promise
 solve_ends model log limit end.Unfinished old new won promise = promise
@@ -193,46 +238,47 @@ solve_ends model log limit end.LogRefused old new won promise = cc
 solve_ends model log limit end.ScheduleRefused old new won promise = cc
 solve_ends model log limit end.NoMemory old new won promise = absurd cc
 
-pub solved : (model log : Bytes) (limit : ℕ) (e : Ended) (old new : State) → TriesSolve model log limit (Ok e) old new → RunPromise (Some (Solve model log limit)) e old new
-solved model log limit e old new tries = record {
-  every = succeeded (Solve model log limit) e old new tries.tried.1 tries.tried.0 (ap (λ (x : State). x.err) tries.only);
-  its_own = record {
-    only = subst (OnlySolves old) (sym tries.only) refl;
-    ends = solve_ends model log limit e old new tries.tried.1 tries.tried.2;
-  };
-  reads = λ no_fault enough. tries.tried.3;
-}
+pub solved : (model : Source) (log : Bytes) (limit : ℕ) (e : Ended) (old new : State) → TriesSolve model log limit (Ok e) old new → RunPromise (Some (solving model log limit)) e old new
+solved model log limit e old new tries = as_run model log limit e old new (succeeded (solving model log limit) e old new tries.tried.1 tries.tried.0 (ap (λ (x : State). x.err) tries.only)) (record {
+  only = subst (OnlySolves old) (sym tries.only) refl;
+  unread = tries.unread;
+  ends = solve_ends model log limit e old new tries.tried.1 tries.tried.2;
+}) (success_taken model e tries.tried.1) (λ no_fault enough. tries.tried.3)
 
-solve_no_memory : (model log : Bytes) (limit : ℕ) (old s new : State) → s ≡ record old { model = s.model; out = s.out; logged = s.logged; created = s.created; logs = s.logs; faults = s.faults } → old.faults ≤ s.faults → s.out ≡ old.out → CutShort model log limit old s
-    → Reports memory_line s new → RunPromise (Some (Solve model log limit)) end.NoMemory old new
-solve_no_memory model log limit old s new only later out cut reports = record {
-  every = no_memory (Solve model log limit) old s new (ap (λ (x : State). x.err) only) out later reports;
-  its_own = record { only = solve_only memory_line old s new only reports; ends = cut_told model log limit memory_line old s new cut reports };
-  reads = λ no_fault enough. absurd (enough refl);
-}
+solve_no_memory : (model : Source) (log : Bytes) (limit : ℕ) (old s new : State) → s ≡ record old { model = s.model; out = s.out; logged = s.logged; created = s.created; logs = s.logs; faults = s.faults } → IsUnread model old s → old.faults ≤ s.faults → s.out ≡ old.out → CutShort model log limit old s
+    → Reports memory_line s new → RunPromise (Some (solving model log limit)) end.NoMemory old new
+solve_no_memory model log limit old s new only unread later out cut reports = as_run model log limit end.NoMemory old new (no_memory (solving model log limit) old s new (ap (λ (x : State). x.err) only) out later reports) (record {
+  only = solve_only memory_line old s new only reports;
+  unread = unread_told model memory_line old s new unread reports;
+  ends = cut_told model log limit memory_line old s new cut reports;
+}) (taken model end.NoMemory (λ is. cc)) (λ no_fault enough. absurd (enough refl))
 
-pub solve_stopped : (model log : Bytes) (limit : ℕ) (e : Stop) (ended : Ended) (old s new : State) → TriesSolve model log limit (Err e) old s → EndsStopped e ended s new → RunPromise (Some (Solve model log limit)) ended old new
-solve_stopped model log limit stop.Fault ended old s new tries ends = subst (λ x. RunPromise (Some (Solve model log limit)) x old new) (sym ends.0) (record {
-  every = faulted (Solve model log limit) old s new (ap (λ (x : State). x.err) tries.only) tries.later tries.tried.0.rose tries.tried.0.calm ends.1;
-  its_own = record { only = solve_only fault_line old s new tries.only ends.1; ends = cut_told model log limit fault_line old s new tries.tried.1 ends.1 };
-  reads = λ no_fault enough. absurd (no_fault refl);
-})
-solve_stopped model log limit stop.NoMemory ended old s new tries ends = subst (λ x. RunPromise (Some (Solve model log limit)) x old new) (sym ends.0)
-    (solve_no_memory model log limit old s new tries.only tries.later tries.tried.0 tries.tried.1 ends.1)
-solve_stopped model log limit (stop.ModelRefused r) ended old s new tries (inl ends) =
+pub solve_stopped : (model : Source) (log : Bytes) (limit : ℕ) (e : Stop) (ended : Ended) (old s new : State) → ((r : Refusal) → SourceDeserves old model (Refused r) → IsTaken model end.ModelRefused) → TriesSolve model log limit (Err e) old s → EndsStopped e ended s new → RunPromise (Some (solving model log limit)) ended old new
+solve_stopped model log limit stop.Fault ended old s new due tries ends = subst (λ x. RunPromise (Some (solving model log limit)) x old new) (sym ends.0)
+    (as_run model log limit end.Fault old new
+    (faulted (solving model log limit) old s new (ap (λ (x : State). x.err) tries.only) tries.later tries.tried.0 (λ calm there. tries.tried.1 calm (source_there model log limit old there)) ends.1) (record {
+      only = solve_only fault_line old s new tries.only ends.1;
+      unread = unread_told model fault_line old s new tries.unread ends.1;
+      ends = cut_told model log limit fault_line old s new tries.tried.2 ends.1;
+    }) (taken model end.Fault (λ is. cc)) (λ no_fault enough. absurd (no_fault refl)))
+solve_stopped model log limit stop.NoMemory ended old s new due tries ends = subst (λ x. RunPromise (Some (solving model log limit)) x old new) (sym ends.0)
+    (solve_no_memory model log limit old s new tries.only tries.unread tries.later tries.tried.0 tries.tried.1 ends.1)
+solve_stopped model log limit (stop.ModelRefused r) ended old s new due tries (inl ends) =
     let reads = tries.tried.0 in
-    subst (λ x. RunPromise (Some (Solve model log limit)) x old new) (sym ends.0) (record {
-      every = model_refused (Solve model log limit) (refusal_line r) old s new (ap (λ (x : State). x.out) reads.only) reads.later ends.1;
-      its_own = record { only = solve_only (refusal_line r) old s new tries.only ends.1; ends = refuses model old s new reads r tries.tried.2 ends.1 };
-      reads = λ no_fault enough. model_read model (refusal_line r) old s new tries.tried.3 ends.1;
-    })
-solve_stopped model log limit (stop.ModelRefused r) ended old s new tries (inr ends) =
+    subst (λ x. RunPromise (Some (solving model log limit)) x old new) (sym ends.0)
+    (as_run model log limit end.ModelRefused old new
+    (model_refused (solving model log limit) (refusal_line r) old s new (ap (λ (x : State). x.out) reads.only) reads.later ends.1) (record {
+      only = solve_only (refusal_line r) old s new tries.only ends.1;
+      unread = unread_told model (refusal_line r) old s new tries.unread ends.1;
+      ends = refuses model old s new reads r tries.tried.2 ends.1;
+    }) (due r tries.tried.2) (λ no_fault enough. source_read model (refusal_line r) old s new tries.tried.3 ends.1))
+solve_stopped model log limit (stop.ModelRefused r) ended old s new due tries (inr ends) =
     let reads = tries.tried.0 in
-    subst (λ x. RunPromise (Some (Solve model log limit)) x old new) (sym ends.0)
-    (solve_no_memory model log limit old s new tries.only tries.later (ap (λ (x : State). x.out) reads.only) (before_log (subst (OnlyRefuses old) (sym reads.only) refl)) ends.1)
-solve_stopped model log limit (stop.LogRefused k) ended old s new tries ends = absurd tries.tried
-solve_stopped model log limit stop.LogTooLong ended old s new tries ends = absurd tries.tried
-solve_stopped model log limit (stop.ScheduleRefused r) ended old s new tries ends = absurd tries.tried
+    subst (λ x. RunPromise (Some (solving model log limit)) x old new) (sym ends.0)
+    (solve_no_memory model log limit old s new tries.only tries.unread tries.later (ap (λ (x : State). x.out) reads.only) (before_log (subst (OnlyRefuses old) (sym reads.only) refl)) ends.1)
+solve_stopped model log limit (stop.LogRefused k) ended old s new due tries ends = absurd tries.tried
+solve_stopped model log limit stop.LogTooLong ended old s new due tries ends = absurd tries.tried
+solve_stopped model log limit (stop.ScheduleRefused r) ended old s new due tries ends = absurd tries.tried
 
 -- `check`.
 
@@ -263,7 +309,7 @@ check_stopped model log (stop.ModelRefused r) ended old s new tries (inl ends) =
     let reads = tries.tried.0 in
     subst (λ x. RunPromise (Some (Check model log)) x old new) (sym ends.0) (record {
       every = model_refused (Check model log) (refusal_line r) old s new (ap (λ (x : State). x.out) reads.only) reads.later ends.1;
-      its_own = record { only = check_only (refusal_line r) old s new tries.only ends.1; ends = refuses model old s new reads r tries.tried.2 ends.1 };
+      its_own = record { only = check_only (refusal_line r) old s new tries.only ends.1; ends = refuses (file model) old s new reads r tries.tried.2 ends.1 };
       reads = λ no_fault enough. (model_read model (refusal_line r) old s new tries.tried.3 ends.1, λ served. absurd (served refl));
     })
 check_stopped model log (stop.ModelRefused r) ended old s new tries (inr ends) = subst (λ x. RunPromise (Some (Check model log)) x old new) (sym ends.0)
@@ -331,7 +377,7 @@ verify_stopped model schedule (stop.ModelRefused r) ended old s new tries (inl e
     let reads = tries.tried.0 in
     subst (λ x. RunPromise (Some (Verify model schedule)) x old new) (sym ends.0) (record {
       every = model_refused (Verify model schedule) (refusal_line r) old s new (ap (λ (x : State). x.out) reads.only) reads.later ends.1;
-      its_own = record { only = verify_only (refusal_line r) old s new tries.only ends.1; ends = refuses model old s new reads r tries.tried.2 ends.1 };
+      its_own = record { only = verify_only (refusal_line r) old s new tries.only ends.1; ends = refuses (file model) old s new reads r tries.tried.2 ends.1 };
       reads = λ no_fault enough. (model_read model (refusal_line r) old s new tries.tried.3 ends.1, λ read. absurd (read refl));
     })
 verify_stopped model schedule (stop.ModelRefused r) ended old s new tries (inr ends) = subst (λ x. RunPromise (Some (Verify model schedule)) x old new) (sym ends.0)
@@ -389,7 +435,7 @@ show_stopped model (stop.ModelRefused r) ended old s new tries (inl ends) =
     let reads = tries.tried.0 in
     subst (λ x. RunPromise (Some (Show model)) x old new) (sym ends.0) (record {
       every = model_refused (Show model) (refusal_line r) old s new (ap (λ (x : State). x.out) reads.only) reads.later ends.1;
-      its_own = record { only = show_only (refusal_line r) old s new tries.only ends.1; ends = refuses model old s new reads r tries.tried.2 ends.1 };
+      its_own = record { only = show_only (refusal_line r) old s new tries.only ends.1; ends = refuses (file model) old s new reads r tries.tried.2 ends.1 };
       reads = λ no_fault enough. model_read model (refusal_line r) old s new tries.tried.3 ends.1;
     })
 show_stopped model (stop.ModelRefused r) ended old s new tries (inr ends) = subst (λ x. RunPromise (Some (Show model)) x old new) (sym ends.0)
@@ -397,6 +443,38 @@ show_stopped model (stop.ModelRefused r) ended old s new tries (inr ends) = subs
 show_stopped model (stop.LogRefused k) ended old s new tries ends = absurd tries.tried
 show_stopped model stop.LogTooLong ended old s new tries ends = absurd tries.tried
 show_stopped model (stop.ScheduleRefused r) ended old s new tries ends = absurd tries.tried
+
+-- `gen`.
+
+abbrev pub OnlyPrints : State → State → Type 0
+OnlyPrints old new = new ≡ record old { out = new.out; err = new.err; faults = new.faults }
+
+prints_only : (text : Bytes) (old s new : State) → s ≡ record old { out = s.out; faults = s.faults } → Reports text s new → OnlyPrints old new
+prints_only text old s new only reports =
+    subst (OnlyPrints old) (sym (reports.only ∙ ap (λ (x : State). record x { err = new.err; faults = new.faults }) only)) refl
+
+pub generated_shop : (shop : Shop) (e : Ended) (old new : State) → TriesGen shop (Ok e) old new → RunPromise (Some (Gen shop)) e old new
+generated_shop shop e old new tries = subst (λ x. RunPromise (Some (Gen shop)) x old new) (sym tries.tried.1) (record {
+  every = succeeded (Gen shop) end.Done old new refl tries.tried.0 (ap (λ (x : State). x.err) tries.only);
+  its_own = record { only = subst (OnlyPrints old) (sym tries.only) refl; ends = tries.tried.2 };
+  reads = λ no_fault enough. tt;
+})
+
+pub gen_stopped : (shop : Shop) (e : Stop) (ended : Ended) (old s new : State) → TriesGen shop (Err e) old s → EndsStopped e ended s new → RunPromise (Some (Gen shop)) ended old new
+gen_stopped shop stop.Fault ended old s new tries ends = subst (λ x. RunPromise (Some (Gen shop)) x old new) (sym ends.0) (record {
+  every = faulted (Gen shop) old s new (ap (λ (x : State). x.err) tries.only) tries.later tries.tried.0 (λ calm there. tries.tried.1 calm) ends.1;
+  its_own = record { only = prints_only fault_line old s new tries.only ends.1; ends = subst (λ b. AppendedFrom (shop_text shop) old.out b) (sym (ap (λ (x : State). x.out) ends.1.only)) tries.tried.2 };
+  reads = λ no_fault enough. tt;
+})
+gen_stopped shop stop.NoMemory ended old s new tries ends = subst (λ x. RunPromise (Some (Gen shop)) x old new) (sym ends.0) (record {
+  every = no_memory (Gen shop) old s new (ap (λ (x : State). x.err) tries.only) tries.tried tries.later ends.1;
+  its_own = record { only = prints_only memory_line old s new tries.only ends.1; ends = ap (λ (x : State). x.out) ends.1.only ∙ tries.tried };
+  reads = λ no_fault enough. tt;
+})
+gen_stopped shop (stop.ModelRefused r) ended old s new tries ends = absurd tries.tried
+gen_stopped shop (stop.LogRefused k) ended old s new tries ends = absurd tries.tried
+gen_stopped shop stop.LogTooLong ended old s new tries ends = absurd tries.tried
+gen_stopped shop (stop.ScheduleRefused r) ended old s new tries ends = absurd tries.tried
 
 -- Words that are no command, and words for which memory was refused.
 
@@ -434,6 +512,7 @@ unread_own : (command : Option Command) (old new : State) → Reports memory_lin
 unread_own None old new reports = reports
 unread_own (Some (Solve model log limit)) old new reports = record {
   only = subst (OnlySolves old) (sym reports.only) refl;
+  unread = tt;
   ends = before_log (subst (OnlyRefuses old) (sym reports.only) refl);
 }
 unread_own (Some (Check model log)) old new reports = record {
@@ -448,6 +527,18 @@ unread_own (Some (Show model)) old new reports = record {
   only = subst (OnlyShows old) (sym reports.only) refl;
   ends = ap (λ (x : State). x.out) reports.only;
 }
+unread_own (Some (Gen shop)) old new reports = record {
+  only = subst (OnlyPrints old) (sym reports.only) refl;
+  ends = ap (λ (x : State). x.out) reports.only;
+}
+unread_own (Some (Trial shop log limit)) old new reports = (
+  record {
+    only = subst (OnlySolves old) (sym reports.only) refl;
+    unread = ap (λ (x : State). x.model) reports.only;
+    ends = before_log (subst (OnlyRefuses old) (sym reports.only) refl);
+  },
+  λ is. cc,
+)
 
 pub words_unread : (command : Option Command) (old new : State) → Reports memory_line old new → RunPromise command end.NoMemory old new
 words_unread command old new reports = record { every = unread command old new reports; its_own = unread_own command old new reports; reads = λ no_fault enough. absurd (enough refl) }

@@ -10,7 +10,7 @@ use Rattle.sched_model.specs.Data.{Data}
 use Rattle.sched_model.specs.Domain.{is_in_domain}
 use Rattle.sched_model.specs.Hull.{hull_of}
 use Rattle.sched_model.specs.Ranges.{Ends}
-use Rattle.sched_model.specs.Solution.{IsSolution, objective_of}
+use Rattle.sched_model.specs.Solution.{IsSolution}
 use Rattle.sched_model.specs.Valid.{IsValid}
 use Rattle.sched_model.specs.Value.{value_of}
 use Rattle.sched_model.specs.laws.Held.{held_small, value_held}

@@ -7,15 +7,29 @@ use Rattle.sched_base.specs.Calls.{Writes, Rose, appended}
 use Rattle.sched_model.specs.declared.types.Solved.{Solved}
 use Rattle.sched_model.specs.Data.{Data}
 use Rattle.textline.specs.Lines.{Bytes}
+use Rattle.command_line.specs.declared.shop.Shop.{Shop}
 use Rattle.cpo_elab.specs.Answers.Answer.{Accepted}
 use Rattle.commands.specs.declared.ended.Ended.{Ended}
 use Rattle.commands.specs.declared.stop.Stop.{Stop}
 use Rattle.commands.specs.declared.stop.Stop.TheVariants as stop
-use Rattle.sched_text.specs.Answers.{answer_text}
 use Rattle.commands.specs.Ended.{is_success}
-use Rattle.commands.specs.Runs.{FileDeserves, LogPromise, HoldsBegunLog, CutShort, ending_of, ReadsModel}
+use Rattle.commands.specs.Runs.{Source, SourceDeserves, ReadsSource, IsUnread, told_text, LogPromise, HoldsBegunLog, CutShort, ending_of}
+use Rattle.commands.specs.Runs.Source.{file, generated}
 use Rattle.commands.specs.Runs.CutShort.{before_log, in_log, in_answer}
-use Rattle.commands.specs.Tries.{OnlyReads, BeginsSearch, Searches, TriesSolve}
+use Rattle.commands.specs.Tries.{OnlyReads, BeginsSearch, Searches, MakesModel, TriesSolve}
+
+-- where nothing is read
+pub nothing_read : (s : State) → OnlyReads s s
+nothing_read s = record { only = refl; later = omega arith }
+
+-- the slot of a generated model
+pub unread_on : (model : Source) (old s t : State) → IsUnread model old s → t.model ≡ s.model → IsUnread model old t
+unread_on (file name) old s t unread same = tt
+unread_on (generated shop) old s t unread same = same ∙ unread
+
+begun_model : (m : Data) (log : Bytes) (s t : State) → BeginsSearch m log s t → t.model ≡ s.model
+begun_model m log s t (inl same) = ap (λ (x : State). x.model) same
+begun_model m log s t (inr begun) = ap (λ (x : State). x.model) begun.1
 
 -- the search has begun behind the reading of the model
 pub begun_only : (m : Data) (log : Bytes) (old s t : State) → OnlyReads old s → BeginsSearch m log s t → t ≡ record old { model = t.model; out = t.out; logged = t.logged; created = t.created; logs = t.logs; faults = t.faults }
@@ -30,33 +44,45 @@ pub begun_out : (m : Data) (log : Bytes) (old s t : State) → OnlyReads old s �
 begun_out m log old s t reads (inl same) = ap (λ (x : State). x.out) same ∙ ap (λ (x : State). x.out) reads.only
 begun_out m log old s t reads (inr begun) = ap (λ (x : State). x.out) begun.1 ∙ ap (λ (x : State). x.out) reads.only
 
-pub begun_cut : (m : Data) (limit : ℕ) (name log : Bytes) (old s t : State) → OnlyReads old s → FileDeserves old name (Accepted m) → BeginsSearch m log s t → CutShort name log limit old t
-begun_cut m limit name log old s t reads deserved (inl same) =
+pub begun_cut : (m : Data) (limit : ℕ) (model : Source) (log : Bytes) (old s t : State) → OnlyReads old s → SourceDeserves old model (Accepted m) → BeginsSearch m log s t → CutShort model log limit old t
+begun_cut m limit model log old s t reads deserved (inl same) =
     let is : t ≡ record old { model = s.model; faults = t.faults } = same ∙ ap (λ (x : State). record x { faults = t.faults }) reads.only in
-    subst (CutShort name log limit old) (sym is) (before_log refl)
-begun_cut m limit name log old s t reads deserved (inr begun) =
+    subst (CutShort model log limit old) (sym is) (before_log refl)
+begun_cut m limit model log old s t reads deserved (inr begun) =
     in_log m deserved (ap (λ (x : State). x.created) begun.1, ap (λ (x : State). x.logs) begun.1 ∙ ap (λ (x : State). with_log log x.logs) reads.only) (subst (λ b. HoldsBegunLog m b t.logged) (ap (λ (x : State). x.logged) reads.only) begun.0)
     (begun_out m log old s t reads (inr begun))
 
 -- the search came to no answer
-pub stopped : (m : Data) (limit : ℕ) (name log : Bytes) (e : Stop) (old s t : State) → OnlyReads old s → s.faults ≡ old.faults → FileDeserves old name (Accepted m) → Searches m log limit (Err e) s t → TriesSolve name log limit (Err e) old t
-stopped m limit name log stop.Fault old s t reads kept deserved says = record {
+pub stopped : (m : Data) (limit : ℕ) (model : Source) (log : Bytes) (e : Stop) (old s t : State) → OnlyReads old s → IsUnread model old s → s.faults ≡ old.faults → SourceDeserves old model (Accepted m) → Searches m log limit (Err e) s t → TriesSolve model log limit (Err e) old t
+stopped m limit model log stop.Fault old s t reads unread kept deserved says = record {
   only = begun_only m log old s t reads says.3;
+  unread = unread_on model old s t unread (begun_model m log s t says.3);
   later = omega (arith, reads.later, says.2);
   tried = (
-    record { rose = subst (λ n. Rose n t.faults) kept says.0; calm = λ calm there. says.1 (ap (λ (x : State). x.calm) reads.only ∙ calm) },
-    begun_cut m limit name log old s t reads deserved says.3,
+    subst (λ n. Rose n t.faults) kept says.0,
+    (λ calm there. says.1 (ap (λ (x : State). x.calm) reads.only ∙ calm)),
+    begun_cut m limit model log old s t reads deserved says.3,
   );
 }
-stopped m limit name log stop.NoMemory old s t reads kept deserved says = record {
+stopped m limit model log stop.NoMemory old s t reads unread kept deserved says = record {
   only = begun_only m log old s t reads says.1;
+  unread = unread_on model old s t unread (begun_model m log s t says.1);
   later = omega (arith, reads.later, says.0);
-  tried = (begun_out m log old s t reads says.1, begun_cut m limit name log old s t reads deserved says.1);
+  tried = (begun_out m log old s t reads says.1, begun_cut m limit model log old s t reads deserved says.1);
 }
-stopped m limit name log (stop.ModelRefused r) old s t reads kept deserved says = absurd says
-stopped m limit name log (stop.LogRefused k) old s t reads kept deserved says = absurd says
-stopped m limit name log stop.LogTooLong old s t reads kept deserved says = absurd says
-stopped m limit name log (stop.ScheduleRefused r) old s t reads kept deserved says = absurd says
+stopped m limit model log (stop.ModelRefused r) old s t reads unread kept deserved says = absurd says
+stopped m limit model log (stop.LogRefused k) old s t reads unread kept deserved says = absurd says
+stopped m limit model log stop.LogTooLong old s t reads unread kept deserved says = absurd says
+stopped m limit model log (stop.ScheduleRefused r) old s t reads unread kept deserved says = absurd says
+
+-- a job shop's text came to no model
+pub unmade : (shop : Shop) (log : Bytes) (limit : ℕ) (e : Stop) (old : State) → MakesModel shop (Err e) → TriesSolve (generated shop) log limit (Err e) old old
+unmade shop log limit stop.NoMemory old makes = record { only = refl; unread = refl; later = omega arith; tried = (refl, before_log refl) }
+unmade shop log limit (stop.ModelRefused r) old makes = record { only = refl; unread = refl; later = omega arith; tried = (nothing_read old, refl, makes, tt) }
+unmade shop log limit stop.Fault old makes = absurd makes
+unmade shop log limit (stop.LogRefused k) old makes = absurd makes
+unmade shop log limit stop.LogTooLong old makes = absurd makes
+unmade shop log limit (stop.ScheduleRefused r) old makes = absurd makes
 
 -- the answer is there: what stands on the desk by then
 answered : (m : Data) (log : Bytes) (limit : ℕ) (solved : Solved) (old s t : State) → OnlyReads old s → Searches m log limit (Ok solved) s t → t ≡ record old { model = s.model; logged = t.logged; created = true; logs = with_log log old.logs; faults = s.faults }
@@ -66,43 +92,43 @@ answered_log : (m : Data) (log : Bytes) (limit : ℕ) (solved : Solved) (old s t
 answered_log m log limit solved old s t reads says = subst (λ b. LogPromise m limit solved b t.logged) (ap (λ (x : State). x.logged) reads.only) says.0
 
 -- it was printed
-pub printed : (m : Data) (limit : ℕ) (solved : Solved) (name log : Bytes) (ended : Ended) (u : Unit {0}) (old s t w : State) → OnlyReads old s → s.faults ≡ old.faults → FileDeserves old name (Accepted m) → ReadsModel name old s → Searches m log limit (Ok solved) s t
-    → Writes Out (answer_text m solved) (Ok u) t w → ended ≡ ending_of solved.answer → is_success ended ≡ true → TriesSolve name log limit (Ok ended) old w
-printed m limit solved name log ended u old s t w reads kept deserved far says writes ending success =
-    let text : Bytes = answer_text m solved in
+pub printed : (m : Data) (limit : ℕ) (solved : Solved) (model : Source) (log : Bytes) (ended : Ended) (u : Unit {0}) (old s t w : State) → OnlyReads old s → IsUnread model old s → s.faults ≡ old.faults → SourceDeserves old model (Accepted m) → ((x : State) → x.model ≡ s.model → ReadsSource model old x) → Searches m log limit (Ok solved) s t
+    → Writes Out (told_text model m solved) (Ok u) t w → ended ≡ ending_of solved.answer → is_success ended ≡ true → TriesSolve model log limit (Ok ended) old w
+printed m limit solved model log ended u old s t w reads unread kept deserved far says writes ending success =
+    let text : Bytes = told_text model m solved in
     let is : w ≡ record old { model = s.model; out = appended text old.out; logged = t.logged; created = true; logs = with_log log old.logs; faults = s.faults } =
     writes.written
     ∙ ap (λ (x : State). record x { out = appended text x.out }) (answered m log limit solved old s t reads says) in
-    subst (TriesSolve name log limit (Ok ended) old) (sym is) (record {
+    subst (TriesSolve model log limit (Ok ended) old) (sym is) (record {
       only = refl;
+      unread = unread_on model old s _ unread refl;
       later = reads.later;
       tried = (
         kept,
         success,
         record { m = m; solved = solved; deserved = deserved; answer = says.1; ending = ending; printed = refl; created = (refl, refl); written = answered_log m log limit solved old s t reads says },
-        far,
+        far _ refl,
       );
     })
 
 -- or a front part of it
-pub half_printed : (m : Data) (limit : ℕ) (solved : Solved) (name log : Bytes) (e : Failed) (old s t w : State) → OnlyReads old s → s.faults ≡ old.faults → FileDeserves old name (Accepted m) → Searches m log limit (Ok solved) s t
-    → Writes Out (answer_text m solved) (Err e) t w → TriesSolve name log limit (Err stop.Fault) old w
-half_printed m limit solved name log e old s t w reads kept deserved says writes =
-    let text : Bytes = answer_text m solved in
+pub half_printed : (m : Data) (limit : ℕ) (solved : Solved) (model : Source) (log : Bytes) (e : Failed) (old s t w : State) → OnlyReads old s → IsUnread model old s → s.faults ≡ old.faults → SourceDeserves old model (Accepted m) → Searches m log limit (Ok solved) s t
+    → Writes Out (told_text model m solved) (Err e) t w → TriesSolve model log limit (Err stop.Fault) old w
+half_printed m limit solved model log e old s t w reads unread kept deserved says writes =
+    let text : Bytes = told_text model m solved in
     let n : ℕ = writes.failed.0 in
     let here = answered m log limit solved old s t reads says in
     let faults : t.faults ≡ old.faults = ap (λ (x : State). x.faults) here ∙ kept in
     let is : w ≡ record old { model = s.model; out = appended (take n text) old.out; logged = t.logged; created = true; logs = with_log log old.logs; faults = w.faults } =
     writes.failed.2
     ∙ ap (λ (x : State). record x { out = appended (take n text) x.out; faults = w.faults }) here in
-    subst (TriesSolve name log limit (Err stop.Fault) old) (sym is) (record {
+    subst (TriesSolve model log limit (Err stop.Fault) old) (sym is) (record {
       only = refl;
+      unread = unread_on model old s _ unread refl;
       later = subst (λ k. k ≤ w.faults) faults writes.count.later;
       tried = (
-        record {
-          rose = subst (λ k. Rose k w.faults) faults writes.count.failed;
-          calm = λ calm there. let ok = writes.calm (ap (λ (x : State). x.calm) here ∙ calm) in cc;
-        },
+        subst (λ k. Rose k w.faults) faults writes.count.failed,
+        (λ calm there. let ok = writes.calm (ap (λ (x : State). x.calm) here ∙ calm) in cc),
         in_answer m solved deserved says.1 (refl, refl) (answered_log m log limit solved old s t reads says) (n, writes.failed.1, refl),
       );
     })

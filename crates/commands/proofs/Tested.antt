@@ -1,12 +1,11 @@
 -- What the bytes of a schedule's file are, from the first of them.
-use Rattle.std.proofs.Common.{◌≡◌, ◌≤◌, ◌<◌, ◌+◌, ℕ, List, Option, Some, None, Result, Ok, Err, length, take, length-take, take_all, sym, ap, subst, ◌∙◌, arith}
+use Rattle.std.proofs.Common.{◌≡◌, ◌≤◌, ◌+◌, List, Option, Some, None, Result, Ok, Err, length, length-take, take_all, ap, subst, ◌∙◌, arith}
 use Rattle.std.specs.Prelude.{IfSome}
 use Rattle.sched_base.specs.declared.desk.File.{File}
 use Rattle.sched_base.specs.State.{State, bytes_of}
 use Rattle.sched_model.specs.declared.types.Assignment.{Assignment}
 use Rattle.sched_model.specs.Data.{Data}
 use Rattle.textline.specs.Lines.{Bytes}
-use Rattle.read_schedule.specs.Schedules.{IsRefused}
 use Rattle.commands.specs.declared.stop.ScheduleRefusal.{ScheduleRefusal}
 use Rattle.commands.specs.declared.stop.ScheduleRefusal.TheVariants.{TooLong, Line, Constraint}
 use Rattle.commands.specs.declared.stop.Stop.{Stop}

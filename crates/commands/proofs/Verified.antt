@@ -1,5 +1,5 @@
 -- What verifying a schedule has done, from what its steps did.
-use Rattle.std.proofs.Common.{◌≡◌, ◌≤◌, ℕ, List, Option, Ok, Err, length, take, refl, sym, ap, subst, ◌∙◌, inl, inr, arith}
+use Rattle.std.proofs.Common.{◌≡◌, ◌≤◌, ℕ, List, Option, Ok, Err, length, take, refl, sym, ap, subst, ◌∙◌, inr, arith}
 use Rattle.sched_base.specs.declared.desk.File.{File}
 use Rattle.sched_base.specs.declared.desk.Failed.{Failed}
 use Rattle.sched_base.specs.declared.desk.Port.TheVariants.{Out}

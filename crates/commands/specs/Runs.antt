@@ -1,5 +1,5 @@
 -- What a run promises: which ending it has, and what it has done to the desk by then.
-use Rattle.std.specs.Prelude.{◌≡◌, ◌↔◌, ◌⊎◌, ℕ, ◌+◌, ◌≤◌, true, false, List, [], take, Option, Some, None, option_map, option_and_then, IfSome, IsSome, ⊤, if◌then◌else◌, ◌<◌, length, slice_get}
+use Rattle.std.specs.Prelude.{◌≡◌, ◌↔◌, ◌⊎◌, ℕ, ◌+◌, ◌≤◌, true, false, List, [], take, Option, Some, None, option_map, option_and_then, IfSome, IsSome, ⊤, ◌<◌, length, slice_get}
 use Rattle.sched_base.specs.declared.desk.File.{File}
 use Rattle.sched_base.specs.State.{State, bytes_of, with_log}
 use Rattle.sched_base.specs.Calls.{Rose, appended}
@@ -19,10 +19,12 @@ use Rattle.cpo_elab.specs.Deserves.{Deserves}
 use Rattle.kernel.specs.declared.types.Verdict.{Verdict}
 use Rattle.kernel.specs.Steps.{LogState, opening}
 use Rattle.kernel.specs.Promises.{Means}
-use Rattle.command_line.specs.Commands.{Command, Solve, Check, Verify, Show, command_of}
+use Rattle.command_line.specs.declared.shop.Shop.{Shop}
+use Rattle.command_line.specs.Commands.{Command, Solve, Check, Verify, Show, Gen, Trial, command_of}
+use Rattle.modelgen.specs.Generated.{generated_text}
 use Rattle.textline.specs.Lines.{Bytes}
 use Rattle.read_schedule.specs.Schedules.{Spells, IsRefused as IsNoSchedule}
-use Rattle.sched_text.specs.Answers.{answer_text}
+use Rattle.sched_text.specs.Answers.{answer_text, summary_text}
 use Rattle.sched_text.specs.Canonical.{canonical_text}
 use Rattle.logtext.specs.Logs.{PlainLine, IsPlainLog, plain_log}
 use Rattle.logtext.specs.Writing.{AppendedFrom}
@@ -83,6 +85,42 @@ HasFiles (Some (Solve model log limit)) s = HasFile s model
 HasFiles (Some (Check model log)) s = HasFile s model × HasFile s log
 HasFiles (Some (Verify model schedule)) s = HasFile s model × HasFile s schedule
 HasFiles (Some (Show model)) s = HasFile s model
+HasFiles (Some (Gen shop)) s = ⊤
+HasFiles (Some (Trial shop log limit)) s = ⊤
+
+-- Where a model comes from.
+
+-- the file of this name, or a generated job shop
+pub data Source : Type 0 where
+  file : Bytes → Source
+  generated : Shop → Source
+
+abbrev pub shop_text : Shop → Bytes
+shop_text s = generated_text s.seed s.jobs s.machines
+
+-- the text there deserves this
+abbrev pub SourceDeserves : State → Source → Answer → Type 0
+SourceDeserves s (file name) answer = FileDeserves s name answer
+SourceDeserves s (generated shop) answer = Deserves (shop_text shop) answer
+
+abbrev pub HasSource : State → Source → Type 0
+HasSource s (file name) = HasFile s name
+HasSource s (generated shop) = ⊤
+
+-- how far its file was read
+abbrev pub ReadsSource : Source → State → State → Type 0
+ReadsSource (file name) old new = ReadsModel name old new
+ReadsSource (generated shop) old new = ⊤
+
+-- a generated model is in no file
+abbrev pub IsUnread : Source → State → State → Type 0
+IsUnread (file name) old new = ⊤
+IsUnread (generated shop) old new = new.model ≡ old.model
+
+-- what is printed of an answer: its text, for a generated model without the lines of its schedule
+abbrev pub told_text : Source → Data → Solved → Bytes
+told_text (file name) m solved = answer_text m solved
+told_text (generated shop) m solved = summary_text solved
 
 -- What every run promises.
 
@@ -104,14 +142,15 @@ pub record EveryRun (command : Option Command) (result : Ended) (old new : State
   pub fault_told : result ≡ end.Fault → Tells fault_line old new
   pub memory_told : result ≡ end.NoMemory → Tells memory_line old new
 
--- The refusal that the text of the model's file deserves is told. Nothing else was opened, and no log was created.
-pub record RefusesModel (model : Bytes) (old new : State) : Type 0 where
+-- The refusal that the text of the model's file, or the generated text, deserves is told. Nothing else was opened, and no log
+-- was created.
+pub record RefusesModel (model : Source) (old new : State) : Type 0 where
   pub refusal : Refusal
-  pub due : FileDeserves old model (Refused refusal)
+  pub due : SourceDeserves old model (Refused refusal)
   pub told : Tells (refusal_line refusal) old new
   pub only : new ≡ record old { model = new.model; err = new.err; faults = new.faults }
 
--- What `solve` promises.
+-- What `solve` and `trial` promise.
 
 -- one log was created, and it has this name
 abbrev pub CreatesLog : Bytes → State → State → Type 0
@@ -145,17 +184,17 @@ ending_of answer.Infeasible = end.Infeasible
 ending_of (answer.Unfinished found) = end.Unfinished
 
 -- The main promise.
-pub record AnswerPromise (model log : Bytes) (limit : ℕ) (result : Ended) (old new : State) : Type 0 where
+pub record AnswerPromise (model : Source) (log : Bytes) (limit : ℕ) (result : Ended) (old new : State) : Type 0 where
   pub m : Data
   pub solved : Solved
-  -- the text of the model's file deserves this model
-  pub deserved : FileDeserves old model (Accepted m)
+  -- the text of the model's file, or the generated text, deserves this model
+  pub deserved : SourceDeserves old model (Accepted m)
   -- the answer is so. Optimal: the schedule is a solution of this exact value, and no solution is better. Feasible: it is a
   -- solution. Infeasible: there is none. Unfinished: the schedule, if there is one, is a solution of this exact value
   pub answer : IsAnswer m solved.answer
   -- the ending is that of the answer, whose whole text was printed
   pub ending : result ≡ ending_of solved.answer
-  pub printed : new.out ≡ appended (answer_text m solved) old.out
+  pub printed : new.out ≡ appended (told_text model m solved) old.out
   -- the whole log was written under the name that the words give, and it is accepted
   pub created : CreatesLog log old new
   pub written : LogPromise m limit solved old.logged new.logged
@@ -168,18 +207,18 @@ pub record HoldsBegunLog (m : Data) (before after : Option Bytes) : Type 0 where
   pub splits : SplitFrom m 0 (opening m) lines
   pub part : AppendedFrom (plain_log lines) (option_map (λ bytes. []) before) after
 
--- How far `solve` came where it was cut short by a fault or for want of memory.
-pub data CutShort (model log : Bytes) (limit : ℕ) (old new : State) : Type 0 where
+-- How far it came where it was cut short by a fault or for want of memory.
+pub data CutShort (model : Source) (log : Bytes) (limit : ℕ) (old new : State) : Type 0 where
   -- no log was created, and nothing was printed
   before_log : new ≡ record old { model = new.model; err = new.err; faults = new.faults } → CutShort model log limit old new
   -- the log of the model that the text deserves was begun, and nothing was printed
-  in_log : (m : Data) → FileDeserves old model (Accepted m) → CreatesLog log old new → HoldsBegunLog m old.logged new.logged → new.out ≡ old.out → CutShort model log limit old new
+  in_log : (m : Data) → SourceDeserves old model (Accepted m) → CreatesLog log old new → HoldsBegunLog m old.logged new.logged → new.out ≡ old.out → CutShort model log limit old new
   -- the log is whole, and a front part of the answer's text was printed
-  in_answer : (m : Data) (solved : Solved) → FileDeserves old model (Accepted m) → IsAnswer m solved.answer → CreatesLog log old new → LogPromise m limit solved old.logged new.logged
-      → AppendedFrom (answer_text m solved) old.out new.out → CutShort model log limit old new
+  in_answer : (m : Data) (solved : Solved) → SourceDeserves old model (Accepted m) → IsAnswer m solved.answer → CreatesLog log old new → LogPromise m limit solved old.logged new.logged
+      → AppendedFrom (told_text model m solved) old.out new.out → CutShort model log limit old new
 
 -- by its ending; no other comes
-abbrev pub SolveEnds : Bytes → Bytes → ℕ → Ended → State → State → Type 0
+abbrev pub SolveEnds : Source → Bytes → ℕ → Ended → State → State → Type 0
 SolveEnds model log limit end.Done old new = AnswerPromise model log limit end.Done old new
 SolveEnds model log limit end.Infeasible old new = AnswerPromise model log limit end.Infeasible old new
 SolveEnds model log limit end.Unfinished old new = AnswerPromise model log limit end.Unfinished old new
@@ -188,9 +227,11 @@ SolveEnds model log limit end.Fault old new = CutShort model log limit old new
 SolveEnds model log limit end.NoMemory old new = CutShort model log limit old new
 SolveEnds model log limit _ old new = ⊥
 
-pub record SolvePromise (model log : Bytes) (limit : ℕ) (result : Ended) (old new : State) : Type 0 where
+pub record SolvePromise (model : Source) (log : Bytes) (limit : ℕ) (result : Ended) (old new : State) : Type 0 where
   -- nothing but these has changed
   pub only : new ≡ record old { model = new.model; out = new.out; err = new.err; logged = new.logged; created = new.created; logs = new.logs; faults = new.faults }
+  -- and for a generated model not the slot of the model either
+  pub unread : IsUnread model old new
   pub ends : SolveEnds model log limit result old new
 
 -- What `check` promises.
@@ -222,7 +263,7 @@ AcceptsPart model log old new = (new.out ≡ old.out) ⊎ ((v : Verdict) × (n :
 -- by its ending; no other comes
 abbrev pub CheckEnds : Bytes → Bytes → Ended → State → State → Type 0
 CheckEnds model log end.Accepted old new = AcceptPromise model log old new
-CheckEnds model log end.ModelRefused old new = RefusesModel model old new
+CheckEnds model log end.ModelRefused old new = RefusesModel (file model) old new
 CheckEnds model log end.LogRefused old new = RefusesLog model log old new
 CheckEnds model log end.Fault old new = AcceptsPart model log old new
 CheckEnds model log end.NoMemory old new = new.out ≡ old.out
@@ -286,7 +327,7 @@ VerifiesPart model schedule old new =
 -- by its ending; no other comes
 abbrev pub VerifyEnds : Bytes → Bytes → Ended → State → State → Type 0
 VerifyEnds model schedule end.Done old new = VerifiesSchedule model schedule old new
-VerifyEnds model schedule end.ModelRefused old new = RefusesModel model old new
+VerifyEnds model schedule end.ModelRefused old new = RefusesModel (file model) old new
 VerifyEnds model schedule end.ScheduleRefused old new = RefusesSchedule model schedule old new
 VerifyEnds model schedule end.Fault old new = VerifiesPart model schedule old new
 VerifyEnds model schedule end.NoMemory old new = new.out ≡ old.out
@@ -312,7 +353,7 @@ ShowsPart model old new = (new.out ≡ old.out) ⊎ ((m : Data) × FileDeserves 
 -- by its ending; no other comes
 abbrev pub ShowEnds : Bytes → Ended → State → State → Type 0
 ShowEnds model end.Done old new = ShowsModel model old new
-ShowEnds model end.ModelRefused old new = RefusesModel model old new
+ShowEnds model end.ModelRefused old new = RefusesModel (file model) old new
 ShowEnds model end.Fault old new = ShowsPart model old new
 ShowEnds model end.NoMemory old new = new.out ≡ old.out
 ShowEnds model _ old new = ⊥
@@ -322,6 +363,20 @@ pub record ShowPromise (model : Bytes) (result : Ended) (old new : State) : Type
   pub only : new ≡ record old { model = new.model; out = new.out; err = new.err; faults = new.faults }
   pub ends : ShowEnds model result old new
 
+-- What `gen` promises.
+
+-- by its ending; no other comes. Exactly the generated text was printed, and after a fault a front part of it
+abbrev pub GenEnds : Shop → Ended → State → State → Type 0
+GenEnds shop end.Done old new = new.out ≡ appended (shop_text shop) old.out
+GenEnds shop end.Fault old new = AppendedFrom (shop_text shop) old.out new.out
+GenEnds shop end.NoMemory old new = new.out ≡ old.out
+GenEnds shop _ old new = ⊥
+
+pub record GenPromise (shop : Shop) (result : Ended) (old new : State) : Type 0 where
+  -- nothing but these has changed; nothing is opened, and no log is created
+  pub only : new ≡ record old { out = new.out; err = new.err; faults = new.faults }
+  pub ends : GenEnds shop result old new
+
 -- The promise of a run.
 
 -- what words that are no command end in; nothing but the line on standard error has changed
@@ -330,12 +385,18 @@ NoCommandEnds end.Usage old new = Reports usage_line old new
 NoCommandEnds end.NoMemory old new = Reports memory_line old new
 NoCommandEnds _ old new = ⊥
 
+-- the program doesn't refuse its own text
+abbrev pub NeverRefused : Ended → Type 0
+NeverRefused result = result ≡ end.ModelRefused → ⊥
+
 abbrev pub CommandPromise : Option Command → Ended → State → State → Type 0
 CommandPromise None result old new = NoCommandEnds result old new
-CommandPromise (Some (Solve model log limit)) result old new = SolvePromise model log limit result old new
+CommandPromise (Some (Solve model log limit)) result old new = SolvePromise (file model) log limit result old new
 CommandPromise (Some (Check model log)) result old new = CheckPromise model log result old new
 CommandPromise (Some (Verify model schedule)) result old new = VerifyPromise model schedule result old new
 CommandPromise (Some (Show model)) result old new = ShowPromise model result old new
+CommandPromise (Some (Gen shop)) result old new = GenPromise shop result old new
+CommandPromise (Some (Trial shop log limit)) result old new = SolvePromise (generated shop) log limit result old new × NeverRefused result
 
 -- how far a command reads its files; `check` and `verify` open the second only where the model isn't refused
 abbrev pub ReadsFiles : Option Command → Ended → State → State → Type 0
@@ -344,6 +405,8 @@ ReadsFiles (Some (Solve model log limit)) result old new = ReadsModel model old 
 ReadsFiles (Some (Check model log)) result old new = ReadsModel model old new × ((result ≡ end.ModelRefused → ⊥) → ReadsLog log old new)
 ReadsFiles (Some (Verify model schedule)) result old new = ReadsModel model old new × ((result ≡ end.ModelRefused → ⊥) → ReadsSchedule schedule old new)
 ReadsFiles (Some (Show model)) result old new = ReadsModel model old new
+ReadsFiles (Some (Gen shop)) result old new = ⊤
+ReadsFiles (Some (Trial shop log limit)) result old new = ⊤
 
 pub record RunPromise (command : Option Command) (result : Ended) (old new : State) : Type 0 where
   pub every : EveryRun command result old new

@@ -1,12 +1,15 @@
 -- What each step of a command does to the desk on the way.
 use Rattle.std.specs.Prelude.{◌≡◌, ◌⊎◌, ℕ, ◌≤◌, true, List, Result, Ok, Err, ⊤, ◌+◌, Option, Some, None, take}
 use Rattle.sched_base.specs.State.{State, with_log, with_faults}
-use Rattle.sched_base.specs.Calls.{Rose}
+use Rattle.sched_base.specs.Calls.{Rose, appended}
 use Rattle.sched_model.specs.declared.types.Solved.{Solved}
 use Rattle.sched_model.specs.declared.types.Assignment.{Assignment}
 use Rattle.sched_model.specs.Data.{Data}
 use Rattle.sched_model.specs.Solution.{IsSolution}
 use Rattle.cpo_elab.specs.Answers.Answer.{Accepted, Refused}
+use Rattle.cpo_elab.specs.Deserves.{Deserves}
+use Rattle.command_line.specs.declared.shop.Shop.{Shop}
+use Rattle.logtext.specs.Writing.{AppendedFrom}
 use Rattle.kernel.specs.Promises.{Means}
 use Rattle.textline.specs.Lines.{Bytes}
 use Rattle.checker.specs.declared.judging.Checked.{Checked}
@@ -19,7 +22,7 @@ use Rattle.commands.specs.declared.stop.Stop.{Stop}
 use Rattle.commands.specs.declared.stop.Stop.TheVariants as stop
 use Rattle.commands.specs.Ended.{is_success}
 use Rattle.commands.specs.Told.{Reports, fault_line, memory_line, refusal_line, log_line, too_long_line, unfit_line}
-use Rattle.commands.specs.Runs.{IfFile, FileDeserves, HasFile, LogPromise, HoldsBegunLog, AnswerPromise, CutShort, AcceptsPart, AcceptPromise, ShowsModel, ShowsPart, model_bytes, ReadsModel, ReadsLog, schedule_limit, ReadsSchedule, SpellsWithin, FailsFirst, IsUnfit, VerifiesSchedule, VerifiesPart, RefusalDue}
+use Rattle.commands.specs.Runs.{Source, SourceDeserves, HasSource, ReadsSource, IsUnread, shop_text, IfFile, FileDeserves, HasFile, LogPromise, HoldsBegunLog, AnswerPromise, CutShort, AcceptsPart, AcceptPromise, ShowsModel, ShowsPart, model_bytes, ReadsModel, ReadsLog, schedule_limit, ReadsSchedule, SpellsWithin, FailsFirst, IsUnfit, VerifiesSchedule, VerifiesPart, RefusalDue}
 
 -- Reading the model.
 
@@ -60,15 +63,23 @@ Searches m log limit (Err stop.Fault) old new = Rose old.faults new.faults × (o
 Searches m log limit (Err stop.NoMemory) old new = (old.faults ≤ new.faults) × BeginsSearch m log old new
 Searches m log limit (Err _) old new = ⊥
 
-abbrev pub SolveTried : Bytes → Bytes → ℕ → Result Ended Stop → State → State → Type 0
-SolveTried model log limit (Ok ended) old new = (new.faults ≡ old.faults) × (is_success ended ≡ true) × AnswerPromise model log limit ended old new × ReadsModel model old new
-SolveTried model log limit (Err stop.Fault) old new = IsFault model old new × CutShort model log limit old new
+-- the model of a job shop, or why there is none
+abbrev pub MakesModel : Shop → Result Data Stop → Type 0
+MakesModel shop (Ok m) = Deserves (shop_text shop) (Accepted m)
+MakesModel shop (Err (stop.ModelRefused r)) = Deserves (shop_text shop) (Refused r)
+MakesModel shop (Err stop.NoMemory) = ⊤
+MakesModel shop (Err _) = ⊥
+
+abbrev pub SolveTried : Source → Bytes → ℕ → Result Ended Stop → State → State → Type 0
+SolveTried model log limit (Ok ended) old new = (new.faults ≡ old.faults) × (is_success ended ≡ true) × AnswerPromise model log limit ended old new × ReadsSource model old new
+SolveTried model log limit (Err stop.Fault) old new = Rose old.faults new.faults × (old.calm ≡ true → HasSource old model → ⊥) × CutShort model log limit old new
 SolveTried model log limit (Err stop.NoMemory) old new = (new.out ≡ old.out) × CutShort model log limit old new
-SolveTried model log limit (Err (stop.ModelRefused r)) old new = OnlyReads old new × (new.faults ≡ old.faults) × FileDeserves old model (Refused r) × ReadsModel model old new
+SolveTried model log limit (Err (stop.ModelRefused r)) old new = OnlyReads old new × (new.faults ≡ old.faults) × SourceDeserves old model (Refused r) × ReadsSource model old new
 SolveTried model log limit (Err _) old new = ⊥
 
-pub record TriesSolve (model log : Bytes) (limit : ℕ) (result : Result Ended Stop) (old new : State) : Type 0 where
+pub record TriesSolve (model : Source) (log : Bytes) (limit : ℕ) (result : Result Ended Stop) (old new : State) : Type 0 where
   pub only : new ≡ record old { model = new.model; out = new.out; logged = new.logged; created = new.created; logs = new.logs; faults = new.faults }
+  pub unread : IsUnread model old new
   pub later : old.faults ≤ new.faults
   pub tried : SolveTried model log limit result old new
 
@@ -166,6 +177,19 @@ pub record TriesShow (model : Bytes) (result : Result Ended Stop) (old new : Sta
   pub only : new ≡ record old { model = new.model; out = new.out; faults = new.faults }
   pub later : old.faults ≤ new.faults
   pub tried : ShowTried model result old new
+
+-- Printing a generated model.
+
+abbrev pub GenTried : Shop → Result Ended Stop → State → State → Type 0
+GenTried shop (Ok ended) old new = (new.faults ≡ old.faults) × (ended ≡ end.Done) × (new.out ≡ appended (shop_text shop) old.out)
+GenTried shop (Err stop.Fault) old new = Rose old.faults new.faults × (old.calm ≡ true → ⊥) × AppendedFrom (shop_text shop) old.out new.out
+GenTried shop (Err stop.NoMemory) old new = new.out ≡ old.out
+GenTried shop (Err _) old new = ⊥
+
+pub record TriesGen (shop : Shop) (result : Result Ended Stop) (old new : State) : Type 0 where
+  pub only : new ≡ record old { out = new.out; faults = new.faults }
+  pub later : old.faults ≤ new.faults
+  pub tried : GenTried shop result old new
 
 -- Ending without an answer.
 

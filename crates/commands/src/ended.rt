@@ -4,7 +4,7 @@ ghost use Rattle.commands.specs.Ended.{status_of};
 /// How a run ended.
 #[derive(Clone, Copy, Debug, PartialEq, Eq)]
 pub enum Ended {
-    /// A solution was printed, a schedule is one, or a model was shown.
+    /// A solution was found, a schedule is one, or a model was printed.
     Done,
     /// The log is accepted.
     Accepted,

@@ -4,6 +4,7 @@
 mod accepted;
 mod checking;
 mod ended;
+mod generating;
 mod laws;
 mod load;
 mod report;
@@ -11,6 +12,7 @@ mod running;
 mod showing;
 mod solving;
 mod stop;
+mod trying;
 mod valid;
 mod verifying;
 

@@ -5,9 +5,11 @@ ghost use Rattle.commands.specs.declared.ended.Ended.TheVariants as end;
 
 use crate::checking::run_check;
 use crate::ended::Ended;
+use crate::generating::run_gen;
 use crate::report::report;
 use crate::showing::run_show;
 use crate::solving::run_solve;
+use crate::trying::run_trial;
 use crate::verifying::run_verify;
 use command_line::{Command, WordsFault, read_command};
 use sched_base::Desk;
@@ -37,6 +39,8 @@ fn run_words<D: Desk>(alloc: Global, words: &[String], desk: &mut D) -> Ended
         Ok(Command::Check { model, log }) => run_check(alloc, desk, model, log),
         Ok(Command::Verify { model, schedule }) => run_verify(alloc, desk, model, schedule),
         Ok(Command::Show { model }) => run_show(alloc, desk, model),
+        Ok(Command::Gen { shop }) => run_gen(alloc, desk, shop),
+        Ok(Command::Trial { shop, log, nodes }) => run_trial(alloc, desk, shop, log, nodes),
         Err(WordsFault::Usage) => end_usage(desk),
         Err(WordsFault::NoMemory) => end_no_memory(desk),
     }

@@ -2,7 +2,7 @@ ghost use Rattle.std.specs.Prelude.{◌≡◌, true, Some};
 ghost use Rattle.command_line.specs.Commands.{Solve};
 ghost use Rattle.command_line.specs.Found.{IsLimit};
 ghost use Rattle.commands.specs.Ended.{is_success};
-ghost use Rattle.commands.specs.Runs.{RunPromise, ending_of};
+ghost use Rattle.commands.specs.Runs.{RunPromise, ending_of, file};
 ghost use Rattle.commands.specs.Tries.{Searches, TriesSolve};
 
 use crate::ended::Ended;
@@ -15,7 +15,8 @@ use sched_text::write_answer;
 use solver::solve;
 use std::alloc::Global;
 
-fn ending(answer: &Answer) -> Ended
+/// How a run that came to this answer ends.
+pub fn ending(answer: &Answer) -> Ended
     ensures is { result ≡ ending_of answer.now }
     ensures success { is_success result ≡ true }
 {
@@ -28,7 +29,7 @@ fn ending(answer: &Answer) -> Ended
 }
 
 /// Solves the model, and writes the log of the search to a new file. It opens at most `nodes` nodes.
-fn search_logged<D: Desk>(
+pub fn search_logged<D: Desk>(
     alloc: Global,
     desk: &mut D,
     model: &Model,
@@ -52,7 +53,7 @@ fn solve_file<D: Desk>(
     nodes: u32,
 ) -> Result<Ended, Stop>
     requires { IsLimit nodes }
-    ensures { TriesSolve name.now log.now nodes result (D.state desk.old) (D.state desk.new) }
+    ensures { TriesSolve (file name.now) log.now nodes result (D.state desk.old) (D.state desk.new) }
 {
     let model = read(alloc, desk, name)?;
     let solved = search_logged(alloc, desk, &model, log, nodes)?;

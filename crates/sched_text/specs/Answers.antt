@@ -66,3 +66,7 @@ shown_schedule m (Unfinished found) = found_schedule m found
 -- the verdict, the count of nodes, the schedule where there is one, and the end
 abbrev pub answer_text : Data → Solved → Bytes
 answer_text m s = line (verdict_words s.answer) ++ line (codes "nodes" ∷ decimal s.nodes ∷ []) ++ shown_schedule m s.answer ++ line (codes "end" ∷ [])
+
+-- the same without the schedule
+abbrev pub summary_text : Solved → Bytes
+summary_text s = line (verdict_words s.answer) ++ line (codes "nodes" ∷ decimal s.nodes ∷ []) ++ line (codes "end" ∷ [])

@@ -2,7 +2,7 @@ ghost use Rattle.std.specs.Prelude.{◌≡◌, ◌++◌, ◌∷◌, [], codes, f
 ghost use Rattle.std.specs.Fmt.{decimal, signed_decimal};
 ghost use Rattle.sched_base.specs.Calls.{Writes};
 ghost use Rattle.textline.specs.Lines.{line, spaced};
-ghost use Rattle.sched_text.specs.Answers.{slot_words, slot_line, label, order_line, segment_words, segments_line, schedule_lines, unfinished_words, verdict_words, shown_schedule, answer_text};
+ghost use Rattle.sched_text.specs.Answers.{slot_words, slot_line, label, order_line, segment_words, segments_line, schedule_lines, unfinished_words, verdict_words, shown_schedule, answer_text, summary_text};
 ghost use Rattle.sched_text.specs.Pieces.{at_places, interval_name};
 ghost use Rattle.sched_text.specs.Printing.{Prints};
 
@@ -233,5 +233,23 @@ pub fn write_answer<D: Desk>(model: &Model, solved: &Solved, desk: &mut D) -> Re
 {
     let mut page = new_page();
     put_answer(&mut page, desk, model, solved);
+    finish(page, desk)
+}
+
+fn put_summary<D: Desk>(page: &mut Page, desk: &mut D, solved: &Solved)
+    ensures { Prints (summary_text solved.now) page.old page.new (D.state desk.old) (D.state desk.new) }
+{
+    put_verdict(page, desk, &solved.answer);
+    put_nodes(page, desk, solved.nodes);
+    put_text(page, desk, b"end\n");
+}
+
+/// Writes the text of an answer without the lines of its schedule to standard output, as one write
+/// does. It takes no memory.
+pub fn write_summary<D: Desk>(solved: &Solved, desk: &mut D) -> Result<(), Failed>
+    ensures { Writes Port.Out (summary_text solved.now) result (D.state desk.old) (D.state desk.new) }
+{
+    let mut page = new_page();
+    put_summary(&mut page, desk, solved);
     finish(page, desk)
 }

@@ -1,0 +1,34 @@
+use Rattle.std.proofs.Common.{◌≡◌, Err, rules, refl, sym, subst}
+use Rattle.commands.specs.Runs.Source.{generated}
+use Rattle.commands.specs.Tries.{TriesSolve}
+use Rattle.commands.proofs.Solved.{nothing_read, unmade, stopped, printed, half_printed}
+use Rattle.commands.proofs.trying.solve_shop.Goals as goal
+
+pub returns-in_err-model : goal.returns-in_err-model
+returns-in_err-model g c =
+    let old = g.D.Desk.state c.args.desk.now in
+    let is : c.from_residual.result ≡ Err c.in_err-model.field-0.0 = search rules in
+    subst (λ r. TriesSolve (generated c.args.shop) c.args.log.now c.args.nodes r old old) (sym is)
+    (unmade c.args.shop c.args.log.now c.args.nodes c.in_err-model.field-0.0 old c.in_err-model.ensures)
+
+pub returns-in_err-solved : goal.returns-in_err-solved
+returns-in_err-solved g c =
+    let old = g.D.Desk.state c.args.desk.now in
+    let after = g.D.Desk.state c.search_logged.new.desk in
+    let is : c.from_residual-in_err-solved.result ≡ Err c.in_err-solved.field-0.0 = search rules in
+    subst (λ r. TriesSolve (generated c.args.shop) c.args.log.now c.args.nodes r old after) (sym is)
+    (stopped c.in_ok-model.model c.args.nodes (generated c.args.shop) c.args.log.now c.in_err-solved.field-0.0 old old after (nothing_read old) refl refl c.in_ok-model.ensures c.in_err-solved.ensures)
+
+pub returns-in-Ok : goal.returns-in-Ok
+returns-in-Ok g c =
+    let old = g.D.Desk.state c.args.desk.now in
+    printed c.in_ok-model.model c.args.nodes c.in_ok-solved.solved (generated c.args.shop) c.args.log.now c.ending.result _
+    old old (g.D.Desk.state c.search_logged.new.desk) (g.D.Desk.state c.write_summary.new.desk)
+    (nothing_read old) refl refl c.in_ok-model.ensures (λ x same. tt) c.in_ok-solved.ensures c.in-Ok.ensures c.ending.ensures.is c.ending.ensures.success
+
+pub returns : goal.returns
+returns g c =
+    let old = g.D.Desk.state c.args.desk.now in
+    half_printed c.in_ok-model.model c.args.nodes c.in_ok-solved.solved (generated c.args.shop) c.args.log.now _
+    old old (g.D.Desk.state c.search_logged.new.desk) (g.D.Desk.state c.write_summary.new.desk)
+    (nothing_read old) refl refl c.in_ok-model.ensures c.in_ok-solved.ensures c.in-Err.ensures

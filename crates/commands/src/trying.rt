@@ -1,0 +1,53 @@
+ghost use Rattle.std.specs.Prelude.{Some};
+ghost use Rattle.command_line.specs.Commands.{Trial};
+ghost use Rattle.command_line.specs.Found.{IsLimit, IsShop};
+ghost use Rattle.commands.specs.Runs.{RunPromise, generated};
+ghost use Rattle.commands.specs.Tries.{TriesSolve};
+
+use crate::ended::Ended;
+use crate::generating::generated_model;
+use crate::report::end_stopped;
+use crate::solving::{ending, search_logged};
+use crate::stop::Stop;
+use command_line::Shop;
+use cpo_elab::answer_is_determined;
+use generated_models::generated_texts_deserve;
+use sched_base::Desk;
+use sched_text::write_summary;
+use std::alloc::Global;
+
+/// Solves the model of a job shop with a log of the search, and then prints the answer without its
+/// schedule.
+fn solve_shop<D: Desk>(
+    alloc: Global,
+    desk: &mut D,
+    shop: Shop,
+    log: &str,
+    nodes: u32,
+) -> Result<Ended, Stop>
+    requires sized { IsShop shop }
+    requires limited { IsLimit nodes }
+    ensures { TriesSolve (generated shop) log.now nodes result (D.state desk.old) (D.state desk.new) }
+{
+    let model = generated_model(alloc, shop)?;
+    let solved = search_logged(alloc, desk, &model, log, nodes)?;
+    match write_summary(&solved, desk) {
+        Ok(()) => Ok(ending(&solved.answer)),
+        Err(_) => Err(Stop::Fault),
+    }
+}
+
+/// Carries out `trial`, with at most so many nodes.
+pub fn run_trial<D: Desk>(alloc: Global, desk: &mut D, shop: Shop, log: &str, nodes: u32) -> Ended
+    requires sized { IsShop shop }
+    requires limited { IsLimit nodes }
+    ensures { RunPromise (Some (Trial shop log.now nodes)) result (D.state desk.old) (D.state desk.new) }
+{
+    // The text deserves a model, and nothing else, so it isn't refused.
+    generated_texts_deserve();
+    answer_is_determined();
+    match solve_shop(alloc, desk, shop, log, nodes) {
+        Ok(ended) => ended,
+        Err(stop) => end_stopped(alloc, desk, stop),
+    }
+}

@@ -1,0 +1,2 @@
+pub mod Shops
+pub mod Laws
