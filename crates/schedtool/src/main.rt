@@ -2,12 +2,9 @@
 //! streams, and ends with the status of the ending.
 #![tactic(auto)]
 
-mod real;
-mod streams;
-mod words;
-
+use command_line::WordsFault;
 use commands::run;
-use real::RealDesk;
+use real_desk::{RealDesk, streams, words};
 use std::process::ExitCode;
 
 fn main(rt: HostRuntime) -> ExitCode {
@@ -16,7 +13,12 @@ fn main(rt: HostRuntime) -> ExitCode {
         Ok(()) => Some(&rt),
         Err(_) => None,
     };
+    let words = match words::given(&rt) {
+        Ok(words) => Ok(words),
+        Err(words::WordsFault::NotUtf8) => Err(WordsFault::Usage),
+        Err(words::WordsFault::NoMemory) => Err(WordsFault::NoMemory),
+    };
     let mut desk = RealDesk::new(files, rt.stdout(), rt.stderr());
-    let ended = run(rt.alloc(), words::given(&rt), &mut desk);
+    let ended = run(rt.alloc(), words, &mut desk);
     ExitCode::from(ended.status())
 }

@@ -1,0 +1,4 @@
+pub mod Drawn
+pub mod Failing
+pub mod Lines
+pub mod Tested

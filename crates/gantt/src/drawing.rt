@@ -1,0 +1,35 @@
+ghost use Rattle.std.specs.Prelude.{◌≡◌};
+ghost use Rattle.gantt.specs.Tries.{TriesDraw};
+ghost use Rattle.gantt.specs.Runs.{DrawPromise};
+
+use crate::ended::Ended;
+use crate::load::read;
+use crate::report::end_stopped;
+use crate::stop::Stop;
+use crate::testing::test_file;
+use sched_base::{Desk, Port};
+use std::alloc::Global;
+use svg_page::svg_page;
+
+/// Reads the model and the schedule that two files hold, and prints the page of the schedule.
+fn draw_file<D: Desk>(alloc: Global, desk: &mut D, name: &str, schedule: &str) -> Result<(), Stop>
+    ensures { TriesDraw name.now schedule.now result (D.state desk.old) (D.state desk.new) }
+{
+    let model = read(alloc, desk, name)?;
+    let a = test_file(alloc, desk, &model, schedule)?;
+    let page = svg_page(alloc, &model, &a)?;
+    match desk.write(Port::Out, page.as_slice()) {
+        Ok(()) => Ok(()),
+        Err(_) => Err(Stop::Fault),
+    }
+}
+
+/// Draws a schedule.
+pub fn run_draw<D: Desk>(alloc: Global, desk: &mut D, model: &str, schedule: &str) -> Ended
+    ensures { DrawPromise model.now schedule.now result (D.state desk.old) (D.state desk.new) }
+{
+    match draw_file(alloc, desk, model, schedule) {
+        Ok(()) => Ended::Done,
+        Err(stop) => end_stopped(alloc, desk, stop),
+    }
+}

@@ -1,0 +1,26 @@
+//! The program: it draws the schedule in a file, of the model in another, and ends with the status of
+//! the ending.
+#![tactic(auto)]
+
+mod drawing;
+mod ended;
+mod load;
+mod report;
+mod running;
+mod stop;
+mod testing;
+
+use real_desk::{RealDesk, streams, words};
+use running::run;
+use std::process::ExitCode;
+
+fn main(rt: HostRuntime) -> ExitCode {
+    // Where a file of the run could take the place of a closed stream, none is opened.
+    let files = match streams::hold(&rt) {
+        Ok(()) => Some(&rt),
+        Err(_) => None,
+    };
+    let mut desk = RealDesk::new(files, rt.stdout(), rt.stderr());
+    let ended = run(rt.alloc(), words::given(&rt), &mut desk);
+    ExitCode::from(ended.status())
+}

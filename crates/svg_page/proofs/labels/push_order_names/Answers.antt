@@ -1,0 +1,10 @@
+use Rattle.std.proofs.Common.{refl}
+use Rattle.svg_page.specs.Bars.{bar_name}
+use Rattle.svg_page.proofs.Rows.{item_more, items_end}
+use Rattle.svg_page.proofs.labels.push_order_names.Goals as goal
+
+pub loop-x-preserved : goal.loop-x-preserved
+loop-x-preserved c = item_more (λ x. bar_name c.args.model.now c.args.a.now c.args.frame.axis c.args.frame.rows c.args.row x.0) c.args.order.now c.loop-x.x-index _ _ _ _ _ c.loop-x-test.true refl c.loop-x.invariant c.in_ok-push_bar_name.ensures
+
+pub returns : goal.returns
+returns c = items_end (λ x. bar_name c.args.model.now c.args.a.now c.args.frame.axis c.args.frame.rows c.args.row x.0) c.args.order.now c.loop-x.x-index _ _ c.loop-x-test.false c.loop-x.invariant

@@ -1,0 +1,10 @@
+use Rattle.std.proofs.Common.{refl}
+use Rattle.svg_page.specs.States.{segment_name}
+use Rattle.svg_page.proofs.Rows.{item_more, items_end}
+use Rattle.svg_page.proofs.states.push_segment_names.Goals as goal
+
+pub loop-s-preserved : goal.loop-s-preserved
+loop-s-preserved c = item_more (segment_name c.args.axis) c.args.segments.now c.loop-s.s-index _ _ _ _ _ c.loop-s-test.true refl c.loop-s.invariant c.in_ok-push_segment_name.ensures
+
+pub returns : goal.returns
+returns c = items_end (segment_name c.args.axis) c.args.segments.now c.loop-s.s-index _ _ c.loop-s-test.false c.loop-s.invariant
