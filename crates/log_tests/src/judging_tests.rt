@@ -20,6 +20,14 @@ const BETWEEN: &str =
 const THREE: &str =
     "a = intervalVar(size=1,start=0..9,end=0..9); b = intervalVar(size=1,start=0..9,end=0..9); c = intervalVar(size=1,start=0..9,end=0..9); p = sequenceVar([a,b,c]);";
 
+/// They take 9, and have 8.
+const CROWDED: &str =
+    "A = intervalVar(size=4,end=0..8); B = intervalVar(size=3,end=0..8); C = intervalVar(size=2,end=0..8); noOverlap([A,B,C]); minimize(endOf(C));";
+
+/// `C` stands behind the others.
+const LAST: &str =
+    "A = intervalVar(size=4,end=0..8); B = intervalVar(size=3,end=0..8); C = intervalVar(size=2); noOverlap([A,B,C]); minimize(endOf(C));";
+
 type Answer = Result<Checked, CheckFault>;
 
 /// A model, a log, and its judgement: a verdict and the count of nodes, or the line that is refused.
@@ -67,7 +75,7 @@ fn is_so(alloc: Global, row: &Row) -> Result<bool, Fail> {
     Ok(judges(alloc, &model, row.1.as_bytes(), answer(row))?)
 }
 
-const JUDGED: [Row; 14] = [
+const JUDGED: [Row; 20] = [
     (
         NO_ROOM,
         "schedlog 1\nf LEAF 0 0\nend\n",
@@ -113,6 +121,28 @@ const JUDGED: [Row; 14] = [
         THREE,
         "schedlog 1\ns B 0 0 1\ns B 0 1 2\ns B 0 0 2\nf TRIPLE 0 0 1 2\nend\n",
         Err(5),
+    ),
+    (
+        CROWDED,
+        "schedlog 1\nf OVERLOAD 0 3 0 1 2\nend\n",
+        Ok((Verdict::Infeasible, 1)),
+    ),
+    (CROWDED, "schedlog 1\nf OVERLOAD 0 2 0 1\nend\n", Err(2)),
+    (CROWDED, "schedlog 1\nf OVERLOAD 0 3 0 1 2\n", Err(3)),
+    (
+        LAST,
+        "schedlog 1\nd SL 2 6 EDGE 0 0 2 2 0 1 2 0 1 2 0 1\nend\n",
+        Ok((Verdict::Unclosed { best: None }, 1)),
+    ),
+    (
+        LAST,
+        "schedlog 1\nd SL 2 5 EDGE 0 0 2 2 0 1 2 0 1 2 0 1\nend\n",
+        Err(2),
+    ),
+    (
+        LAST,
+        "schedlog 1\nd SL 2 7 EDGE 0 0 2 2 0 1 2 0 1 2 0 1\nend\n",
+        Err(2),
     ),
 ];
 

@@ -13,6 +13,8 @@ mod judging_tests;
 #[cfg(test)]
 mod lines;
 #[cfg(test)]
+mod piece_tests;
+#[cfg(test)]
 mod reader_tests;
 #[cfg(test)]
 mod refuting_tests;
@@ -20,6 +22,8 @@ mod refuting_tests;
 mod search_tests;
 #[cfg(test)]
 mod sequence_tests;
+#[cfg(test)]
+mod set_tests;
 #[cfg(test)]
 mod step_tests;
 #[cfg(test)]

@@ -1,6 +1,6 @@
 //! Tables of word lists. A row's words stand with one space between two; E alone is the empty word,
 //! and an empty row has no word.
-use command_line::{Command, WordsFault, read_command};
+use command_line::{Command, Shop, WordsFault, read_command};
 use std::alloc::{AllocError, Global};
 
 fn words_of(alloc: Global, row: &str) -> Result<Vec<String>, AllocError> {
@@ -36,6 +36,20 @@ fn is_show(command: Command<'_>, name: &str) -> bool {
     }
 }
 
+fn is_gen(command: Command<'_>, wanted: Shop) -> bool {
+    match command {
+        Command::Gen { shop } => shop == wanted,
+        _ => false,
+    }
+}
+
+fn is_trial(command: Command<'_>, wanted: Shop, name: &str, limit: u32) -> bool {
+    match command {
+        Command::Trial { shop, log, nodes } => shop == wanted && log == name && nodes == limit,
+        _ => false,
+    }
+}
+
 fn solves(alloc: Global, row: &str, model: &str, log: &str, nodes: u32) -> bool {
     let Ok(list) = words_of(alloc, row) else {
         return false;
@@ -62,6 +76,26 @@ fn shows(alloc: Global, row: &str, model: &str) -> bool {
     };
     match read_command(alloc, list.as_slice()) {
         Ok(command) => is_show(command, model),
+        Err(_) => false,
+    }
+}
+
+fn generates(alloc: Global, row: &str, shop: Shop) -> bool {
+    let Ok(list) = words_of(alloc, row) else {
+        return false;
+    };
+    match read_command(alloc, list.as_slice()) {
+        Ok(command) => is_gen(command, shop),
+        Err(_) => false,
+    }
+}
+
+fn tries(alloc: Global, row: &str, shop: Shop, log: &str, nodes: u32) -> bool {
+    let Ok(list) = words_of(alloc, row) else {
+        return false;
+    };
+    match read_command(alloc, list.as_slice()) {
+        Ok(command) => is_trial(command, shop, log, nodes),
         Err(_) => false,
     }
 }
@@ -97,6 +131,35 @@ fn each_checks(alloc: Global, rows: &[(&str, &str, &str)]) -> bool {
 fn each_shows(alloc: Global, rows: &[(&str, &str)]) -> bool {
     for (row, model) in rows {
         if !shows(alloc, row, model) {
+            return false;
+        }
+    }
+    true
+}
+
+fn each_generates(alloc: Global, rows: &[(&str, u64, u32, u32)]) -> bool {
+    for (row, seed, jobs, machines) in rows {
+        let shop = Shop {
+            seed: *seed,
+            jobs: *jobs,
+            machines: *machines,
+        };
+        if !generates(alloc, row, shop) {
+            return false;
+        }
+    }
+    true
+}
+
+/// Whether each row is a trial of seed 7 with 10 jobs and 5 machines.
+fn each_tries(alloc: Global, rows: &[(&str, &str, u32)]) -> bool {
+    let shop = Shop {
+        seed: 7,
+        jobs: 10,
+        machines: 5,
+    };
+    for (row, log, nodes) in rows {
+        if !tries(alloc, row, shop, log, *nodes) {
             return false;
         }
     }
@@ -169,6 +232,41 @@ fn commands(rt: HostRuntime) {
 }
 
 #[test]
+fn generated(rt: HostRuntime) {
+    let alloc = rt.alloc();
+    let shops = each_generates(
+        alloc,
+        [
+            ("gen 1 1 1", 1, 1, 1),
+            ("gen 0 0500 4", 0, 500, 4),
+            (
+                "gen 999999999999999999 10 200",
+                999_999_999_999_999_999,
+                10,
+                200,
+            ),
+            ("gen -- 7 10 5", 7, 10, 5),
+        ]
+        .as_slice(),
+    );
+    assert!(rt; shops);
+    let trials = each_tries(
+        alloc,
+        [
+            ("trial 7 10 5 l", "l", 100_000),
+            ("trial --nodes 500 7 10 5 l", "l", 500),
+            ("trial 7 --nodes=500 10 5 l", "l", 500),
+            ("trial 7 10 --nodes 500 5 l", "l", 500),
+            ("trial 7 10 5 --nodes 500 l", "l", 500),
+            ("trial 7 10 5 l --nodes=500", "l", 500),
+            ("trial 7 -- 10 5 --nodes", "--nodes", 100_000),
+        ]
+        .as_slice(),
+    );
+    assert!(rt; trials);
+}
+
+#[test]
 fn refusals(rt: HostRuntime) {
     let alloc = rt.alloc();
     let words = each_refused(
@@ -204,6 +302,21 @@ fn refusals(rt: HostRuntime) {
             "show --help",
             "show a --nodes 5",
             "show --nodes=5 a",
+            "gen 1 1",
+            "gen 1 1 1 1",
+            "gen 1 1 1 --nodes 5",
+            "gen 1 0 5",
+            "gen 1 501 1",
+            "gen 1 1 201",
+            "gen 1 401 5",
+            "gen 1 00001 1",
+            "gen 1000000000000000000 1 1",
+            "gen -1 1 1",
+            "gen 1x 1 1",
+            "trial 1 1 1",
+            "trial 1 1 1 l l",
+            "trial 1 1 1 l --nodes 0",
+            "trial --nodes 1 1 1 1",
             "help",
             "--help",
         ]

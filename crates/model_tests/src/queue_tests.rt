@@ -77,3 +77,41 @@ fn clears(rt: HostRuntime) -> Result<(), Fail> {
     assert_eq!(rt; queue.take(), None);
     Ok(())
 }
+
+#[test]
+fn unwakes_in_the_middle(rt: HostRuntime) -> Result<(), Fail> {
+    let mut queue = WakeQueue::new(rt.alloc(), 4)?;
+    queue.wake(2);
+    queue.wake(0);
+    queue.wake(3);
+    queue.wake(0);
+    queue.unwake(0);
+    assert!(rt; !queue.has(0));
+    queue.unwake(1);
+    assert_eq!(rt; queue.first(), Some(2));
+    assert_eq!(rt; queue.take(), Some(2));
+    assert_eq!(rt; queue.take(), Some(3));
+    assert_eq!(rt; queue.take(), None);
+    Ok(())
+}
+
+#[test]
+fn unwakes_at_the_ends(rt: HostRuntime) -> Result<(), Fail> {
+    let mut queue = WakeQueue::new(rt.alloc(), 3)?;
+    queue.wake(1);
+    assert_eq!(rt; queue.first(), Some(1));
+    queue.unwake(1);
+    assert!(rt; queue.is_empty());
+    assert_eq!(rt; queue.first(), None);
+    queue.wake(0);
+    queue.wake(1);
+    queue.wake(2);
+    queue.unwake(0);
+    assert_eq!(rt; queue.first(), Some(1));
+    queue.unwake(2);
+    queue.wake(0);
+    assert_eq!(rt; queue.take(), Some(1));
+    assert_eq!(rt; queue.take(), Some(0));
+    assert_eq!(rt; queue.take(), None);
+    Ok(())
+}

@@ -8,6 +8,8 @@ mod command_tests;
 #[cfg(test)]
 mod function_tests;
 #[cfg(test)]
+mod generated_tests;
+#[cfg(test)]
 mod model_tests;
 #[cfg(test)]
 mod sequence_tests;

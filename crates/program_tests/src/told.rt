@@ -169,10 +169,21 @@ fn agrees(solved: &[u8], checked: &[u8]) -> bool {
     solved.starts_with(told)
 }
 
-/// Whether `check` accepts the log of `solve` with the same verdict and count.
-fn is_checked(alloc: Global, text: &str, solved: &Told) -> Result<bool, NoMemory> {
+/// Whether `check` accepts the log of `solve` or `trial` with the same verdict and count.
+pub fn is_checked(alloc: Global, text: &str, solved: &Told) -> Result<bool, NoMemory> {
     let told = tell(alloc, &CHECK, (text, solved.log.as_slice()), &[])?;
     Ok(told.status == 0 && agrees(solved.out.as_slice(), told.out.as_slice()))
+}
+
+/// Whether two runs left the same behind.
+pub fn is_same(a: &Told, b: &Told) -> bool {
+    a.prints(b.status, b.out.as_slice(), b.err.as_slice()) && a.log.as_slice() == b.log.as_slice()
+}
+
+/// Whether what the run printed is a verdict, a count of nodes and the end.
+pub fn has_three_lines(told: &Told) -> bool {
+    let feeds = told.out.as_slice().iter().filter(|b| **b == b'\n').count();
+    feeds == 3 && told.out.as_slice().ends_with(b"\nend\n")
 }
 
 /// Whether the answer of `solve` is so, and the one log that it created has its name and is accepted.

@@ -26,7 +26,7 @@ fn tell_row(alloc: Global, row: &str) -> Result<Told, NoMemory> {
 }
 
 /// Words that are no command.
-const USAGE: [&str; 32] = [
+const USAGE: [&str; 49] = [
     "",
     "E",
     "-",
@@ -59,6 +59,23 @@ const USAGE: [&str; 32] = [
     "show",
     "show m l",
     "show m --nodes 1",
+    "gen",
+    "gen 1 1",
+    "gen 1 0 5",
+    "gen 1 5 0",
+    "gen 1 501 1",
+    "gen 1 1 201",
+    "gen 1 101 20",
+    "gen 1 00001 1",
+    "gen 0000000000000000001 1 1",
+    "gen E 1 1",
+    "gen 1 +1 1",
+    "gen 1 1 1 l",
+    "gen 1 1 1 --nodes 1",
+    "trial 1 1 1",
+    "trial 1 0 1 l",
+    "trial 1 1 1 l l",
+    "trial 1 1 1 l --nodes 0",
 ];
 
 /// Whether the run ends so, with this line on standard error and nothing else done.
