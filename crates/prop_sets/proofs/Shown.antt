@@ -1,15 +1,18 @@
 -- What the passes answer, with the sets that show it.
 use Rattle.std.proofs.lemmas.Bool.{and_parts as both}
-use Rattle.std.specs.Prelude.{◌≡◌, ◌⊎◌, ℕ, zero, suc, ◌+◌, ◌<◌, ◌≤◌, ℤ, neg_ℤ, ◌≤ℤ◌, Bool, true, false, ◌||◌, nat_eq, List, [], ◌∷◌, ◌++◌, length, Option, Some, None, IfSome}
+use Rattle.std.specs.Prelude.{◌≡◌, ◌≢◌, not, ◌⊎◌, ℕ, zero, suc, ◌+◌, ◌<◌, ◌≤◌, ℤ, neg_ℤ, ◌≤ℤ◌, Bool, true, false, ◌||◌, nat_eq, List, [], ◌∷◌, ◌++◌, length, Option, Some, None, IfSome}
 use Rattle.std.proofs.Common.{refl, sym, ap, subst, ◌∙◌, inl, inr, arith, take, get_or}
 use Rattle.std.proofs.lemmas.Int.{ints}
-use Rattle.std.proofs.lemmas.Bool.{true≢false, or_left, or_right}
+use Rattle.std.proofs.lemmas.Bool.{true≢false, false_from_ne_true, or_left, or_right}
+use Rattle.base_laws.specs.laws.Numbers.{below_or_last}
 use Rattle.task_sets.specs.Times.{Times, has, ends_at, greatest_lct, is_task_set, is_overload, overload_row}
 use Rattle.task_sets.specs.Sums.{has_first, same_number}
 use Rattle.task_sets.specs.Ects.{lt_holds}
 use Rattle.task_sets.specs.Cuts.{overload_is, task_set_of, no_task_set}
+use Rattle.theta_passes.specs.declared.rows.Presence.{Presence}
+use Rattle.theta_passes.specs.declared.rows.Presence.TheVariants as is
 use Rattle.theta_passes.specs.declared.rows.Row.{Row}
-use Rattle.theta_passes.specs.Rows.{is_present, is_candidate, times_at, with_candidate, IsBounded}
+use Rattle.theta_passes.specs.Rows.{is_present, is_candidate, row_at, says_absent, says_present, times_at, with_candidate, IsBounded}
 use Rattle.theta_passes.specs.Over.{IsFalling, NoOverloads, Overfull}
 use Rattle.theta_passes.specs.Edge.{IsOrder, IsFound, NoOverload}
 use Rattle.theta_passes.specs.Late.{IsRising, LatePass}
@@ -133,3 +136,26 @@ edge_shown rows i s u v found sets = record {
 
 pub late_shown : (rows : List Row) (i : ℕ) (s : List ℕ) → LatePass rows (Some i) → IsLateSet rows i s → IsLateFound rows i s
 late_shown rows i s found set = record { candidate = found.0; behind = set }
+
+-- who is there, or not, is a candidate where he is there
+
+closed : (p : Presence) → (p ≡ is.Maybe → ⊥) → not (says_absent p) ≡ says_present p
+closed is.Present other = refl
+closed is.Maybe other = absurd (other refl)
+closed is.Absent other = refl
+
+pub none_open : (rows : List Row) (k : ℕ) → k < 0 → is_candidate rows k ≡ is_present rows k
+none_open rows k low = absurd (omega (arith, low))
+
+pub more_closed : (rows : List Row) (n k : ℕ) → (row_at rows n).presence ≢ is.Maybe → ((j : ℕ) → j < n → is_candidate rows j ≡ is_present rows j) → k < n + 1 → is_candidate rows k ≡ is_present rows k
+more_closed rows n k other before low = elim (below_or_last k n low) [
+  | inl less ↦ before k less
+  | inr last ↦ subst (λ j. is_candidate rows j ≡ is_present rows j) (sym last) (closed (row_at rows n).presence other)
+]
+
+pub all_closed : (rows : List Row) (n : ℕ) → length rows ≤ n → ((j : ℕ) → j < n → is_candidate rows j ≡ is_present rows j) → (k : ℕ) → is_candidate rows k ≡ is_present rows k
+all_closed rows n whole before k = decided (is_candidate rows k) refl
+  where
+    decided : (b : Bool) → is_candidate rows k ≡ b → b ≡ is_present rows k
+    decided true on = let low = row_below rows k on in sym on ∙ before k (omega (arith, low, whole))
+    decided false off = sym (false_from_ne_true (is_present rows k) (λ on. true≢false (sym (candidate rows k on) ∙ off)))

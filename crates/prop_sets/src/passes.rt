@@ -1,8 +1,8 @@
 //! What the passes find of rows, with the sets that show it.
 ghost use Rattle.std.specs.Prelude.{◌≡◌, ◌⊎◌, ℕ, ◌<◌, ◌≤◌, ◌∷◌, List, true, false, None, Some, length, IfOk, IfNone, IfSome};
 ghost use Rattle.task_sets.specs.Times.{IsSized, has};
-ghost use Rattle.theta_passes.specs.Rows.{row_at, times_at, Fits, IsNearRow, IsByEst};
-ghost use Rattle.theta_passes.specs.Over.{NoOverloads, Overfull};
+ghost use Rattle.theta_passes.specs.Rows.{row_at, times_at, is_candidate, is_present, IsNearRow, IsByEst};
+ghost use Rattle.theta_passes.specs.Over.{NoOverloads, Overfull, OverPass};
 ghost use Rattle.theta_passes.specs.Edge.{PassOrNone, IsOrder, IsFound};
 ghost use Rattle.theta_passes.specs.Late.{LatePass, IsLow};
 ghost use Rattle.prop_sets.specs.Orders.{AreSpanned};
@@ -11,14 +11,16 @@ ghost use Rattle.prop_sets.specs.Busy.{IsOverFound, IsEdgeFound, IsLateFound};
 use crate::orders::{By, order_by};
 use sched_base::NoMemory;
 use std::alloc::Global;
-use theta_passes::Row;
 use theta_passes::edge::edge_pass;
 use theta_passes::late::late_pass;
 use theta_passes::leaves::{start_edge, start_late, start_over, tree_of};
 use theta_passes::over::over_pass;
-use theta_passes::scan::late_scan;
-use theta_passes::witnesses::{EdgeSets, edge_sets, late_set, overload_set};
-use thetatree::ThetaTree;
+use theta_passes::scan::{edge_scan, late_scan};
+use theta_passes::witnesses::{EdgeSets, edge_sets, late_set, over_scan, overload_set};
+use theta_passes::{Presence, Row};
+
+/// Of so many members a scan is sooner than a pass over the tree.
+const FEW: usize = 32;
 
 /// A member, and a set of others.
 #[derive(Debug, Drop)]
@@ -78,26 +80,60 @@ fn shown_overload(alloc: Global, rows: &[Row], with: Option<u32>) -> Result<Behi
     Ok(Behind { place, set })
 }
 
-/// A set of present members and perhaps one more that overloads, or that there is none.
+/// Whether it is open of nobody if he is there.
+#[tactic(auto, using(crate::proofs::Shown::none_open, crate::proofs::Shown::more_closed, crate::proofs::Shown::all_closed))]
+fn are_closed(rows: &[Row]) -> bool
+    ensures { result ≡ true → (k : ℕ) → is_candidate rows.now k ≡ is_present rows.now k }
+{
+    for k in 0..rows.len() {
+        if rows[k].presence == Presence::Maybe {
+            return false;
+        }
+    }
+    true
+}
+
+/// An overload of the present members and perhaps one more, by the pass over the tree.
 #[tactic(auto, using(crate::proofs::Shown::are_bounded, crate::proofs::Shown::is_falling))]
-pub fn find_overload(
-    alloc: Global,
-    rows: &[Row],
-    tree: &mut ThetaTree,
-) -> Result<Option<Behind>, NoMemory>
+fn over_by_tree(alloc: Global, rows: &[Row]) -> Result<Option<Option<u32>>, NoMemory>
     requires few { length rows.now ≤ 500 }
     requires near { (k : ℕ) → IsNearRow (row_at rows.now k) }
     requires sized { IsSized (times_at rows.now) }
     requires sorted { IsByEst rows.now }
     requires spanned { AreSpanned rows.now }
-    requires fits { Fits tree.old rows.now }
-    ensures fits { Fits tree.new rows.now }
+    ensures { IfOk result (OverPass rows.now) }
+{
+    let order = order_by(alloc, rows, By::Falling)?;
+    let mut tree = tree_of(alloc, rows)?;
+    start_over(&mut tree, rows);
+    Ok(over_pass(&mut tree, rows, &order))
+}
+
+fn overloaded(alloc: Global, rows: &[Row]) -> Result<Option<Option<u32>>, NoMemory>
+    requires few { length rows.now ≤ 500 }
+    requires near { (k : ℕ) → IsNearRow (row_at rows.now k) }
+    requires sized { IsSized (times_at rows.now) }
+    requires sorted { IsByEst rows.now }
+    requires spanned { AreSpanned rows.now }
+    ensures { IfOk result (OverPass rows.now) }
+{
+    if rows.len() <= FEW && are_closed(rows) {
+        return Ok(over_scan(rows));
+    }
+    over_by_tree(alloc, rows)
+}
+
+/// A set of present members and perhaps one more that overloads, or that there is none.
+pub fn find_overload(alloc: Global, rows: &[Row]) -> Result<Option<Behind>, NoMemory>
+    requires few { length rows.now ≤ 500 }
+    requires near { (k : ℕ) → IsNearRow (row_at rows.now k) }
+    requires sized { IsSized (times_at rows.now) }
+    requires sorted { IsByEst rows.now }
+    requires spanned { AreSpanned rows.now }
     ensures some { IfOk result (λ o. IfSome o (λ b. IsOverFound rows.now b.place b.set.items)) }
     ensures none { IfOk result (λ o. IfNone o (NoOverloads rows.now)) }
 {
-    let order = order_by(alloc, rows, By::Falling)?;
-    start_over(tree, rows);
-    let Some(with) = over_pass(tree, rows, &order) else {
+    let Some(with) = overloaded(alloc, rows)? else {
         return Ok(None);
     };
     let found = shown_overload(alloc, rows, with)?;
@@ -129,23 +165,53 @@ fn shown_edge(alloc: Global, rows: &[Row], order: &[u32], i: u32) -> Result<Cut,
     })
 }
 
-/// A member that some cut finds, or none finds any.
-#[tactic(auto, using(crate::proofs::Shown::are_bounded, crate::proofs::Shown::is_cut_order, crate::proofs::Shown::found_within, crate::proofs::Shown::none_alone))]
-pub fn find_edge(alloc: Global, rows: &[Row], tree: &mut ThetaTree) -> Result<Option<Cut>, NoMemory>
+/// A member that some cut finds, by the pass over the tree.
+#[tactic(auto, using(crate::proofs::Shown::are_bounded, crate::proofs::Shown::none_alone))]
+fn cut_by_tree(alloc: Global, rows: &[Row], order: &[u32]) -> Result<Option<u32>, NoMemory>
     requires few { length rows.now ≤ 500 }
     requires near { (k : ℕ) → IsNearRow (row_at rows.now k) }
     requires sized { IsSized (times_at rows.now) }
     requires sorted { IsByEst rows.now }
     requires spanned { AreSpanned rows.now }
     requires overloads { NoOverloads rows.now }
-    requires fits { Fits tree.old rows.now }
-    ensures fits { Fits tree.new rows.now }
+    requires order { IsOrder rows.now order.now }
+    ensures { IfOk result (PassOrNone rows.now) }
+{
+    let mut tree = tree_of(alloc, rows)?;
+    start_edge(&mut tree, rows);
+    Ok(edge_pass(&mut tree, rows, order))
+}
+
+fn cut_member(alloc: Global, rows: &[Row], order: &[u32]) -> Result<Option<u32>, NoMemory>
+    requires few { length rows.now ≤ 500 }
+    requires near { (k : ℕ) → IsNearRow (row_at rows.now k) }
+    requires sized { IsSized (times_at rows.now) }
+    requires sorted { IsByEst rows.now }
+    requires spanned { AreSpanned rows.now }
+    requires overloads { NoOverloads rows.now }
+    requires order { IsOrder rows.now order.now }
+    ensures { IfOk result (PassOrNone rows.now) }
+{
+    if rows.len() <= FEW {
+        return Ok(edge_scan(rows, order));
+    }
+    cut_by_tree(alloc, rows, order)
+}
+
+/// A member that some cut finds, or none finds any.
+#[tactic(auto, using(crate::proofs::Shown::is_cut_order, crate::proofs::Shown::found_within))]
+pub fn find_edge(alloc: Global, rows: &[Row]) -> Result<Option<Cut>, NoMemory>
+    requires few { length rows.now ≤ 500 }
+    requires near { (k : ℕ) → IsNearRow (row_at rows.now k) }
+    requires sized { IsSized (times_at rows.now) }
+    requires sorted { IsByEst rows.now }
+    requires spanned { AreSpanned rows.now }
+    requires overloads { NoOverloads rows.now }
     ensures some { IfOk result (λ o. IfSome o (λ c. IsEdgeFound rows.now c.place c.s.items c.u.items c.v.items)) }
     ensures none { IfOk result (λ o. IfNone o (PassOrNone rows.now None)) }
 {
     let order = order_by(alloc, rows, By::FallingPresent)?;
-    start_edge(tree, rows);
-    let Some(i) = edge_pass(tree, rows, &order) else {
+    let Some(i) = cut_member(alloc, rows, &order)? else {
         return Ok(None);
     };
     let found = shown_edge(alloc, rows, &order, i)?;
@@ -165,9 +231,6 @@ fn shown_late(alloc: Global, rows: &[Row], i: u32) -> Result<Behind, NoMemory>
     let set = late_set(alloc, rows, i)?;
     Ok(Behind { place: i, set })
 }
-
-/// Of so many members the scan is the sooner one.
-const FEW: usize = 32;
 
 /// A member that is late, by the pass over the tree.
 #[tactic(auto, using(crate::proofs::Shown::is_rising))]

@@ -22,7 +22,6 @@ use sched_base::{Itv, NoMemory, Seq};
 use sched_model::Model;
 use std::alloc::Global;
 use theta_passes::Row;
-use theta_passes::leaves::tree_of;
 
 /// A constraint without overlap: its number, its sequence and the members of this, in an order that
 /// the call names.
@@ -94,11 +93,10 @@ fn ask_edges(
     ensures busy { IfOk result (λ o. IfSome o (λ f. quiet model.now asked.now.c region.now.region best → ⊥)) }
 {
     let rows = rows_for(alloc, model, region, asked, back, true, !back)?;
-    let mut tree = tree_of(alloc, &rows)?;
-    if let Some(found) = find_overload(alloc, &rows, &mut tree)? {
+    if let Some(found) = find_overload(alloc, &rows)? {
         return answer_overload(alloc, model, region, best, asked.c, asked.members, &found);
     }
-    if let Some(found) = find_edge(alloc, &rows, &mut tree)? {
+    if let Some(found) = find_edge(alloc, &rows)? {
         return answer_edge(
             alloc,
             model,
@@ -195,8 +193,7 @@ fn ask_overload(
     ensures busy { IfOk result (λ o. IfSome o (λ f. quiet model.now asked.now.c region.now.region best → ⊥)) }
 {
     let rows = rows_for(alloc, model, region, asked, false, true, true)?;
-    let mut tree = tree_of(alloc, &rows)?;
-    if let Some(found) = find_overload(alloc, &rows, &mut tree)? {
+    if let Some(found) = find_overload(alloc, &rows)? {
         return answer_overload(alloc, model, region, best, asked.c, asked.members, &found);
     }
     Ok(None)

@@ -10,3 +10,4 @@ pub mod Reached
 pub mod Showing
 pub mod Scanned
 pub mod Edging
+pub mod CutScans

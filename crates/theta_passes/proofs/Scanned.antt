@@ -1,6 +1,6 @@
 -- The scan for a member that is late behind the others.
-use Rattle.std.specs.Prelude.{◌≡◌, ℕ, ◌+◌, ◌<◌, ◌≤◌, ℤ, ◌≤ℤ◌, ◌<ℤ◌, Bool, true, false, int_lt, List, length, Option, Some, None}
-use Rattle.std.proofs.Common.{arith, sym, ap, subst, ◌∙◌, refl, inl, inr}
+use Rattle.std.specs.Prelude.{◌≡◌, ℕ, ◌+◌, ◌≤◌, ℤ, ◌≤ℤ◌, ◌<ℤ◌, Bool, true, false, int_lt, List, length, Option, Some, None}
+use Rattle.std.proofs.Common.{arith, sym, subst, ◌∙◌, refl, inl, inr}
 use Rattle.std.proofs.lemmas.Bool.{true≢false}
 use Rattle.std.proofs.lemmas.Int.{ints}
 use Rattle.base_laws.specs.laws.Numbers.{below_or_last}

@@ -1,10 +1,11 @@
 -- The pass of EDGE: the cuts of the present members, and the candidates that a cut finds.
-use Rattle.std.specs.Prelude.{Bool, List, None, Option, Some, [], length, slice_index_or, suc, true, ℕ, ℤ, ◌<ℤ◌, ◌<◌, ◌∷◌, ◌≡◌, ◌≢◌, ◌≤ℤ◌, ◌≤◌, ◌⊎◌}
+use Rattle.std.specs.Prelude.{Bool, List, None, Option, Some, [], false, int_lt, length, slice_index_or, suc, true, ◌&&◌, ℕ, ℤ, ◌<ℤ◌, ◌<◌, ◌∷◌, ◌≡◌, ◌≢◌, ◌≤ℤ◌, ◌≤◌, ◌⊎◌}
 use Rattle.task_sets.specs.Times.{IsEdgeCut, in_cut, overload_row}
 use Rattle.thetatree.specs.Leaves.{Leaves, colour_at}
 use Rattle.thetatree.specs.declared.leaves.Colour.{Colour}
 use Rattle.thetatree.specs.declared.leaves.Colour.TheVariants.{Gray, Out, White}
 use Rattle.theta_passes.specs.Rows.{is_candidate, is_present, lct_in, row_at, times_at}
+use Rattle.theta_passes.specs.declared.parts.Top.{Top}
 use Rattle.theta_passes.specs.declared.rows.Row.{Row}
 use Rattle.thetatree.specs.Leaves as leaves
 
@@ -17,6 +18,16 @@ NoOverload rows = (s : List ℕ) → overload_row (times_at rows) (is_present ro
 -- a finding: a cut finds it
 abbrev pub IsFound : List Row → ℕ → Type 0
 IsFound rows k = (is_candidate rows k ≡ true) × (end : ℤ) × (z : ℤ) × (u : ℤ) × IsEdgeCut (times_at rows) (is_present rows) k end z u
+
+-- whether the cut at a moment starts a member too late that may end after it
+abbrev pub is_pushed : Row → ℤ → Option Top → Bool
+is_pushed r level None = false
+is_pushed r level (Some v) = int_lt level r.lct && int_lt r.lst v.value
+
+-- whether the cut at a moment finds a member
+abbrev pub FoundBy : List Row → ℤ → ℕ → Bool → Type 0
+FoundBy rows level k true = IsFound rows k
+FoundBy rows level k false = (z u : ℤ) → is_candidate rows k ≡ true → IsEdgeCut (times_at rows) (is_present rows) k level z u → ⊥
 
 abbrev pub NoneAt : List Row → ℤ → Type 0
 NoneAt rows level = (k : ℕ) (z u : ℤ) → is_candidate rows k ≡ true → IsEdgeCut (times_at rows) (is_present rows) k level z u → ⊥

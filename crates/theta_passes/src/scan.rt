@@ -1,8 +1,9 @@
-ghost use Rattle.std.specs.Prelude.{◌≡◌, ℕ, ◌<◌, ◌≤◌, length};
+ghost use Rattle.std.specs.Prelude.{◌≡◌, ℕ, ◌<◌, ◌≤◌, None, length};
 ghost use Rattle.theta_passes.specs.Rows.{row_at, is_candidate, IsNearRow, IsByEst};
 ghost use Rattle.theta_passes.specs.Parts.{part_has, GivesTop};
 ghost use Rattle.theta_passes.specs.Late.{LateAt, LateCandidate, LatePass, late_by};
-ghost use Rattle.theta_passes.specs.declared.parts.Part.TheVariants.{Before};
+ghost use Rattle.theta_passes.specs.declared.parts.Part.TheVariants.{Before, Cut};
+ghost use Rattle.theta_passes.specs.Edge.{is_pushed, FoundBy, FoundOrNone, IsMember, IsOrder, PassOrNone};
 
 use crate::parts::{Part, Top, top_of};
 use crate::{Presence, Row};
@@ -70,6 +71,72 @@ pub fn late_scan(rows: &[Row]) -> Option<u32>
         let i = k as u32;
         if is_found(rows, i) {
             return Some(i);
+        }
+    }
+    None
+}
+
+/// Whether a cut starts a member too late that may end after its moment.
+fn is_pushed(row: Row, level: i64, pushing: Option<Top>) -> bool
+    ensures { result ≡ is_pushed row level pushing }
+{
+    let Some(top) = pushing else {
+        return false;
+    };
+    level < row.lct && row.lst < top.value
+}
+
+#[tactic(auto, using(crate::proofs::CutScans::no_candidate_found))]
+fn finds(rows: &[Row], i: u32, level: i64, pushing: Option<Top>) -> bool
+    requires few { length rows.now ≤ 500 }
+    requires near { (k : ℕ) → IsNearRow (row_at rows.now k) }
+    requires sorted { IsByEst rows.now }
+    requires within { i < length rows.now }
+    requires member { IsMember rows.now level }
+    requires pushing { GivesTop rows.now (part_has rows.now (Cut None level)) 0 pushing }
+    ensures { FoundBy rows.now level i result }
+{
+    if !is_candidate(rows, i) {
+        return false;
+    }
+    if !is_pushed(rows[i as usize], level, pushing) {
+        return false;
+    }
+    is_late_by(level, top_of(rows, Part::CutAnd(level, i)))
+}
+
+/// A member that the cut at a moment finds.
+#[tactic(auto, using(crate::proofs::CutScans::none_tried, crate::proofs::CutScans::one_tried))]
+fn found_at(rows: &[Row], level: i64) -> Option<u32>
+    requires few { length rows.now ≤ 500 }
+    requires near { (k : ℕ) → IsNearRow (row_at rows.now k) }
+    requires sorted { IsByEst rows.now }
+    requires member { IsMember rows.now level }
+    ensures { FoundOrNone rows.now level result }
+{
+    let pushing = top_of(rows, Part::Cut(None, level));
+    for k in 0..rows.len() {
+        let i = k as u32;
+        if finds(rows, i, level, pushing) {
+            return Some(i);
+        }
+    }
+    None
+}
+
+/// What `edge_pass` finds, without a tree: of few members it is the sooner one.
+#[tactic(auto, using(crate::proofs::CutScans::no_cut, crate::proofs::CutScans::cut_passed, crate::proofs::CutScans::is_member))]
+pub fn edge_scan(rows: &[Row], order: &[u32]) -> Option<u32>
+    requires few { length rows.now ≤ 500 }
+    requires near { (k : ℕ) → IsNearRow (row_at rows.now k) }
+    requires sorted { IsByEst rows.now }
+    requires order { IsOrder rows.now order.now }
+    ensures { PassOrNone rows.now result }
+{
+    for m in order {
+        let found = found_at(rows, rows[*m as usize].lct);
+        if found.is_some() {
+            return found;
         }
     }
     None

@@ -1,8 +1,8 @@
 ghost use Rattle.std.specs.Prelude.{◌≡◌, ℕ, ◌<◌, ◌≤◌, ℤ, length, true, IfOk};
 ghost use Rattle.task_sets.specs.Times.{overload_row};
 ghost use Rattle.task_sets.specs.Cuts.{IsBelow};
-ghost use Rattle.theta_passes.specs.Rows.{row_at, is_candidate, times_at, IsNearRow, IsByEst};
-ghost use Rattle.theta_passes.specs.Over.{Overfull, NoOverloads};
+ghost use Rattle.theta_passes.specs.Rows.{row_at, is_candidate, is_present, times_at, IsNearRow, IsByEst};
+ghost use Rattle.theta_passes.specs.Over.{Overfull, NoOverloads, OverPass};
 ghost use Rattle.theta_passes.specs.Late.{IsLateRow};
 ghost use Rattle.theta_passes.specs.Edge.{IsFound, IsOrder};
 ghost use Rattle.theta_passes.specs.Witnesses.{members_of, full_by, FullAt, FullCut, IsLateSet, IsEdgeSets, edge_by, EdgeAt, EdgeCut};
@@ -47,6 +47,22 @@ fn full_cut(rows: &[Row], with: Option<u32>) -> Option<(i64, usize)>
         }
     }
     None
+}
+
+/// What `over_pass` finds where nobody is optional, without a tree: of few members it is the sooner
+/// one.
+#[tactic(auto, using(crate::proofs::CutScans::over_none, crate::proofs::CutScans::over_some))]
+pub fn over_scan(rows: &[Row]) -> Option<Option<u32>>
+    requires few { length rows.now ≤ 500 }
+    requires near { (k : ℕ) → IsNearRow (row_at rows.now k) }
+    requires sorted { IsByEst rows.now }
+    requires sure { (k : ℕ) → is_candidate rows.now k ≡ is_present rows.now k }
+    ensures { OverPass rows.now result }
+{
+    match full_cut(rows, None) {
+        None => None,
+        Some(_) => Some(None),
+    }
 }
 
 /// A set that overloads, of the present members and the one that `over_pass` answers with, as places.
