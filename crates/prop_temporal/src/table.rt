@@ -34,6 +34,8 @@ pub struct PropTemporal {
     touching: Vec<List<u32>>,
     sources: Sources,
     walks: Walks,
+    /// Whether no interval may be put off for long.
+    narrow: bool,
 }
 
 impl std::marker::Model for PropTemporal {
@@ -45,6 +47,19 @@ impl std::marker::Model for PropTemporal {
     ghost view = { λ p. record { optionals = p.optionals.items; sequences = p.sequences.items; ends = p.ends.items; touching = p.touching.items } };
 
     ghost invariant = { λ p. length p.ends.items < 2 ^ 31 };
+}
+
+/// So many moments are few.
+const NARROW: i64 = 10_000;
+
+/// Whether each interval is within few moments, from its earliest start to its latest end.
+fn are_narrow(intervals: &[IntervalDef]) -> bool {
+    for interval in intervals {
+        if interval.end_hi.saturating_sub(interval.start_lo) > NARROW {
+            return false;
+        }
+    }
+    true
 }
 
 /// The optional intervals.
@@ -163,6 +178,7 @@ impl PropTemporal {
             touching,
             sources,
             walks: Walks::new(alloc),
+            narrow: are_narrow(model.intervals()),
         })
     }
 
@@ -253,10 +269,10 @@ impl PropTemporal {
         false
     }
 
-    /// The level on which it is woken. Walks are looked for among the first, since precedences that
-    /// close to a walk too long push each other's bounds for as many lines as there are moments.
+    /// The level on which it is woken. Precedences that close to a walk too long push each other's
+    /// bounds for as many lines as there are moments. So walks are looked for among the first, but
+    /// among the last where moments are few, since it takes all orders that are known.
     pub fn level(&self, k: u32) -> u8 {
-        let _ = k;
-        0
+        if k == 0 && self.narrow { 2 } else { 0 }
     }
 }
