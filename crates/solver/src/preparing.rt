@@ -17,7 +17,7 @@ use std::alloc::Global;
 const MOST_NODES: u64 = 20_000;
 
 /// So many refuted regions end the shortest run.
-const REFUTED: u64 = 100;
+const REFUTED: u64 = 150;
 
 fn rehearse<P: Propagator>(
     alloc: Global,
