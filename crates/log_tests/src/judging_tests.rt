@@ -1,5 +1,6 @@
 //! Logs and their judgements, worked out by hand: the first line that isn't the one way to write what
 //! follows there from the lines before it.
+use crate::sips::Sips;
 use checker::{CheckFault, Checked, check, judgement_is_determined};
 use cpo_elab::read_model;
 use kernel::Verdict;
@@ -27,6 +28,10 @@ const CROWDED: &str =
 /// `C` stands behind the others.
 const LAST: &str =
     "A = intervalVar(size=4,end=0..8); B = intervalVar(size=3,end=0..8); C = intervalVar(size=2); noOverlap([A,B,C]); minimize(endOf(C));";
+
+/// Each comes before the other.
+const ROUND: &str =
+    "a = intervalVar(size=1,end=0..20); b = intervalVar(size=1,end=0..20); endBeforeStart(a,b); endBeforeStart(b,a);";
 
 type Answer = Result<Checked, CheckFault>;
 
@@ -56,7 +61,7 @@ fn one_file(alloc: Global, log: &[u8]) -> Result<List<File>, NoMemory> {
     Ok(files)
 }
 
-fn judges_on(alloc: Global, model: &Model, desk: &mut MemDesk, want: Answer) -> bool {
+fn judges_on<D: Desk>(alloc: Global, model: &Model, desk: &mut D, want: Answer) -> bool {
     if desk.open_in(Inlet::Log, "l").is_err() {
         return false;
     }
@@ -70,12 +75,47 @@ fn judges(alloc: Global, model: &Model, log: &[u8], want: Answer) -> Result<bool
     Ok(judges_on(alloc, model, &mut desk, want))
 }
 
-fn is_so(alloc: Global, row: &Row) -> Result<bool, Fail> {
-    let model = read_model(alloc, row.0.as_bytes())?;
-    Ok(judges(alloc, &model, row.1.as_bytes(), answer(row))?)
+/// The same where each read gives at most so many bytes.
+fn judges_sips(
+    alloc: Global,
+    model: &Model,
+    log: &[u8],
+    most: usize,
+    want: Answer,
+) -> Result<bool, NoMemory> {
+    let files = one_file(alloc, log)?;
+    let desk = MemDesk::new(alloc, files, List::new(alloc))?;
+    let mut desk = Sips { desk, most };
+    Ok(judges_on(alloc, model, &mut desk, want))
 }
 
-const JUDGED: [Row; 20] = [
+fn judges_all_sips(
+    alloc: Global,
+    model: &Model,
+    log: &[u8],
+    want: Answer,
+) -> Result<bool, NoMemory> {
+    for most in [1, 2, 3, 7] {
+        if !judges_sips(alloc, model, log, most, want)? {
+            return Ok(false);
+        }
+    }
+    Ok(true)
+}
+
+fn is_so(alloc: Global, row: &Row) -> Result<bool, Fail> {
+    let model = read_model(alloc, row.0.as_bytes())?;
+    let log = row.1.as_bytes();
+    let want = answer(row);
+    Ok(judges(alloc, &model, log, want)? && judges_all_sips(alloc, &model, log, want)?)
+}
+
+const JUDGED: [Row; 21] = [
+    (
+        ROUND,
+        "schedlog 1\nf CYCLE 4 0 0 0 0 1 1 0 0 0 1 0 0 1 0 0 0\nend\n",
+        Ok((Verdict::Infeasible, 1)),
+    ),
     (
         NO_ROOM,
         "schedlog 1\nf LEAF 0 0\nend\n",

@@ -25,6 +25,8 @@ mod sequence_tests;
 #[cfg(test)]
 mod set_tests;
 #[cfg(test)]
+mod sips;
+#[cfg(test)]
 mod step_tests;
 #[cfg(test)]
 mod writer_tests;

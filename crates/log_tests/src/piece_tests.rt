@@ -93,8 +93,14 @@ fn differs_by(alloc: Global, log: &[u8]) -> Result<Option<usize>, NoMemory> {
     Ok(None)
 }
 
-const LOGS: [&str; 7] = [
+const LOGS: [&str; 13] = [
     "",
+    "schedlog 1\nf OVERLOAD 0 3 0 1 2\nend\n",
+    "schedlog 1\nf OVERLOAD 0 2 0 1\nend\n",
+    "schedlog 1\nf OVERLOAD 0 3 0 1 2\n",
+    "schedlog 1\nd SL 2 6 EDGE 0 0 2 2 0 1 2 0 1 2 0 1\nend\n",
+    "schedlog 1\nd SL 2 5 EDGE 0 0 2 2 0 1 2 0 1 2 0 1\nend\n",
+    "schedlog 1\nf CYCLE 4 0 0 0 0 1 1 0 0 0 1 0 0 1 0 0 0\nend\n",
     "schedlog 1\nf LEAF 0 0\nend\n",
     "schedlog 1\ns B 0 0 1\ns B 0 1 2\ns B 0 2 0\nf TRIPLE 0 0 1 2\nend\n",
     "schedlog 1\nd SL 2 6 EDGE 0 0 2 2 0 1 2 0 1 2 0 1\nend\n\n",

@@ -77,3 +77,11 @@ fn checked(rt: HostRuntime) -> Result<(), Fail> {
     assert!(rt; has_log(rt.alloc(), &gen_words, &trial_words)?);
     Ok(())
 }
+
+#[test]
+fn many_members(rt: HostRuntime) -> Result<(), Fail> {
+    let gen_words = ["gen", "3", "40", "1"];
+    let trial_words = ["trial", "3", "40", "1", "l", "--nodes", "20"];
+    assert!(rt; has_log(rt.alloc(), &gen_words, &trial_words)?);
+    Ok(())
+}

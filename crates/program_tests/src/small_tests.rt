@@ -1,5 +1,5 @@
 //! Small models solved, and their best values found by a look at each assignment.
-use crate::told::{has_optimum, solves};
+use crate::told::{has_optimum, is_checked, is_same, solves, tell_of};
 use cpo_elab::read_model;
 use sched_base::{List, NoMemory};
 use sched_model::{Assignment, Model, Slot, is_solution, value};
@@ -102,5 +102,40 @@ fn are_right(alloc: Global) -> Result<bool, Fail> {
 #[test]
 fn small_models(rt: HostRuntime) -> Result<(), Fail> {
     assert!(rt; are_right(rt.alloc())?);
+    Ok(())
+}
+
+/// Whether two runs leave the same behind, and `check` accepts the log with the same verdict.
+fn repeats(alloc: Global, text: &str, words: &[&str]) -> Result<bool, NoMemory> {
+    let once = tell_of(alloc, words, text)?;
+    let again = tell_of(alloc, words, text)?;
+    Ok(is_same(&once, &again) && is_checked(alloc, text, &once)?)
+}
+
+/// Limits on nodes, of which the last three leave nodes for a preparation.
+const LIMITS: [&str; 5] = ["1", "4", "5", "12", "100000"];
+
+fn repeats_within(alloc: Global, text: &str) -> Result<bool, NoMemory> {
+    for limit in LIMITS {
+        if !repeats(alloc, text, &["solve", "m", "l", "--nodes", limit])? {
+            return Ok(false);
+        }
+    }
+    Ok(true)
+}
+
+fn all_repeat(alloc: Global) -> Result<bool, NoMemory> {
+    for n in 0..10u32 {
+        let text = small_text(alloc, n)?;
+        if !repeats_within(alloc, text.as_str())? {
+            return Ok(false);
+        }
+    }
+    Ok(true)
+}
+
+#[test]
+fn repeated(rt: HostRuntime) -> Result<(), Fail> {
+    assert!(rt; all_repeat(rt.alloc())?);
     Ok(())
 }
