@@ -12,7 +12,7 @@ use Rattle.sched_base.specs.declared.ids.Seq.{Seq}
 use Rattle.sched_model.specs.declared.types.IntervalDef.{IntervalDef}
 use Rattle.sched_model.specs.declared.types.Constraint.{Constraint}
 use Rattle.sched_model.specs.Words.{passes}
-use Rattle.sched_model.specs.Data.{same, has}
+use Rattle.sched_model.specs.Data.{same}
 use Rattle.refute_basic.specs.laws.Arc.{ends_of}
 use Rattle.refute_basic.specs.Standing.{is_no_overlap}
 use Rattle.prop_temporal.specs.Tables.{FitEach, AreOptional, AreDisjunctive, ends_at}

@@ -1,8 +1,10 @@
 //! The members of the sequences of constraints.
 ghost use Rattle.std.specs.Prelude.{◌≡◌, slice_get};
-ghost use Rattle.prop_temporal.specs.Members.{members_at};
+ghost use Rattle.prop_temporal.specs.Members.{members_at, told_in};
+ghost use Rattle.refute_basic.specs.Cycle.{itv};
 
-use refute_basic::members_of;
+use refute_basic::{ArcName, members_of, precedes};
+use region::Look;
 use sched_base::{Itv, at};
 use sched_model::{Constraint, Model};
 
@@ -14,5 +16,15 @@ pub fn members_at(model: &Model, u: u32) -> &[Itv]
     match at(model.constraints(), u as usize) {
         Some(Constraint::NoOverlap { p, .. }) => members_of(model, *p),
         _ => &[],
+    }
+}
+
+/// Whether a look tells the order of the two members that an arc of such a sequence is named by.
+pub fn is_told(model: &Model, look: &Look<'_>, i: ArcName) -> bool
+    ensures { result ≡ told_in look.now.region (slice_get model.now.constraints i.x) (itv i.y) (itv i.z) }
+{
+    match at(model.constraints(), i.x as usize) {
+        Some(Constraint::NoOverlap { p, .. }) => precedes(look, *p, Itv(i.y), Itv(i.z)),
+        _ => false,
     }
 }

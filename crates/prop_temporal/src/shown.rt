@@ -6,7 +6,7 @@ ghost use Rattle.prop_temporal.specs.Members.{members_at};
 ghost use Rattle.prop_temporal.specs.Shown.{AreShown, HasTried, Tries, TriesAll, IsOfConstraint, IsOfInterval, IsOfPrecedence, IsOfOrder, IsOfSide, IsOfMember, name, member_name};
 ghost use Rattle.prop_temporal.specs.laws.Own.{HasOwn};
 
-use crate::members::members_at;
+use crate::members::{is_told, members_at};
 use refute_basic::{Arc, ArcName, edge_of, is_there};
 use region::Look;
 use sched_base::{Itv, NoMemory};
@@ -47,6 +47,7 @@ fn named(kind: u32, x: u32, y: u32) -> ArcName
 fn named_member(behind: bool, u: u32, x: Itv, y: Itv) -> ArcName
     ensures value { result ≡ member_name behind u x.0 y.0 }
     ensures valid { is_name result ≡ true }
+    ensures kind { result.kind ≡ 3 }
 {
     let (first, second) = if behind { (y, x) } else { (x, y) };
     ArcName {
@@ -91,6 +92,21 @@ impl Shown {
         Ok(())
     }
 
+    /// Takes the arc of two members of a sequence, if the look shows it. Most orders aren't told, and
+    /// such a one is passed soon.
+    #[tactic(auto, using(crate::specs::laws::Collecting::not_told))]
+    fn try_told(&mut self, model: &Model, look: &Look<'_>, i: ArcName) -> Result<(), NoMemory>
+        requires of { IsRegionOf model.now look.now.region }
+        requires valid { is_name i ≡ true }
+        requires kind { i.kind ≡ 3 }
+        ensures { OnOk result (Tries model.now look.now.region i self.old self.new) }
+    {
+        if !is_told(model, look, i) {
+            return Ok(());
+        }
+        self.try_name(model, look, i)
+    }
+
     fn try_precedence(&mut self, model: &Model, look: &Look<'_>, u: u32) -> Result<(), NoMemory>
         requires { IsRegionOf model.now look.now.region }
         ensures { OnOk result (TriesAll model.now look.now.region (IsOfPrecedence u) self.old self.new) }
@@ -115,7 +131,7 @@ impl Shown {
         ensures { OnOk result (TriesAll model.now look.now.region (IsOfSide behind u x.0) self.old self.new) }
     {
         for y in members {
-            self.try_name(model, look, named_member(behind, u, x, *y))?;
+            self.try_told(model, look, named_member(behind, u, x, *y))?;
         }
         Ok(())
     }

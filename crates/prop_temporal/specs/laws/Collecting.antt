@@ -1,5 +1,5 @@
 -- Arcs are collected one name after another, and what they show.
-use Rattle.std.specs.Prelude.{◌≡◌, ℕ, zero, suc, ◌+◌, ◌*◌, ◌<◌, ◌≤◌, ℤ, pos, ◌+ℤ◌, ◌≤ℤ◌, ◌<ℤ◌, Bool, true, false, ◌&&◌, List, [], ◌∷◌, ◌++◌, length, map, get_or, Option, Some, None, slice_get, nat_eq, nat_lt, nat_le, int_lt}
+use Rattle.std.specs.Prelude.{◌≡◌, ℕ, zero, suc, ◌+◌, ◌*◌, ◌<◌, ◌≤◌, ℤ, pos, ◌+ℤ◌, ◌≤ℤ◌, ◌<ℤ◌, Bool, true, false, ◌&&◌, List, [], ◌∷◌, ◌++◌, length, map, get_or, Option, Some, None, option_and_then, if◌then◌else◌, slice_get, nat_eq, nat_lt, nat_le, int_lt}
 use Rattle.std.specs.List.{list_all, list_any}
 use Rattle.std.proofs.Common.{inl, inr, refl, sym, ap, subst, ◌∙◌, arith, take}
 use Rattle.std.proofs.lemmas.Bool.{true≢false}
@@ -7,7 +7,10 @@ use Rattle.std.proofs.lemmas.Int.{ints}
 use Rattle.std.proofs.lemmas.Bool.Decides.{nat_tests}
 use Rattle.std.proofs.lemmas.List.{get_or_append_left, get_or_push, length_push, take_all}
 use Rattle.sched_base.specs.declared.ids.Itv.{Itv}
-use Rattle.sched_model.specs.Data.{Data, has, same}
+use Rattle.sched_model.specs.declared.types.Constraint.{Constraint}
+use Rattle.sched_model.specs.declared.types.Constraint.TheVariants.{NoOverlap}
+use Rattle.sched_model.specs.declared.types.End.TheVariants.{Start, Finish}
+use Rattle.sched_model.specs.Data.{Data, has, same, gap}
 use Rattle.region.specs.Cells.{Region, is_there}
 use Rattle.sched_model.specs.Valid.{IsValid}
 use Rattle.sched_model.specs.laws.Limits.{limits_of}
@@ -23,12 +26,13 @@ use Rattle.refute_basic.specs.declared.arc_name.ArcName.{ArcName}
 use Rattle.refute_basic.specs.declared.witness.BasicWitness.TheVariants.{Cycle}
 use Rattle.refute_basic.specs.Witness.{is_name, is_valid}
 use Rattle.refute_basic.specs.Basic.{refutes}
-use Rattle.refute_basic.specs.Cycle.{itv, edge_of, closes, cycle_row}
+use Rattle.refute_basic.specs.Cycle.{itv, edge, edge_if, along, plain_edge_of, edge_of, closes, cycle_row}
+use Rattle.refute_basic.specs.Standing.{precedes}
 use Rattle.refute_basic.specs.laws.Walks.{AllLose, none_closes}
 use Rattle.prop_temporal.specs.Heights.{AllKeep}
 use Rattle.prop_temporal.specs.laws.Walked.{AreOf, AreOf.none, AreOf.one, closes_led}
-use Rattle.prop_temporal.specs.Shown.{Shown, name, no_name, name_at, IsAmong, AreShown, HasTried, Tries, TriesAll, OfConstraint, IsOfConstraint, IsOfInterval, IsOfPrecedence, IsOfOrder, IsOfOrderFrom, IsOfSide, IsOfSideOf, IsOfMember, member_name, this_of, other_of}
-use Rattle.prop_temporal.specs.Members.{members_at}
+use Rattle.prop_temporal.specs.Shown.{Shown, name, no_name, name_at, IsAmong, AreShown, HasTried, Tries, TriesAll, IsOfConstraint, IsOfInterval, IsOfPrecedence, IsOfOrder, IsOfOrderFrom, IsOfSide, IsOfSideOf, IsOfMember, member_name, other_of}
+use Rattle.prop_temporal.specs.Members.{members_at, told_in}
 use Rattle.prop_temporal.specs.laws.Named.{named, no_constraint, ordered, tried_all, same_name, same_member}
 use Rattle.base_laws.specs.laws.Numbers.{below_or_last}
 use Rattle.sched_model.specs.Bounds.{is_number}
@@ -65,6 +69,26 @@ among_more arcs e d is = record { at = is.at; within = omega (arith, is.within, 
 
 among_last : (arcs : List Edge) (e : Edge) → IsAmong (arcs ++ e ∷ []) e
 among_last arcs e = record { at = length arcs; within = omega (arith, length_push arcs e); is = get_or_push arcs e no_arc (length arcs) refl }
+
+not_along : (m : Data) (r : Region) (o : Option Constraint) (a b : Itv) → told_in r o a b ≡ false → option_and_then (along m r a b) o ≡ None
+not_along m r None a b off = refl
+not_along m r (Some (NoOverlap p matrix direct)) a b off = off_last (is_there r a && is_there r b) (precedes r p a b) (edge Finish a (if direct then pos 0 else gap m p matrix a b) Start b) off
+  where
+    off_last : (x y : Bool) (e : Edge) → y ≡ false → edge_if (x && y) e ≡ None
+    off_last true y e off = ap (λ c. edge_if c e) off
+    off_last false y e off = refl
+not_along m r (Some c) a b off = refl
+
+-- an arc of two members whose order isn't told is none
+pub not_told : (m : Data) (r : Region) (i : ArcName) (s : Shown) → i.kind ≡ 3 → told_in r (slice_get m.constraints i.x) (itv i.y) (itv i.z) ≡ false → Tries m r i s s
+not_told m r i s kind off = not_shown m r i s (sym (taken (nat_eq i.kind 3) (three i.kind kind) ∙ not_along m r (slice_get m.constraints i.x) (itv i.y) (itv i.z) off))
+  where
+    three : (n : ℕ) → n ≡ 3 → nat_eq n 3 ≡ true
+    three n is = grind (arith, nat_tests)
+
+    taken : (b : Bool) → b ≡ true → (if b then option_and_then (along m r (itv i.y) (itv i.z)) (slice_get m.constraints i.x) else plain_edge_of m r i) ≡ option_and_then (along m r (itv i.y) (itv i.z)) (slice_get m.constraints i.x)
+    taken true is = refl
+    taken false is = cc
 
 pub one_shown : (m : Data) (r : Region) (i : ArcName) (s : Shown) (e : Edge) → Some e ≡ edge_of m r i → is_name i ≡ true → IsOn (2 * length r.bounds) e → Tries m r i s (record { names = s.names ++ i ∷ []; arcs = s.arcs ++ e ∷ [] })
 one_shown m r i s e is valid on = record {

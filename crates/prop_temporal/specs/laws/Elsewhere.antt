@@ -26,7 +26,7 @@ use Rattle.refute_basic.specs.declared.arc_name.ArcName.{ArcName}
 use Rattle.refute_basic.specs.Cycle.{point, itv, forth, back, longer, shorter, along, edge_of}
 use Rattle.refute_basic.specs.laws.Arc.{ends_of}
 use Rattle.refute_basic.specs.laws.Walks.{AllLose}
-use Rattle.prop_temporal.specs.Members.{members_at, touched_by}
+use Rattle.prop_temporal.specs.Members.{members_at}
 use Rattle.prop_temporal.specs.Shown.{OfConstraint}
 use Rattle.prop_temporal.specs.Heights.{height_in, height_with, AreTouched, OwnKeep}
 use Rattle.prop_temporal.specs.laws.Named.{named, ordered, IsPointOf}

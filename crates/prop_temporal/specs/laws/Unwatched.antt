@@ -1,5 +1,5 @@
 -- A quiet propagator stays quiet where nothing that it watches changes.
-use Rattle.std.specs.Prelude.{◌≡◌, ◌⊎◌, ℕ, zero, suc, ◌<◌, ◌≤◌, ℤ, pos, Bool, true, false, ◌&&◌, ◌||◌, List, [], length, slice_get, Option, Some, None, IsTrue, nat_lt, nat_eq, int_le}
+use Rattle.std.specs.Prelude.{◌≡◌, ◌⊎◌, ℕ, zero, suc, ◌<◌, ◌≤◌, ℤ, pos, Bool, true, false, ◌&&◌, ◌||◌, [], length, Option, Some, None, IsTrue, nat_lt, nat_eq, int_le}
 use Rattle.std.proofs.Common.{inl, inr, get_or, refl, sym, ap, subst, ◌∙◌, arith}
 use Rattle.std.proofs.lemmas.Bool.{true≢false}
 use Rattle.std.proofs.lemmas.Bool.Decides.{nat_tests}

@@ -9,9 +9,9 @@ use Rattle.prop_temporal.proofs.shown.Shown.try_side.Goals as goal
 pub loop-y-preserved : goal.loop-y-preserved
 loop-y-preserved c =
     let y : Itv = get_or c.args.members.now c.loop-y.y-index (record { 0 = 0 }) in
-    side_more c.args.model.now c.args.look.now.region c.args.behind c.args.u c.args.x.0 c.args.members.now c.loop-y.y-index y c.args.self.now c.loop-y.self c.try_name.new.self (omega (arith, c.loop-y-test.true, c.loop-y.auto.y-index-end))
+    side_more c.args.model.now c.args.look.now.region c.args.behind c.args.u c.args.x.0 c.args.members.now c.loop-y.y-index y c.args.self.now c.loop-y.self c.try_told.new.self (omega (arith, c.loop-y-test.true, c.loop-y.auto.y-index-end))
     (get_or_default c.args.members.now c.loop-y.y-index (record { 0 = 0 }) y (omega (arith, c.loop-y-test.true, c.loop-y.auto.y-index-end))) c.loop-y.invariant
-    (subst (λ (i : ArcName). Tries c.args.model.now c.args.look.now.region i c.loop-y.self c.try_name.new.self) c.named_member.ensures.value c.in_ok-try_name.ensures)
+    (subst (λ (i : ArcName). Tries c.args.model.now c.args.look.now.region i c.loop-y.self c.try_told.new.self) c.named_member.ensures.value c.in_ok-try_told.ensures)
 
 pub returns : goal.returns
 returns c = side_all c.args.model.now c.args.look.now.region c.args.behind c.args.u c.args.x.0 c.args.members.now c.loop-y.y-index c.args.self.now c.loop-y.self c.requires.of c.requires.members (omega (arith, c.loop-y-test.false, c.loop-y.auto.y-index-end)) c.loop-y.invariant
