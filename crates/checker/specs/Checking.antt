@@ -2,7 +2,7 @@
 use Rattle.std.specs.Prelude.{◌≡◌, ℕ, zero, suc, ◌+◌, ◌-◌, ◌≤◌, ◌==◌, if◌then◌else◌, min, true, [], ◌∷◌, take, drop, Option, option_map, Result, Ok, Err, IfSome, ⊤}
 use Rattle.sched_base.specs.declared.desk.Inlet.TheVariants.{Log}
 use Rattle.sched_base.specs.State.{State, left_in}
-use Rattle.sched_base.specs.Calls.{Rose}
+use Rattle.sched_base.specs.Calls.{Rose, ReadsAtMost}
 use Rattle.sched_model.specs.Data.{Data}
 use Rattle.textline.specs.Lines.{Bytes}
 use Rattle.logtext.specs.Entries.{line_limit}
@@ -27,12 +27,6 @@ log_bytes bytes = take (log_limit + 1) bytes
 abbrev pub Counts : Result Checked CheckFault → State → State → Type 0
 Counts (Err Fault) old new = Rose old.faults new.faults × (old.calm ≡ true → ⊥)
 Counts _ old new = new.faults ≡ old.faults
-
--- at most so many bytes of what was left in a slot were read, and the others are left
-pub record ReadsAtMost (most : ℕ) (before after : Option Bytes) : Type 0 where
-  pub count : ℕ
-  pub few : count ≤ most
-  pub left : after ≡ option_map (drop count) before
 
 -- a log is read in pieces of at most so many bytes
 abbrev pub piece_limit : ℕ

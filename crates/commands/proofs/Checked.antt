@@ -10,7 +10,7 @@ use Rattle.std.specs.Prelude.{IfSome, option_and_then}
 use Rattle.sched_base.specs.declared.desk.File.{File}
 use Rattle.sched_base.specs.declared.desk.Inlet.TheVariants.{Log}
 use Rattle.sched_base.specs.State.{State, bytes_of, left_in}
-use Rattle.sched_base.specs.Calls.{Opens, Rose, Writes, appended}
+use Rattle.sched_base.specs.Calls.{Opens, Rose, Writes, appended, ReadsAtMost}
 use Rattle.sched_model.specs.Data.{Data}
 use Rattle.textline.specs.Lines.{Bytes}
 use Rattle.kernel.specs.Promises.{Means}
@@ -18,7 +18,7 @@ use Rattle.checker.specs.declared.judging.Checked.{Checked}
 use Rattle.checker.specs.declared.judging.CheckFault.{CheckFault}
 use Rattle.checker.specs.declared.judging.CheckFault.TheVariants as fault
 use Rattle.checker.specs.Judgement.{log_limit}
-use Rattle.checker.specs.Checking.{Checks, Judges, log_bytes, ReadsAtMost}
+use Rattle.checker.specs.Checking.{Checks, Judges, log_bytes}
 use Rattle.commands.specs.Runs.{IfFile, FileDeserves, AcceptsLog, ReadsModel, ReadsLog}
 use Rattle.commands.specs.Stops.{stop_of_check}
 use Rattle.commands.specs.Tries.{OnlyReads, OnlyJudges, JudgesFile, TriesCheck}

@@ -1,4 +1,3 @@
-pub mod Lines
 pub mod Logged
 pub mod Searched
 pub mod Shown

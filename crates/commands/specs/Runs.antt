@@ -2,7 +2,7 @@
 use Rattle.std.specs.Prelude.{◌≡◌, ◌↔◌, ◌⊎◌, ℕ, ◌+◌, ◌≤◌, true, false, List, [], take, Option, Some, None, option_map, option_and_then, IfSome, IsSome, ⊤, ◌<◌, length, slice_get}
 use Rattle.sched_base.specs.declared.desk.File.{File}
 use Rattle.sched_base.specs.State.{State, bytes_of, with_log}
-use Rattle.sched_base.specs.Calls.{Rose, appended}
+use Rattle.sched_base.specs.Calls.{Rose, appended, ReadsAtMost, AppendedFrom}
 use Rattle.sched_model.specs.declared.types.Answer.{Answer as Printed}
 use Rattle.sched_model.specs.declared.types.Answer.TheVariants as answer
 use Rattle.sched_model.specs.declared.types.Solved.{Solved}
@@ -27,9 +27,8 @@ use Rattle.read_schedule.specs.Schedules.{Spells, IsRefused as IsNoSchedule}
 use Rattle.sched_text.specs.Answers.{answer_text, summary_text}
 use Rattle.sched_text.specs.Canonical.{canonical_text}
 use Rattle.logtext.specs.Logs.{PlainLine, IsPlainLog, plain_log}
-use Rattle.logtext.specs.Writing.{AppendedFrom}
 use Rattle.checker.specs.Judgement.{IsAccepted, IsRefused, IsTooLong, log_limit}
-use Rattle.checker.specs.Checking.{log_bytes, ReadsAtMost}
+use Rattle.checker.specs.Checking.{log_bytes}
 use Rattle.solver.specs.Splits.{SplitFrom}
 use Rattle.solver.specs.Answers.{IsAnswer, verdict_in, shown_in, is_unfinished}
 use Rattle.commands.specs.declared.ended.Ended.{Ended}

@@ -2,10 +2,9 @@
 use Rattle.std.specs.Prelude.{◌≡◌, ◌⊎◌, ℕ, ◌≤◌, [], ◌∷◌, codes}
 use Rattle.std.specs.Fmt.{decimal}
 use Rattle.sched_base.specs.State.{State}
-use Rattle.sched_base.specs.Calls.{Rose, appended}
+use Rattle.sched_base.specs.Calls.{Rose, appended, AppendedFrom}
 use Rattle.cpo_text.specs.declared.text.Refusal.{Refusal}
 use Rattle.textline.specs.Lines.{Bytes, line}
-use Rattle.logtext.specs.Writing.{AppendedFrom}
 use Rattle.commands.specs.declared.stop.ScheduleRefusal.{ScheduleRefusal}
 use Rattle.commands.specs.declared.stop.ScheduleRefusal.TheVariants.{TooLong, Line, Constraint}
 

@@ -1,7 +1,7 @@
 -- What each step of a command does to the desk on the way.
 use Rattle.std.specs.Prelude.{◌≡◌, ◌⊎◌, ℕ, ◌≤◌, true, List, Result, Ok, Err, ⊤, ◌+◌, Option, Some, None, take}
 use Rattle.sched_base.specs.State.{State, with_log, with_faults}
-use Rattle.sched_base.specs.Calls.{Rose, appended}
+use Rattle.sched_base.specs.Calls.{Rose, appended, AppendedFrom}
 use Rattle.sched_model.specs.declared.types.Solved.{Solved}
 use Rattle.sched_model.specs.declared.types.Assignment.{Assignment}
 use Rattle.sched_model.specs.Data.{Data}
@@ -9,7 +9,6 @@ use Rattle.sched_model.specs.Solution.{IsSolution}
 use Rattle.cpo_elab.specs.Answers.Answer.{Accepted, Refused}
 use Rattle.cpo_elab.specs.Deserves.{Deserves}
 use Rattle.command_line.specs.declared.shop.Shop.{Shop}
-use Rattle.logtext.specs.Writing.{AppendedFrom}
 use Rattle.kernel.specs.Promises.{Means}
 use Rattle.textline.specs.Lines.{Bytes}
 use Rattle.checker.specs.declared.judging.Checked.{Checked}

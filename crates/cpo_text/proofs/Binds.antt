@@ -2,6 +2,7 @@
 use Rattle.std.proofs.Common.{◌≡◌, ℕ, Bool, true, false, List, [], ◌∷◌, Option, Some, None, refl, sym, ap, cond, ◌∙◌}
 use Rattle.std.specs.Prelude.{bytes_eq}
 use Rattle.std.proofs.lemmas.Slice.Eq.{bytes_eq-Decides}
+use Rattle.std.proofs.lemmas.Option.{same_Some}
 use Rattle.cpo_text.specs.Words.{Word, is_sign}
 use Rattle.cpo_text.specs.Words.Word.{name, number, large, sign, quoted}
 use Rattle.cpo_text.specs.Rules.{Found, bound, behind, if_behind, name_at}
@@ -25,11 +26,8 @@ pub need_parts : {Y : Type 0} (o : Option (List Word)) (f : List Word → Found 
 need_parts None f y rest h = cc
 need_parts (Some r) f y rest h = record { words = r; first = refl; then = h }
 
-pub some_same : {X : Type 0} (x y : X) → Some x ≡ Some y → x ≡ y
-some_same x y h = cc
-
 pub some_pair : {A B : Type 0} (a c : A) (b d : B) → ◌≡◌ {A = Option (A × B)} (Some (a, b)) (Some (c, d)) → (a ≡ c) × (b ≡ d)
-some_pair {A} {B} a c b d h = let p : A × B = (a, b) in let q : A × B = (c, d) in let e : p ≡ q = some_same p q h in (ap (λ x. x.0) e, ap (λ x. x.1) e)
+some_pair {A} {B} a c b d h = let p : A × B = (a, b) in let q : A × B = (c, d) in let e : p ≡ q = same_Some p q h in (ap (λ x. x.0) e, ap (λ x. x.1) e)
 
 pub both : {A B C : Type 0} (f : A → B → C) {a c : A} {b d : B} → a ≡ c → b ≡ d → f a b ≡ f c d
 both f {a} {c} {b} {d} e g = ap (λ x. f x b) e ∙ ap (f c) g

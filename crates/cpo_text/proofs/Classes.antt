@@ -9,9 +9,6 @@ pub either : {X : Type 0} (P : X → Type 0) (t : Bool) (a b : X) → (t ≡ tru
 either P true a b f g = f refl
 either P false a b f g = g refl
 
-pub some_same : {X : Type 0} (x y : X) → Some x ≡ Some y → x ≡ y
-some_same x y h = cc
-
 -- not a letter, a digit, a blank or a quote
 pub record IsPlain (c : ℕ) : Type 0 where
   pub letter : is_letter c ≡ false

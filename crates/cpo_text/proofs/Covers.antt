@@ -4,11 +4,12 @@ use Rattle.std.specs.List.{list_all, prefix_len}
 use Rattle.std.proofs.lemmas.Bool.Decides.{nat_tests}
 use Rattle.std.proofs.lemmas.List.{take-append-drop}
 use Rattle.std.proofs.lemmas.Bool.{and_parts}
+use Rattle.std.proofs.lemmas.Option.{same_Some}
 use Rattle.cpo_text.specs.declared.piece.Piece.{Piece}
 use Rattle.cpo_text.specs.declared.piece.Piece.TheVariants.{Name, Int, Sign, Quoted, Blank, Line, Block}
 use Rattle.cpo_text.specs.Tokens.{is_letter, is_digit, is_name_byte, is_blank, is_sign_byte, is_sign_pair, is_on_line, is_quotable, begins, has_close, IsPiece, IsAtFront, IsLongest, NonePiece}
 use Rattle.cpo_text.specs.Lexing.{slash_at, sign_at, piece_from, piece_at}
-use Rattle.cpo_text.proofs.Classes.{either, some_same, digit_no_letter, blank_no_letter, blank_no_digit, sign_plain, pair_plain, prefix_most}
+use Rattle.cpo_text.proofs.Classes.{either, digit_no_letter, blank_no_letter, blank_no_digit, sign_plain, pair_plain, prefix_most}
 use Rattle.cpo_text.proofs.Fronts.{IsFound, piece_found, quote_again, close_again}
 use Rattle.cpo_text.specs.lemmas.Slashes.{pair_no_slash}
 
@@ -166,7 +167,7 @@ longest_of bs q e = record {
   front = (front_of bs q e).0;
   longest = λ other m more front.
       let c = covers bs other m front in
-      let same = ap (λ (x : Piece × ℕ). x.1) (some_same q c.found (sym e ∙ c.is)) in
+      let same = ap (λ (x : Piece × ℕ). x.1) (same_Some q c.found (sym e ∙ c.is)) in
       let most = c.most in
       omega arith;
 }

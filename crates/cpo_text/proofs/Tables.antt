@@ -1,6 +1,7 @@
 -- Tables of words: each word is the spelling of what stands beside it, and that is found by it.
 use Rattle.std.proofs.Common.{◌≡◌, ℕ, Bool, true, false, cond, List, [], ◌∷◌, Option, Some, None, refl, sym, ap, ◌∙◌}
 use Rattle.std.specs.Prelude.{codes, bytes_eq, if◌then◌else◌, is_some, ⊤}
+use Rattle.std.proofs.lemmas.Option.{same_Some}
 use Rattle.cpo_text.specs.Words.{Word}
 use Rattle.cpo_text.specs.Words.Word.{name, number, large, sign, quoted}
 use Rattle.cpo_text.specs.Spelling.{temporal_word, hierarchy_word, extreme_word, order_word, bound_sign, sense_word}
@@ -21,7 +22,7 @@ use Rattle.cpo_text.specs.declared.tree.Bound.{Bound}
 use Rattle.cpo_text.specs.declared.tree.Bound.TheVariants.{AtMost, AtLeast}
 use Rattle.cpo_text.specs.declared.tree.Sense.{Sense}
 use Rattle.cpo_text.specs.declared.tree.Sense.TheVariants.{Minimize, Maximize}
-use Rattle.cpo_text.proofs.Binds.{both, some_same, some_pair, bytes_same}
+use Rattle.cpo_text.proofs.Binds.{both, some_pair, bytes_same}
 
 abbrev pub IsTable : {X : Type 0} → (X → List ℕ) → List (List ℕ × X) → Type 0
 IsTable spell [] = ⊤
@@ -32,7 +33,7 @@ found_is spell [] table n x h = cc
 found_is spell (p ∷ ps) table n x h = decided (bytes_eq n p.0) refl h (found_is spell ps table.1 n x)
   where
     decided : (b : Bool) → bytes_eq n p.0 ≡ b → cond b (Some p.1) (find_word ps n) ≡ Some x → (find_word ps n ≡ Some x → n ≡ spell x) → n ≡ spell x
-    decided true is h later = bytes_same n p.0 is ∙ table.0 ∙ ap spell (some_same p.1 x h)
+    decided true is h later = bytes_same n p.0 is ∙ table.0 ∙ ap spell (same_Some p.1 x h)
     decided false is h later = later h
 
 -- signs
@@ -135,8 +136,8 @@ unfolding constraint_of
 constraint_is n w h = decided (find_word precedences n) refl (find_word gatherings n) refl h
   where
     decided : (a : Option ConstraintWord) → find_word precedences n ≡ a → (b : Option ConstraintWord) → find_word gatherings n ≡ b → or_else a (or_else b (find_word always n)) ≡ Some w → n ≡ constraint_name w
-    decided (Some x) is b e h = found_is constraint_name precedences precedence_table n x is ∙ ap constraint_name (some_same x w h)
-    decided None is (Some x) e h = found_is constraint_name gatherings gathering_table n x e ∙ ap constraint_name (some_same x w h)
+    decided (Some x) is b e h = found_is constraint_name precedences precedence_table n x is ∙ ap constraint_name (same_Some x w h)
+    decided None is (Some x) e h = found_is constraint_name gatherings gathering_table n x e ∙ ap constraint_name (same_Some x w h)
     decided None is None e h = found_is constraint_name always always_table n w h
 
 -- no part and no call of an expression begins with this word

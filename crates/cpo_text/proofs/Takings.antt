@@ -3,6 +3,7 @@ use Rattle.std.proofs.Common.{◌≡◌, ℕ, zero, suc, Bool, true, false, ◌&
 use Rattle.std.specs.Prelude.{codes, bytes_eq}
 use Rattle.std.proofs.lemmas.Bool.Decides.{nat_tests}
 use Rattle.std.proofs.lemmas.Bool.{and_from}
+use Rattle.std.proofs.lemmas.Option.{same_Some}
 use Rattle.cpo_text.specs.Words.{Word, between, commas, round}
 use Rattle.cpo_text.specs.Words.Word.{name, number, large, sign, quoted}
 use Rattle.cpo_text.specs.Spelling.{int_words, int_items, name_words}
@@ -20,7 +21,7 @@ use Rattle.cpo_text.specs.declared.expression.Link.TheVariants.{Times, And, Or}
 use Rattle.cpo_text.specs.declared.expression.Comparison.{Comparison}
 use Rattle.cpo_text.specs.declared.expression.Comparison.TheVariants.{Equal, NotEqual, AtMost, AtLeast, Below, Above}
 use Rattle.cpo_text.specs.declared.expression.Logic.{Logic}
-use Rattle.cpo_text.proofs.Binds.{both, bound_parts, need_parts, some_same, some_pair, bytes_same, behind_takes, name_takes}
+use Rattle.cpo_text.proofs.Binds.{both, bound_parts, need_parts, some_pair, bytes_same, behind_takes, name_takes}
 use Rattle.cpo_text.proofs.Takes.{behind_words, int_behind_takes}
 use Rattle.cpo_text.proofs.Nodes
 use Rattle.cpo_text.proofs.Nodes.{is_tight, all_tight, looser, so_high}
@@ -145,10 +146,10 @@ measure_is n m h = by_word (bytes_eq n (codes "startOf")) refl (bytes_eq n (code
   where
     by_word : (a : Bool) → bytes_eq n (codes "startOf") ≡ a → (b : Bool) → bytes_eq n (codes "endOf") ≡ b → (c : Bool) → bytes_eq n (codes "sizeOf") ≡ c → (d : Bool) → bytes_eq n (codes "lengthOf") ≡ d
         → cond a (Some StartOf) (cond b (Some EndOf) (cond c (Some SizeOf) (cond d (Some LengthOf) None))) ≡ Some m → n ≡ measure_word m
-    by_word true is b e c f d g h = bytes_same n (codes "startOf") is ∙ ap measure_word (some_same StartOf m h)
-    by_word false is true e c f d g h = bytes_same n (codes "endOf") e ∙ ap measure_word (some_same EndOf m h)
-    by_word false is false e true f d g h = bytes_same n (codes "sizeOf") f ∙ ap measure_word (some_same SizeOf m h)
-    by_word false is false e false f true g h = bytes_same n (codes "lengthOf") g ∙ ap measure_word (some_same LengthOf m h)
+    by_word true is b e c f d g h = bytes_same n (codes "startOf") is ∙ ap measure_word (same_Some StartOf m h)
+    by_word false is true e c f d g h = bytes_same n (codes "endOf") e ∙ ap measure_word (same_Some EndOf m h)
+    by_word false is false e true f d g h = bytes_same n (codes "sizeOf") f ∙ ap measure_word (same_Some SizeOf m h)
+    by_word false is false e false f true g h = bytes_same n (codes "lengthOf") g ∙ ap measure_word (same_Some LengthOf m h)
     by_word false is false e false f false g h = cc
 
 gather_is : (n : List ℕ) (g : Gather) → gather_of n ≡ Some g → n ≡ gather_word g
@@ -156,9 +157,9 @@ gather_is n g h = by_word (bytes_eq n (codes "max")) refl (bytes_eq n (codes "mi
   where
     by_word : (a : Bool) → bytes_eq n (codes "max") ≡ a → (b : Bool) → bytes_eq n (codes "min") ≡ b → (c : Bool) → bytes_eq n (codes "sum") ≡ c
         → cond a (Some gather.Max) (cond b (Some gather.Min) (cond c (Some gather.Sum) None)) ≡ Some g → n ≡ gather_word g
-    by_word true is b e c f h = bytes_same n (codes "max") is ∙ ap gather_word (some_same gather.Max g h)
-    by_word false is true e c f h = bytes_same n (codes "min") e ∙ ap gather_word (some_same gather.Min g h)
-    by_word false is false e true f h = bytes_same n (codes "sum") f ∙ ap gather_word (some_same gather.Sum g h)
+    by_word true is b e c f h = bytes_same n (codes "max") is ∙ ap gather_word (same_Some gather.Max g h)
+    by_word false is true e c f h = bytes_same n (codes "min") e ∙ ap gather_word (same_Some gather.Min g h)
+    by_word false is false e true f h = bytes_same n (codes "sum") f ∙ ap gather_word (same_Some gather.Sum g h)
     by_word false is false e false f h = cc
 
 -- what stands behind a gather's brackets
@@ -265,12 +266,12 @@ comparison_is s op h = by_sign (bytes_eq s (codes "==")) refl (bytes_eq s (codes
     by_sign : (a : Bool) → bytes_eq s (codes "==") ≡ a → (b : Bool) → bytes_eq s (codes "!=") ≡ b → (c : Bool) → bytes_eq s (codes "<=") ≡ c → (d : Bool) → bytes_eq s (codes ">=") ≡ d
         → (e : Bool) → bytes_eq s (codes "<") ≡ e → (f : Bool) → bytes_eq s (codes ">") ≡ f
         → cond a (Some Equal) (cond b (Some NotEqual) (cond c (Some AtMost) (cond d (Some AtLeast) (cond e (Some Below) (cond f (Some Above) None))))) ≡ Some op → s ≡ comparison_sign op
-    by_sign true ia b ib c ic d id e ie f if' h = bytes_same s (codes "==") ia ∙ ap comparison_sign (some_same Equal op h)
-    by_sign false ia true ib c ic d id e ie f if' h = bytes_same s (codes "!=") ib ∙ ap comparison_sign (some_same NotEqual op h)
-    by_sign false ia false ib true ic d id e ie f if' h = bytes_same s (codes "<=") ic ∙ ap comparison_sign (some_same AtMost op h)
-    by_sign false ia false ib false ic true id e ie f if' h = bytes_same s (codes ">=") id ∙ ap comparison_sign (some_same AtLeast op h)
-    by_sign false ia false ib false ic false id true ie f if' h = bytes_same s (codes "<") ie ∙ ap comparison_sign (some_same Below op h)
-    by_sign false ia false ib false ic false id false ie true if' h = bytes_same s (codes ">") if' ∙ ap comparison_sign (some_same Above op h)
+    by_sign true ia b ib c ic d id e ie f if' h = bytes_same s (codes "==") ia ∙ ap comparison_sign (same_Some Equal op h)
+    by_sign false ia true ib c ic d id e ie f if' h = bytes_same s (codes "!=") ib ∙ ap comparison_sign (same_Some NotEqual op h)
+    by_sign false ia false ib true ic d id e ie f if' h = bytes_same s (codes "<=") ic ∙ ap comparison_sign (same_Some AtMost op h)
+    by_sign false ia false ib false ic true id e ie f if' h = bytes_same s (codes ">=") id ∙ ap comparison_sign (same_Some AtLeast op h)
+    by_sign false ia false ib false ic false id true ie f if' h = bytes_same s (codes "<") ie ∙ ap comparison_sign (same_Some Below op h)
+    by_sign false ia false ib false ic false id false ie true if' h = bytes_same s (codes ">") if' ∙ ap comparison_sign (same_Some Above op h)
     by_sign false ia false ib false ic false id false ie false if' h = cc
 
 pub comparison_takes : (ws : List Word) (op : Comparison) (r : List Word) → comparison_at ws ≡ Some (op, r) → ws ≡ sign (comparison_sign op) ∷ r

@@ -1,5 +1,6 @@
 -- Testing the constraints of a model one after another.
-use Rattle.std.proofs.Common.{◌≡◌, ◌<◌, ◌≤◌, ◌+◌, ◌↔◌, ℕ, zero, suc, Bool, true, false, List, [], ◌∷◌, length, get_or, Some, IsTrue, slice_get, refl, sym, subst, ◌∙◌, inl, inr, arith}
+use Rattle.std.proofs.Common.{◌≡◌, ◌<◌, ◌≤◌, ◌+◌, ◌↔◌, ℕ, Bool, true, false, length, get_or, Some, IsTrue, slice_get, sym, subst, ◌∙◌, inl, inr, arith}
+use Rattle.std.proofs.lemmas.Option.{slice_get-get_or}
 use Rattle.sched_model.specs.declared.types.Assignment.{Assignment}
 use Rattle.sched_model.specs.declared.types.Constraint.{Constraint}
 use Rattle.sched_model.specs.Data.{Data}
@@ -8,6 +9,7 @@ use Rattle.sched_model.specs.Sentences.{Holds}
 use Rattle.sched_model.specs.Solution.{IsSolution}
 use Rattle.gantt.specs.Runs.{FailsFirst}
 use Rattle.base_laws.specs.laws.Numbers.{below_or_last}
+use Rattle.base_laws.specs.laws.Places.{item_at}
 
 -- the constraints before this one hold
 abbrev pub HoldBefore : Data → Assignment → ℕ → Type 0
@@ -16,16 +18,6 @@ HoldBefore m a i = (j : ℕ) (k : Constraint) → j < i → slice_get m.constrai
 -- the test of this one tells whether it holds
 abbrev pub TellsWhether : Data → Assignment → ℕ → Bool → Type 0
 TellsWhether m a i b = (k : Constraint) → slice_get m.constraints i ≡ Some k → IsTrue b ↔ Holds m a k
-
-found : {X : Type 0} (xs : List X) (i : ℕ) → i < length xs → (x : X) × (slice_get xs i ≡ Some x)
-found [] i within = absurd (omega (arith, within))
-found (x ∷ xs) zero within = (x, refl)
-found (x ∷ xs) (suc i) within = found xs i (omega (arith, within))
-
-there : {X : Type 0} (xs : List X) (i : ℕ) (d : X) → i < length xs → slice_get xs i ≡ Some (get_or xs i d)
-there [] i d within = absurd (omega (arith, within))
-there (x ∷ xs) zero d within = refl
-there (x ∷ xs) (suc i) d within = there xs i d (omega (arith, within))
 
 pub one_more : (m : Data) (a : Assignment) (i : ℕ) (b : Bool) → HoldBefore m a i → TellsWhether m a i b → b ≡ true → HoldBefore m a (i + 1)
 one_more m a i b hold tells is j k within at = elim (below_or_last j i within) [
@@ -37,7 +29,7 @@ not_true : (b : Bool) → b ≡ false → IsTrue b → ⊥
 not_true b is h = let both : true ≡ false = sym h ∙ is in cc
 
 pub first_fails : (m : Data) (a : Assignment) (i : ℕ) (b : Bool) → i < length m.constraints → HoldBefore m a i → TellsWhether m a i b → b ≡ false → FailsFirst m a i
-first_fails m a i b within hold tells is = let at = found m.constraints i within in
+first_fails m a i b within hold tells is = let at = item_at m.constraints i within in
     record {
       before = hold;
       sentence = at.0;
@@ -48,5 +40,5 @@ first_fails m a i b within hold tells is = let at = found m.constraints i within
 pub none_fails : (m : Data) (a : Assignment) (i : ℕ) → is_in_domain m a ≡ true → length m.constraints ≤ i → HoldBefore m a i → IsSolution m a
 none_fails m a i domain all hold = record {
   domain = domain;
-  holds = λ k d within. hold k (get_or m.constraints k d) (omega (arith, within, all)) (there m.constraints k d within);
+  holds = λ k d within. hold k (get_or m.constraints k d) (omega (arith, within, all)) (slice_get-get_or m.constraints k d within);
 }

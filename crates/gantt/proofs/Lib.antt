@@ -1,4 +1,3 @@
 pub mod Drawn
 pub mod Failing
-pub mod Lines
 pub mod Tested

@@ -2,7 +2,7 @@
 use Rattle.std.specs.Prelude.{◌≡◌, ◌⊎◌, ℕ, ◌≤◌, ◌<◌, true, List, [], ◌∷◌, take, Some, IfSome, IsSome, length, slice_get}
 use Rattle.sched_base.specs.declared.desk.File.{File}
 use Rattle.sched_base.specs.State.{State, bytes_of}
-use Rattle.sched_base.specs.Calls.{Rose, appended}
+use Rattle.sched_base.specs.Calls.{Rose, appended, AppendedFrom}
 use Rattle.sched_model.specs.declared.types.Assignment.{Assignment}
 use Rattle.sched_model.specs.declared.types.Constraint.{Constraint as Sentence}
 use Rattle.sched_model.specs.Data.{Data}
@@ -19,7 +19,7 @@ use Rattle.gantt.specs.declared.ended.Ended.{Ended}
 use Rattle.gantt.specs.declared.ended.Ended.TheVariants as end
 use Rattle.gantt.specs.declared.stop.ScheduleRefusal.{ScheduleRefusal}
 use Rattle.gantt.specs.declared.stop.ScheduleRefusal.TheVariants.{TooLong, Line, Constraint}
-use Rattle.gantt.specs.Told.{AppendedFrom, Tells, Reports, usage_line, fault_line, memory_line, refusal_line, unfit_line}
+use Rattle.gantt.specs.Told.{Tells, Reports, usage_line, fault_line, memory_line, refusal_line, unfit_line}
 
 -- where the desk tells its files, the file of this name is there, and this holds of its bytes
 abbrev pub IfFile : State → Bytes → (Bytes → Type 0) → Type 0

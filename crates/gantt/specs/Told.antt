@@ -2,7 +2,7 @@
 use Rattle.std.specs.Prelude.{◌≡◌, ◌⊎◌, ℕ, ◌≤◌, [], ◌∷◌, codes, Option, length, take}
 use Rattle.std.specs.Fmt.{decimal}
 use Rattle.sched_base.specs.State.{State}
-use Rattle.sched_base.specs.Calls.{Rose, appended}
+use Rattle.sched_base.specs.Calls.{Rose, appended, AppendedFrom}
 use Rattle.cpo_text.specs.declared.text.Refusal.{Refusal}
 use Rattle.textline.specs.Lines.{Bytes, line}
 use Rattle.gantt.specs.declared.stop.ScheduleRefusal.{ScheduleRefusal}
@@ -25,10 +25,6 @@ abbrev pub unfit_line : ScheduleRefusal → Bytes
 unfit_line TooLong = line (codes "schedule refused line 0" ∷ [])
 unfit_line (Line k) = line (codes "schedule" ∷ codes "refused" ∷ codes "line" ∷ decimal k ∷ [])
 unfit_line (Constraint c) = line (codes "schedule" ∷ codes "refused" ∷ codes "constraint" ∷ decimal c ∷ [])
-
--- so many of the bytes at the front were appended
-abbrev pub AppendedFrom : Bytes → Option Bytes → Option Bytes → Type 0
-AppendedFrom bytes before after = (n : ℕ) × (n ≤ length bytes) × (after ≡ appended (take n bytes) before)
 
 -- this line was appended to standard error; a front part of it only where a fault was counted
 pub record Tells (text : Bytes) (old new : State) : Type 0 where

@@ -12,7 +12,3 @@ pub record Gathers (text : Bytes) (result : Result (Unit {0}) Failed) (held kept
   pub part : (n : ℕ) × (n ≤ length (held ++ text)) × (new.logged ≡ appended (take n (held ++ text)) old.logged) × OnOk result (kept ≡ drop n (held ++ text))
   pub count : Counted result old.faults new.faults
   pub calm : old.calm ≡ true → IsOk result
-
--- so many of the bytes at the front were appended
-abbrev pub AppendedFrom : Bytes → Option Bytes → Option Bytes → Type 0
-AppendedFrom bytes before after = (n : ℕ) × (n ≤ length bytes) × (after ≡ appended (take n bytes) before)

@@ -8,8 +8,7 @@ use Rattle.region.specs.declared.types.Claim.{Claim}
 use Rattle.region.specs.declared.types.Claim.TheVariants.{StartLe, EndGe}
 use Rattle.region.specs.Cells.{Region, bounds_of}
 use Rattle.region.specs.Claims.{guessed}
-use Rattle.task_sets.specs.Times.{Times}
-use Rattle.task_sets.specs.Mirror.{seen_in}
+use Rattle.task_sets.specs.Times.{Times, seen_in}
 use Rattle.refute_seq.specs.Sets.{times_in}
 use Rattle.theta_passes.specs.declared.rows.Row.{Row}
 use Rattle.theta_passes.specs.declared.rows.Presence.{Presence as RowPresence}

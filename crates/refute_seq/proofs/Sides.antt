@@ -10,8 +10,7 @@ use Rattle.sched_model.specs.Data.{Data, same, has, members_of}
 use Rattle.region.specs.Cells.{Region, bounds_of, cells_of, unknown}
 use Rattle.region.specs.Looks.{IsRegionOf, est_of, lct_of, lst_of, ect_of}
 use Rattle.region.specs.laws.Narrowing.{members_are}
-use Rattle.task_sets.specs.Times.{Times}
-use Rattle.task_sets.specs.Mirror.{seen_in, turned}
+use Rattle.task_sets.specs.Times.{Times, seen_in, turned}
 use Rattle.refute_seq.specs.Sets.{times_in, times_of}
 
 -- a member has a place

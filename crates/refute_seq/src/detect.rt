@@ -1,8 +1,7 @@
 ghost use Rattle.std.specs.Prelude.{◌≡◌, map, int_lt};
 ghost use Rattle.std.specs.List.{list_all};
 ghost use Rattle.region.specs.Looks.{IsRegionOf};
-ghost use Rattle.task_sets.specs.Times.{detect_row, is_detected};
-ghost use Rattle.task_sets.specs.Mirror.{turned};
+ghost use Rattle.task_sets.specs.Times.{detect_row, is_detected, turned};
 ghost use Rattle.refute_seq.specs.Sets.{times_of, is_task, detect_at};
 
 use crate::sets::{is_beyond, is_outside, is_task_set};

@@ -1,7 +1,6 @@
 ghost use Rattle.std.specs.Prelude.{◌≡◌, map, nat_lt, true};
 ghost use Rattle.region.specs.Looks.{IsRegionOf};
-ghost use Rattle.task_sets.specs.Times.{adjacent, edge_row, has, is_edge, is_task_set};
-ghost use Rattle.task_sets.specs.Mirror.{turned};
+ghost use Rattle.task_sets.specs.Times.{adjacent, edge_row, has, is_edge, is_task_set, turned};
 ghost use Rattle.refute_seq.specs.Sets.{times_of, is_task, edge_at};
 
 use crate::sets::{

@@ -1,7 +1,6 @@
 ghost use Rattle.std.specs.Prelude.{◌≡◌, map};
 ghost use Rattle.region.specs.Looks.{IsRegionOf};
-ghost use Rattle.task_sets.specs.Times.{not_end_row, is_not_end};
-ghost use Rattle.task_sets.specs.Mirror.{turned};
+ghost use Rattle.task_sets.specs.Times.{not_end_row, is_not_end, turned};
 ghost use Rattle.refute_seq.specs.Sets.{times_of, is_task, not_end_at};
 
 use crate::sets::{is_beyond, is_outside, is_task_set, set_lst};

@@ -4,8 +4,7 @@ ghost use Rattle.std.specs.List.{list_all};
 ghost use Rattle.std.specs.Int.{int_min, int_max};
 ghost use Rattle.sched_model.specs.Words.{is_empty, passes};
 ghost use Rattle.region.specs.Looks.{IsRegionOf};
-ghost use Rattle.task_sets.specs.Times.{adjacent, greatest, has, is_outside, is_set, is_task_set, set_est, set_lct, set_p};
-ghost use Rattle.task_sets.specs.Mirror.{turned};
+ghost use Rattle.task_sets.specs.Times.{adjacent, greatest, has, is_outside, is_set, is_task_set, set_est, set_lct, set_p, turned};
 ghost use Rattle.refute_seq.specs.Sets.{times_of, is_task};
 
 use crate::tasks::{est, is_task, lct, lst, size};

@@ -1,7 +1,7 @@
 //! The numbers of an interval as a task of one machine, in time as it runs and in time turned round.
 ghost use Rattle.std.specs.Prelude.{◌≡◌, IsTrue};
 ghost use Rattle.region.specs.Looks.{IsRegionOf, is_shifted};
-ghost use Rattle.task_sets.specs.Mirror.{turned};
+ghost use Rattle.task_sets.specs.Times.{turned};
 ghost use Rattle.refute_seq.specs.Sets.{times_of, is_task};
 
 use refute_basic::is_there;

@@ -1,12 +1,11 @@
 -- What solving a model gives, and what it does to the desk.
 use Rattle.std.specs.Prelude.{◌≡◌, ℕ, ◌≤◌, true, List, None, Result, Ok, Err, option_map, ⊤}
 use Rattle.sched_base.specs.State.{State}
-use Rattle.sched_base.specs.Calls.{Rose, appended}
+use Rattle.sched_base.specs.Calls.{Rose, appended, AppendedFrom}
 use Rattle.sched_model.specs.declared.types.Solved.{Solved}
 use Rattle.sched_model.specs.Data.{Data}
 use Rattle.kernel.specs.Steps.{LogState, opening, verdict_of}
 use Rattle.logtext.specs.Logs.{PlainLine, IsPlainLog, plain_log}
-use Rattle.logtext.specs.Writing.{AppendedFrom}
 use Rattle.solver.specs.declared.fault.SolveFault.{SolveFault}
 use Rattle.solver.specs.declared.fault.SolveFault.TheVariants.{Fault, NoMemory}
 use Rattle.solver.specs.Splits.{SplitFrom}

@@ -1,10 +1,9 @@
 -- The laws, as statements that a contract names.
 use Rattle.std.specs.Prelude.{◌≡◌, ◌↔◌, ℕ, ℤ, Bool, true, List}
-use Rattle.task_sets.specs.Times.{Times, IsSized, overload_row, edge_row, not_end_row, detect_row}
+use Rattle.task_sets.specs.Times.{Times, IsSized, overload_row, edge_row, not_end_row, detect_row, turned}
 use Rattle.task_sets.specs.Cuts.{IsBelow, OverloadLaw}
 use Rattle.task_sets.specs.NotEndCuts.{NotEndLaw, DetectLaw}
 use Rattle.task_sets.specs.EdgeCuts.{EdgeLaw}
-use Rattle.task_sets.specs.Mirror.{turned}
 use Rattle.task_sets.specs.Sound.{Stands}
 use Rattle.task_sets.specs.Back.{IsEdgeCutBack, IsEarlyFor, edge_back_row, not_start_row}
 

@@ -4,19 +4,11 @@ use Rattle.std.specs.List.{list_all}
 use Rattle.std.specs.Int.{int_min, int_max}
 use Rattle.std.proofs.Common.{arith, sym, ap, ◌∙◌}
 use Rattle.std.proofs.lemmas.Int.{ints, int_min_is, int_max_is}
-use Rattle.task_sets.specs.Times.{Times, IsSized, est_at, lct_at, lst_at, ect_at, size_at, ends_at, IsWithin, IsEct, overload_row, is_task_set, is_overload, is_edge, is_not_end, is_detected, greatest, mirrored, least, set_est, set_lct, set_p}
+use Rattle.task_sets.specs.Times.{Times, IsSized, est_at, lct_at, lst_at, ect_at, size_at, ends_at, IsWithin, IsEct, seen_in, turned, overload_row, is_task_set, is_overload, is_edge, is_not_end, is_detected, greatest, mirrored, least, set_est, set_lct, set_p}
 use Rattle.task_sets.specs.Ects.{lt_true, lt_holds}
 use Rattle.task_sets.specs.Cuts.{IsBelow}
 use Rattle.task_sets.specs.NotEndCuts.{NotEndLaw, DetectLaw, not_end_law, detect_law}
 use Rattle.task_sets.specs.EdgeCuts.{EdgeLaw, edge_law}
-
--- with m = 1 the times of the mirror
-abbrev pub seen_in : ℕ → Times → Times
-seen_in zero i = i
-seen_in (suc n) i = mirrored i
-
-abbrev pub turned : ℕ → (ℕ → Times) → ℕ → Times
-turned m d y = seen_in m (d y)
 
 abbrev pub mir : (ℕ → Times) → ℕ → Times
 mir d y = mirrored (d y)

@@ -2,13 +2,13 @@
 use Rattle.std.specs.Prelude.{◌≡◌, ◌≢◌, ◌⊎◌, ℕ, zero, suc, ℤ, ◌+ℤ◌, neg_ℤ, ◌≤ℤ◌, ◌<ℤ◌, Bool, true, false, not, ◌&&◌, nat_eq, List, [], ◌∷◌, map, refl}
 use Rattle.std.proofs.Common.{arith, sym, subst, inl, inr, ap, ◌∙◌}
 use Rattle.std.proofs.lemmas.Int.{ints}
-use Rattle.task_sets.specs.Times.{Times, has, IsSized, est_at, lct_at, lst_at, ect_at, size_at, least_est, greatest_lct, sum_of, ends_at, IsWithin, overload_row, edge_row, not_end_row, detect_row, is_set, is_task_set, is_outside, is_overload, is_edge, is_detected}
+use Rattle.task_sets.specs.Times.{Times, has, IsSized, est_at, lct_at, lst_at, ect_at, size_at, least_est, greatest_lct, sum_of, ends_at, IsWithin, overload_row, edge_row, not_end_row, detect_row, is_set, is_task_set, is_outside, is_overload, is_edge, is_detected, turned}
 use Rattle.task_sets.specs.Sums.{has_cases, same_number, has_first, has_later, trans_le, least_bound, greatest_bound, Once}
 use Rattle.task_sets.specs.Ects.{lt_holds}
 use Rattle.task_sets.specs.Cuts.{task_set_of, no_task_set}
 use Rattle.task_sets.specs.NotEndCuts.{IsNotEndSet, detect_facts, not_end_detects}
 use Rattle.task_sets.specs.EdgeCuts.{IsEdgeSet, edge_facts, once_rises, once_all}
-use Rattle.task_sets.specs.Mirror.{turned, mir, turned_sized, sum_turned}
+use Rattle.task_sets.specs.Mirror.{mir, turned_sized, sum_turned}
 use Rattle.std.proofs.lemmas.Bool.{and_parts, false_from_ne_true}
 use Rattle.base_laws.specs.laws.Truth.{three_true}
 

@@ -8,8 +8,7 @@ use Rattle.sched_model.specs.declared.types.Constraint.TheVariants as constraint
 use Rattle.sched_model.specs.Words.{passes}
 use Rattle.sched_model.specs.Data.{Data, has}
 use Rattle.region.specs.Cells.{Region, bounds_of}
-use Rattle.task_sets.specs.Times.{overload_row, edge_row, not_end_row, detect_row}
-use Rattle.task_sets.specs.Mirror.{turned}
+use Rattle.task_sets.specs.Times.{overload_row, edge_row, not_end_row, detect_row, turned}
 use Rattle.refute_seq.specs.Sets.{times_of, is_task, without_overlap, overload_of, edge_of, not_end_of, detect_of}
 use Rattle.refute_seq.specs.laws.SetsAlike.{SameMembers}
 use Rattle.findings.specs.Tables.{members_in}

@@ -3,6 +3,7 @@ use Rattle.base_laws.specs.laws.Truth.{all_three as join_three}
 use Rattle.std.specs.Prelude.{◌≡◌, ◌⊎◌, ℕ, zero, suc, ◌+◌, ◌^◌, ◌<◌, ◌≤◌, ℤ, pos, ◌≤ℤ◌, Bool, true, false, not, ◌&&◌, ◌||◌, nat_eq, nat_lt, List, [], ◌∷◌, map, length, Option, Some, None, slice_get}
 use Rattle.std.specs.List.{list_all}
 use Rattle.std.proofs.Common.{refl, sym, ap, subst, ◌∙◌, inl, inr, arith}
+use Rattle.std.proofs.lemmas.Option.{same_Some}
 use Rattle.std.proofs.lemmas.List.{get_or_past}
 use Rattle.std.proofs.lemmas.Bool.{or_left}
 use Rattle.std.proofs.lemmas.Bool.Decides.{nat_tests}
@@ -27,11 +28,11 @@ use Rattle.region.specs.laws.Narrowing.{as_many_bounds, looked_stays}
 use Rattle.findings.specs.Ends.{is_open_end, is_asked}
 use Rattle.findings.specs.Reads.{is_among}
 use Rattle.findings.specs.laws.Kept.{asked_admits}
-use Rattle.task_sets.specs.Times.{Times, has, adjacent, IsSized, lst_at, overload_row, edge_row, detect_row}
+use Rattle.task_sets.specs.Times.{Times, has, adjacent, IsSized, lst_at, overload_row, edge_row, detect_row, turned, seen_in}
 use Rattle.task_sets.specs.Sums.{same_number}
 use Rattle.task_sets.specs.Ects.{up_from, keep, kept, all_from}
 use Rattle.task_sets.specs.NotEndCuts.{detect_not_ends}
-use Rattle.task_sets.specs.Mirror.{turned, seen_in, overload_row_turned}
+use Rattle.task_sets.specs.Mirror.{overload_row_turned}
 use Rattle.task_sets.specs.Moved.{IsGuessed}
 use Rattle.refute_seq.specs.declared.witness.SeqWitness.TheVariants.{Overload, Edge, NotEnd, Detect}
 use Rattle.refute_seq.specs.Witness.{is_valid, is_number_set}
@@ -179,11 +180,8 @@ on_itself early r i (Some g) told opened = true_both (is_among (i ∷ []) [] (to
     mine : (is_among (i ∷ []) [] (topic (Present i))) ≡ true
     mine = or_left _ _ (same_self i)
 
-    some_is : (g h : Guess) → Some g ≡ Some h → g ≡ h
-    some_is g h e = cc
-
     one : (g h : Guess) → Some g ≡ Some h → h ≡ Present i → is_among (i ∷ []) [] (topic g) ≡ true
-    one g h e f = subst (λ k. is_among (i ∷ []) [] (topic k) ≡ true) (sym (some_is g h e ∙ f)) mine
+    one g h e f = subst (λ k. is_among (i ∷ []) [] (topic k) ≡ true) (sym (same_Some g h e ∙ f)) mine
 
     by_end : (early : Bool) (g : Guess) → Some g ≡ Some (end_guess early r i) → is_among (i ∷ []) [] (topic g) ≡ true
     by_end true g e = subst (λ k. is_among (i ∷ []) [] (topic k) ≡ true) (sym (some_is g _ e)) (or_left _ _ (same_self i))

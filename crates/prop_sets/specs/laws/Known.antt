@@ -13,8 +13,7 @@ use Rattle.region.specs.Cells.{Region, bounds_of}
 use Rattle.region.specs.Looks.{IsRegionOf}
 use Rattle.region.specs.Orders.{place_of}
 use Rattle.region.specs.laws.OneSequence.{place_within}
-use Rattle.task_sets.specs.Times.{Times}
-use Rattle.task_sets.specs.Mirror.{seen_in}
+use Rattle.task_sets.specs.Times.{Times, seen_in}
 use Rattle.theta_passes.specs.declared.rows.Row.{Row}
 use Rattle.theta_passes.specs.declared.rows.Presence.{Presence as RowPresence}
 use Rattle.prop_sets.specs.declared.known.Numbers.{Numbers}

@@ -15,8 +15,7 @@ use Rattle.region.specs.Orders.{place_of}
 use Rattle.region.specs.Cells.{Region, bounds_of, is_there, says_present, says_absent}
 use Rattle.region.specs.laws.Lists.{both_true}
 use Rattle.region.specs.laws.OneSequence.{place_within, member_at as at_place_of, by_place}
-use Rattle.task_sets.specs.Times.{Times, IsSized, lst_at}
-use Rattle.task_sets.specs.Mirror.{turned}
+use Rattle.task_sets.specs.Times.{Times, IsSized, lst_at, turned}
 use Rattle.task_sets.specs.Moved.{IsGuessed}
 use Rattle.refute_seq.specs.Sets.{times_in, times_of}
 use Rattle.theta_passes.specs.declared.rows.Row.{Row}

@@ -6,8 +6,7 @@ use Rattle.sched_base.specs.declared.ids.Itv.{Itv}
 use Rattle.sched_model.specs.Data.{has}
 use Rattle.region.specs.Cells.{Region, bounds_of, is_there, says_absent}
 use Rattle.region.specs.laws.Lists.{both_true}
-use Rattle.task_sets.specs.Times.{Times, has as holds, overload_row, edge_row, detect_row}
-use Rattle.task_sets.specs.Mirror.{turned}
+use Rattle.task_sets.specs.Times.{Times, has as holds, overload_row, edge_row, detect_row, turned}
 use Rattle.task_sets.specs.Moved.{IsGuessed}
 use Rattle.task_sets.specs.Ects.{up_from, keep}
 use Rattle.task_sets.specs.Witnesses.{overload_guessed}

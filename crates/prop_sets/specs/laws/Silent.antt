@@ -22,8 +22,8 @@ use Rattle.region.specs.Guesses.{admits, admits_topic, assumed, topic, looked_at
 use Rattle.region.specs.Looks.{IsRegionOf, seen_at}
 use Rattle.region.specs.laws.Lists.{both_true}
 use Rattle.findings.specs.Ends.{is_end, is_open_end, is_asked}
-use Rattle.task_sets.specs.Times.{has as holds, is_task_set, is_set, is_outside, is_overload, overload_row}
-use Rattle.task_sets.specs.Mirror.{turned, overload_row_turned}
+use Rattle.task_sets.specs.Times.{has as holds, is_task_set, is_set, is_outside, is_overload, overload_row, turned}
+use Rattle.task_sets.specs.Mirror.{overload_row_turned}
 use Rattle.task_sets.specs.Sums.{has_first, same_number}
 use Rattle.task_sets.specs.Cuts.{task_set_of, no_task_set}
 use Rattle.task_sets.specs.NotEndCuts.{not_end_detects}

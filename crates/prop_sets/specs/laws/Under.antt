@@ -26,8 +26,7 @@ use Rattle.region.specs.laws.Intervals.{bounds_there, bounds_elsewhere}
 use Rattle.region.specs.laws.Standing.{least_is}
 use Rattle.findings.specs.Ends.{is_end, is_open_end, is_asked}
 use Rattle.findings.specs.laws.Open.{not_absent, open_not_absent}
-use Rattle.task_sets.specs.Times.{Times}
-use Rattle.task_sets.specs.Mirror.{seen_in}
+use Rattle.task_sets.specs.Times.{Times, seen_in}
 use Rattle.refute_seq.specs.Sets.{times_in}
 use Rattle.refute_seq.specs.Listed.{asks_start, asks_end}
 use Rattle.prop_sets.specs.Rows.{end_claim, asked_bounds, asks_early, asks_late, seen}

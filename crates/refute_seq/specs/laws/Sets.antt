@@ -13,8 +13,7 @@ use Rattle.region.specs.Cells.{Region}
 use Rattle.region.specs.laws.Found.{Never, never}
 use Rattle.region.specs.laws.Lists.{both_true}
 use Rattle.region.specs.laws.Present.{IsAllowed}
-use Rattle.task_sets.specs.Times.{overload_row, edge_row, not_end_row, detect_row}
-use Rattle.task_sets.specs.Mirror.{turned}
+use Rattle.task_sets.specs.Times.{overload_row, edge_row, not_end_row, detect_row, turned}
 use Rattle.task_sets.specs.Sound.{overload_none, edge_none_at, not_end_none_at, detect_none_at}
 use Rattle.refute_seq.specs.Sets.{times_of, is_task, without_overlap, overload_of, edge_of, not_end_of, detect_of}
 use Rattle.refute_seq.specs.laws.Tasks.{sized, tasks_stand}

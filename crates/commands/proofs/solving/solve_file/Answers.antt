@@ -1,6 +1,6 @@
 use Rattle.std.proofs.Common.{◌≡◌, Err, rules, sym, subst}
 use Rattle.sched_base.specs.State.{Place}
-use Rattle.checker.specs.Checking.{ReadsAtMost}
+use Rattle.sched_base.specs.Calls.{ReadsAtMost}
 use Rattle.commands.specs.Runs.{file_of}
 use Rattle.commands.specs.Tries.{TriesSolve}
 use Rattle.commands.specs.Runs.Source.{file}

@@ -1,6 +1,6 @@
 use Rattle.std.specs.Prelude.{◌≡◌, drop, int_lt, map}
 use Rattle.std.specs.List.{list_all}
-use Rattle.task_sets.specs.Mirror.{turned}
+use Rattle.task_sets.specs.Times.{turned}
 use Rattle.refute_seq.specs.Sets.{times_of}
 use Rattle.refute_seq.proofs.detect.start_before.Given as goal
 

@@ -1,6 +1,6 @@
 use Rattle.std.proofs.Common.{rules, w64, to_z, of_z}
 use Rattle.std.specs.Int.{int_min}
-use Rattle.task_sets.specs.Mirror.{turned}
+use Rattle.task_sets.specs.Times.{turned}
 use Rattle.refute_seq.specs.Sets.{times_of}
 use Rattle.refute_seq.proofs.Walking.{fold_step}
 use Rattle.refute_seq.proofs.sets.est_from.Goals as goal

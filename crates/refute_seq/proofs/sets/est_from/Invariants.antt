@@ -1,6 +1,6 @@
 use Rattle.std.specs.Prelude.{◌≡◌, drop}
 use Rattle.std.specs.Int.{int_min}
-use Rattle.task_sets.specs.Mirror.{turned}
+use Rattle.task_sets.specs.Times.{turned}
 use Rattle.refute_seq.specs.Sets.{times_of}
 use Rattle.refute_seq.proofs.Walking.{folded}
 use Rattle.refute_seq.proofs.sets.est_from.Given as goal

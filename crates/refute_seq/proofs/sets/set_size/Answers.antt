@@ -1,7 +1,7 @@
 use Rattle.std.proofs.Common.{◌≡◌, rules, arith, to_z, of_z}
 use Rattle.std.specs.Int.{w128}
 use Rattle.std.proofs.lemmas.Int.{ints}
-use Rattle.task_sets.specs.Mirror.{turned}
+use Rattle.task_sets.specs.Times.{turned}
 use Rattle.refute_seq.specs.Sets.{times_of}
 use Rattle.refute_seq.proofs.Walking.{sum_step}
 use Rattle.refute_seq.proofs.sets.set_size.Goals as goal

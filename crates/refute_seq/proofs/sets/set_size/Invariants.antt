@@ -1,6 +1,5 @@
 use Rattle.std.specs.Prelude.{◌≡◌, ◌*◌, ◌^◌, ◌≤ℤ◌, neg_ℤ, pos, drop, map}
-use Rattle.task_sets.specs.Times.{set_p}
-use Rattle.task_sets.specs.Mirror.{turned}
+use Rattle.task_sets.specs.Times.{set_p, turned}
 use Rattle.refute_seq.specs.Sets.{times_of}
 use Rattle.refute_seq.proofs.Walking.{summed}
 use Rattle.refute_seq.proofs.sets.set_size.Given as goal
