@@ -19,7 +19,7 @@ ghost use Rattle.std.specs.Prelude.{◌≡◌, ◌<◌};
 ghost use Rattle.std.specs.Borrow.{sem};
 ghost use Rattle.std.specs.Vec.{vec_len, vec_ptr, vec_follows_item};
 ghost use Rattle.std.specs.List.{slice_index_or};
-ghost use Rattle.block.specs.Places.{place, index_of, LiesIn};
+ghost use Rattle.block.specs.code.Places.{place, index_of, LiesIn};
 
 use std::alloc::Allocator;
 

@@ -16,14 +16,14 @@ use Rattle.logtext.specs.Entries.{line_limit}
 use Rattle.kernel.specs.NoExtra.{numbers_of, is_valid}
 use Rattle.logtext.specs.Logs.{PlainLine}
 use Rattle.logtext.specs.Reading.{HasNoWholeLine, BeginsWithNone}
-use Rattle.log_lines.specs.Pieces.{Fed}
+use Rattle.log_lines.specs.code.Pieces.{Fed}
 use Rattle.checker.specs.declared.judging.Checked.{Checked}
 use Rattle.checker.specs.declared.judging.CheckFault.TheVariants.{Refused, TooLong}
 use Rattle.checker.specs.Judgement.{BeginsWith, IsAccepted, IsTooLong, log_limit}
 use Rattle.checker.specs.Checking.{Checks, Judges, lines_end, log_bytes, piece_limit}
 use Rattle.sched_base.specs.Calls.{ReadsAtMost}
-use Rattle.checker.specs.Pieces.{Fails, IsAtEnd, IsEntryAt, IsReading, ReadsOn, holds}
-use Rattle.checker.specs.Turns.{FindsHead, IsBehindHead, IsWrong, is_head, fault_of_read}
+use Rattle.checker.specs.code.Pieces.{Fails, IsAtEnd, IsEntryAt, IsReading, ReadsOn, holds}
+use Rattle.checker.specs.code.Turns.{FindsHead, IsBehindHead, IsWrong, is_head, fault_of_read}
 use Rattle.checker.proofs.Spelt.{Spellings, open_begins_none, none_with_more}
 use Rattle.checker.proofs.Reached.{Reached, reached_head, reached_longer, reached_more, entry_longer}
 use Rattle.checker.proofs.Judged.{NoHead, same_entry}

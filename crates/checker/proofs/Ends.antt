@@ -9,10 +9,10 @@ use Rattle.kernel.specs.Steps.{LogState}
 use Rattle.logtext.specs.declared.entry.Entry.TheVariants.{Head, Step, Finish}
 use Rattle.logtext.specs.Spelling.{head_text, end_text}
 use Rattle.logtext.specs.Entries.{line_limit}
-use Rattle.logtext.specs.Promises.{EndsOnce}
+use Rattle.logtext.specs.code.Promises.{EndsOnce}
 use Rattle.logtext.specs.Logs.{PlainLine, plain_text, plain_lines}
 use Rattle.checker.specs.Checking.{lines_end, piece_limit}
-use Rattle.checker.specs.Pieces.{IsEntryAt, IsNear}
+use Rattle.checker.specs.code.Pieces.{IsEntryAt, IsNear}
 use Rattle.checker.proofs.Feeds.{has_no_feed}
 use Rattle.checker.proofs.Spelt.{Spellings, ends_once}
 use Rattle.checker.proofs.Logs.{IsPlainLine}

@@ -16,12 +16,12 @@ use Rattle.logtext.specs.declared.entry.Entry.{Entry}
 use Rattle.logtext.specs.declared.entry.EntryFault.TheVariants.{Bad}
 use Rattle.logtext.specs.Entries.{Spells}
 use Rattle.logtext.specs.Reading.{HasNoWholeLine, BeginsWithNone}
-use Rattle.log_lines.specs.Pieces.{Fed, ReadsNext, fed_more}
+use Rattle.log_lines.specs.code.Pieces.{Fed, ReadsNext, fed_more}
 use Rattle.checker.specs.declared.reading.Found.{Found}
 use Rattle.checker.specs.declared.reading.Found.TheVariants.{Line, Wrong, Missing, Beyond}
 use Rattle.checker.specs.Judgement.{log_limit}
 use Rattle.checker.specs.Checking.{piece_limit}
-use Rattle.checker.specs.Pieces.{IsEntryAt, FeedsPiece, FindsLine, GoesOn, IsNear, IsReading, ReadsOn, Fails, holds}
+use Rattle.checker.specs.code.Pieces.{IsEntryAt, FeedsPiece, FindsLine, GoesOn, IsNear, IsReading, ReadsOn, Fails, holds}
 use Rattle.checker.proofs.Feeds.{has_no_feed, feed_within}
 use Rattle.checker.proofs.Spelt.{Spellings, ends_once, true_false}
 

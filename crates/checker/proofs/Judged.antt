@@ -14,8 +14,8 @@ use Rattle.logtext.specs.Logs.{PlainLine, IsPlainLog, plain_lines}
 use Rattle.logtext.specs.Reading.{HasNoWholeLine, BeginsWithNone}
 use Rattle.checker.specs.Judgement.{BeginsWith, CantGoOn, IsAccepted, IsRefused, IsTooLong, log_limit}
 use Rattle.checker.specs.Judgement.IsRefused.{at_head, at_line, behind_end}
-use Rattle.checker.specs.Pieces.{IsEntryAt}
-use Rattle.checker.specs.Turns.{IsWrong}
+use Rattle.checker.specs.code.Pieces.{IsEntryAt}
+use Rattle.checker.specs.code.Turns.{IsWrong}
 use Rattle.checker.proofs.Spelt.{Spellings, Spelt, one_line, begun, begins_by, not_open, open_begins_none, none_with_more}
 use Rattle.checker.proofs.Logs.{Stops, one_text, cant_stops, open_stops, end_stops, plain_step}
 use Rattle.checker.proofs.Reached.{Reached, plain_entry, line_apart, entry_spelt}

@@ -13,7 +13,7 @@ use Rattle.logtext.specs.declared.entry.Entry.TheVariants.{Head, Step}
 use Rattle.logtext.specs.Spelling.{head_text}
 use Rattle.logtext.specs.Entries.{entry_text}
 use Rattle.logtext.specs.Logs.{PlainLine, IsPlainLog, plain_text, plain_lines}
-use Rattle.checker.specs.Pieces.{IsEntryAt}
+use Rattle.checker.specs.code.Pieces.{IsEntryAt}
 use Rattle.checker.proofs.Spelt.{Spelt}
 use Rattle.checker.proofs.Logs.{plain_step, log_more, step_nodes}
 

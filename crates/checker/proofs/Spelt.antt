@@ -9,7 +9,7 @@ use Rattle.logtext.specs.declared.entry.Entry.{Entry}
 use Rattle.logtext.specs.Entries.{Spells, entry_text}
 use Rattle.logtext.specs.Reading.{HasNoWholeLine, BeginsWithNone}
 use Rattle.checker.specs.Judgement.{BeginsWith}
-use Rattle.logtext.specs.Promises.{EndsOnce, SpellingsAreTold, SpellingsEndOnce}
+use Rattle.logtext.specs.code.Promises.{EndsOnce, SpellingsAreTold, SpellingsEndOnce}
 use Rattle.checker.proofs.Feeds.{has_no_feed, feed_within, cut_line}
 use Rattle.checker.proofs.Feeds.Cut.{before, behind}
 

@@ -13,8 +13,8 @@ use Rattle.logtext.specs.declared.entry.Entry.TheVariants.{Head, Finish}
 use Rattle.logtext.specs.Reading.{HasNoWholeLine}
 use Rattle.checker.specs.Judgement.{BeginsWith, CantGoOn, IsAccepted, IsTooLong, log_limit}
 use Rattle.checker.specs.Checking.{log_bytes}
-use Rattle.checker.specs.Pieces.{IsEntryAt}
-use Rattle.checker.specs.Turns.{IsWrong}
+use Rattle.checker.specs.code.Pieces.{IsEntryAt}
+use Rattle.checker.specs.code.Turns.{IsWrong}
 use Rattle.checker.proofs.Feeds.{has_no_feed}
 use Rattle.checker.proofs.Spelt.{Spellings, Spelt}
 use Rattle.checker.proofs.Reached.{Reached, reached_longer, entry_longer}

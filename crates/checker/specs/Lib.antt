@@ -1,5 +1,3 @@
 pub mod Judgement
 pub mod Checking
-pub mod Pieces
-pub mod Turns
-pub mod Laws
+pub mod code

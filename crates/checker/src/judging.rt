@@ -3,11 +3,11 @@ ghost use Rattle.sched_base.specs.State.{State, Bytes, is_opened};
 ghost use Rattle.kernel.specs.Steps.{opening};
 ghost use Rattle.kernel.specs.Promises.{Ready, Means};
 ghost use Rattle.logtext.specs.declared.entry.Entry.TheVariants.{Head};
-ghost use Rattle.log_lines.specs.Pieces.{nothing_fed};
+ghost use Rattle.log_lines.specs.code.Pieces.{nothing_fed};
 ghost use Rattle.checker.specs.Judgement.{log_limit};
 ghost use Rattle.checker.specs.Checking.{Checks};
-ghost use Rattle.checker.specs.Pieces.{IsReading, holds};
-ghost use Rattle.checker.specs.Turns.{FindsHead, IsBehindHead, Tries, Turns, is_head};
+ghost use Rattle.checker.specs.code.Pieces.{IsReading, holds};
+ghost use Rattle.checker.specs.code.Turns.{FindsHead, IsBehindHead, Tries, Turns, is_head};
 
 use crate::reading::{Found, goes_on, next_line};
 use kernel::{Kernel, Line, NoExtra, NoWitness, StepFault, Verdict};
@@ -53,7 +53,7 @@ impl From<NoMemory> for CheckFault {
 
 impl From<ReadError> for CheckFault {
     ghost use Rattle.std.specs.Prelude.{◌≡◌};
-    ghost use Rattle.checker.specs.Turns.{fault_of_read};
+    ghost use Rattle.checker.specs.code.Turns.{fault_of_read};
 
     ghost from_gives = { λ e f. f ≡ fault_of_read e };
 

@@ -2,7 +2,7 @@ ghost use Rattle.std.specs.Prelude.{◌≡◌, ◌+◌, ◌<◌, ◌≤◌, ◌^
 ghost use Rattle.sched_base.specs.State.{State, Bytes, is_opened};
 ghost use Rattle.sched_base.specs.Calls.{Moved};
 ghost use Rattle.checker.specs.Judgement.{log_limit};
-ghost use Rattle.checker.specs.Pieces.{Fails, FeedsPiece, FindsLine, GoesOn, IsReading, holds};
+ghost use Rattle.checker.specs.code.Pieces.{Fails, FeedsPiece, FindsLine, GoesOn, IsReading, holds};
 
 use kernel::{NoExtra, NoWitness};
 use log_lines::LineReader;

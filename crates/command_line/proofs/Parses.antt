@@ -19,7 +19,7 @@ use Rattle.clap.proofs.OnLiterals.{clap_on_literals}
 use Rattle.command_line.proofs.Walks.{EachUtf8, Pending, among_empty, first_fault, moves_at, no_subs, place, rows_at, says_at, starts, stops_at, walk_end, when_empty}
 use Rattle.command_line.proofs.Classes.{Class, end, named, valued, other, short, plain, IsOther, IsPlainWord, IsShort, class_of}
 use Rattle.command_line.specs.Commands.{Parts, Word, command_by, is_option, parts_of, stripped, with_argument, with_limit}
-use Rattle.command_line.specs.Found.{parts_found}
+use Rattle.command_line.specs.code.Found.{parts_found}
 use Rattle.command_line.specs.declared.commands.Verb.{Verb}
 use Rattle.command_line.proofs.Taken.{Taken, all_taken, answer_from, limits_from, taken_from, taken_of, found_taken, not_taken}
 

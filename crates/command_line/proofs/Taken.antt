@@ -6,7 +6,7 @@ use Rattle.std.proofs.lemmas.Bool.{or_right, or_left}
 use Rattle.command_line.specs.declared.commands.Verb.{Verb}
 use Rattle.command_line.specs.declared.commands.Verb.TheVariants as verb
 use Rattle.command_line.specs.Commands.{Parts, Word, check_in, command_by, command_for, gen_in, is_option, limit_of, parts_of, placed, show_in, solve_in, stripped, trial_in, verify_in, with_argument, with_limit}
-use Rattle.command_line.specs.Found.{arguments_found, listed}
+use Rattle.command_line.specs.code.Found.{arguments_found, listed}
 use Rattle.base_laws.specs.laws.Truth.{alone}
 
 abbrev pub taken_of : Bool → List Word → Option Parts

@@ -1,7 +1,7 @@
 ghost use Rattle.std.specs.Prelude.{◌≡◌, ◌⊎◌, IfOk, IfErr, IfSome, Some, None, Err, false, codes, map, option_map, string_bytes};
 ghost use Rattle.clap.specs.Words.{found_of, kind_of};
 ghost use Rattle.command_line.specs.Commands.{command_by, command_for, parts_of};
-ghost use Rattle.command_line.specs.Found.{HasLimits, parts_found, seen_of};
+ghost use Rattle.command_line.specs.code.Found.{HasLimits, parts_found, seen_of};
 
 use crate::commands::{Command as Line, Verb, WordsFault};
 use crate::limit::limit;

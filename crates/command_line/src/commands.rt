@@ -1,6 +1,6 @@
 ghost use Rattle.std.specs.Prelude.{◌≡◌, IfOk, None, Some, Err, map, string_bytes};
 ghost use Rattle.command_line.specs.Commands.{command_of, verb_of};
-ghost use Rattle.command_line.specs.Found.{HasLimits, seen_of};
+ghost use Rattle.command_line.specs.code.Found.{HasLimits, seen_of};
 
 use crate::arguments::read_arguments;
 use crate::shop::Shop;

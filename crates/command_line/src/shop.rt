@@ -1,6 +1,6 @@
 ghost use Rattle.std.specs.Prelude.{◌≡◌, ◌≤◌, ◌<◌, ◌^◌, IfSome};
 ghost use Rattle.command_line.specs.Commands.{number_of, shop_of};
-ghost use Rattle.command_line.specs.Found.{IsShop};
+ghost use Rattle.command_line.specs.code.Found.{IsShop};
 
 use modelgen::is_within;
 

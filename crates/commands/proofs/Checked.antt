@@ -20,8 +20,8 @@ use Rattle.checker.specs.declared.judging.CheckFault.TheVariants as fault
 use Rattle.checker.specs.Judgement.{log_limit}
 use Rattle.checker.specs.Checking.{Checks, Judges, log_bytes}
 use Rattle.commands.specs.Runs.{IfFile, FileDeserves, AcceptsLog, ReadsModel, ReadsLog}
-use Rattle.commands.specs.Stops.{stop_of_check}
-use Rattle.commands.specs.Tries.{OnlyReads, OnlyJudges, JudgesFile, TriesCheck}
+use Rattle.commands.specs.code.Stops.{stop_of_check}
+use Rattle.commands.specs.code.Tries.{OnlyReads, OnlyJudges, JudgesFile, TriesCheck}
 
 in_file : (files : Option (List File)) (name : Bytes) (P : Bytes → Type 0) → IfSome (option_and_then (λ fs. bytes_of fs name) files) P → IfSome files (λ fs. IfSome (bytes_of fs name) P)
 in_file None name P is = tt

@@ -26,7 +26,7 @@ use Rattle.commands.specs.Runs.CutShort.{before_log, in_log, in_answer}
 use Rattle.cpo_elab.specs.Answers.Answer.{Refused}
 use Rattle.commands.specs.Runs.RefusesLog.{at_line, too_long}
 use Rattle.commands.proofs.Solved.{unread_on}
-use Rattle.commands.specs.Tries.{OnlyReads, TriesSolve, TriesCheck, TriesVerify, TriesShow, TriesGen, EndsStopped}
+use Rattle.commands.specs.code.Tries.{OnlyReads, TriesSolve, TriesCheck, TriesVerify, TriesShow, TriesGen, EndsStopped}
 
 -- A line on standard error behind whatever a command has done.
 

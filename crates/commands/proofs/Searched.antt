@@ -10,9 +10,9 @@ use Rattle.kernel.specs.Refuting.{refutes_with}
 use Rattle.kernel.specs.Steps.{LogState, opening}
 use Rattle.textline.specs.Lines.{Bytes}
 use Rattle.logtext.specs.Logs.{PlainLine, plain_log}
-use Rattle.solver.specs.Solving.{IsSolved, Solves}
+use Rattle.solver.specs.code.Solving.{IsSolved, Solves}
 use Rattle.commands.specs.Runs.{LogPromise}
-use Rattle.commands.specs.Tries.{Searches}
+use Rattle.commands.specs.code.Tries.{Searches}
 use Rattle.commands.proofs.Logged.{last_shown, one_waits, unclosed}
 
 created_empty : (text : Bytes) (before : Option Bytes) → appended text (option_map (λ bs. []) before) ≡ option_map (λ bs. text) before

@@ -16,7 +16,7 @@ use Rattle.commands.specs.Ended.{is_success}
 use Rattle.commands.specs.Runs.{Source, SourceDeserves, ReadsSource, IsUnread, told_text, LogPromise, HoldsBegunLog, CutShort, ending_of}
 use Rattle.commands.specs.Runs.Source.{file, generated}
 use Rattle.commands.specs.Runs.CutShort.{before_log, in_log, in_answer}
-use Rattle.commands.specs.Tries.{OnlyReads, BeginsSearch, Searches, MakesModel, TriesSolve}
+use Rattle.commands.specs.code.Tries.{OnlyReads, BeginsSearch, Searches, MakesModel, TriesSolve}
 
 -- where nothing is read
 pub nothing_read : (s : State) → OnlyReads s s

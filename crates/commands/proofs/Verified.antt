@@ -14,7 +14,7 @@ use Rattle.commands.specs.declared.ended.Ended.TheVariants as end
 use Rattle.commands.specs.declared.stop.ScheduleRefusal.{ScheduleRefusal}
 use Rattle.commands.specs.declared.stop.Stop.TheVariants as stop
 use Rattle.commands.specs.Runs.{IfFile, FileDeserves, ReadsModel, ReadsSchedule, SpellsWithin, IsUnfit, IsVerified, RefusalDue}
-use Rattle.commands.specs.Tries.{OnlyReads, OnlyTests, TestsFile, TriesVerify}
+use Rattle.commands.specs.code.Tries.{OnlyReads, OnlyTests, TestsFile, TriesVerify}
 use Rattle.commands.specs.VerifyText.{verify_text}
 
 -- The model and a schedule were read, and the schedule is a solution.

@@ -1,9 +1,7 @@
-pub mod AnswersVerify
 pub mod CheckText
 pub mod Ended
 pub mod LastSchedule
 pub mod Runs
-pub mod Stops
 pub mod Told
-pub mod Tries
 pub mod VerifyText
+pub mod code

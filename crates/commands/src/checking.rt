@@ -1,7 +1,7 @@
 ghost use Rattle.std.specs.Prelude.{Some};
 ghost use Rattle.command_line.specs.Commands.{Check};
 ghost use Rattle.commands.specs.Runs.{RunPromise};
-ghost use Rattle.commands.specs.Tries.{JudgesFile, OnlyJudges, TriesCheck};
+ghost use Rattle.commands.specs.code.Tries.{JudgesFile, OnlyJudges, TriesCheck};
 
 use crate::accepted::check_bytes;
 use crate::ended::Ended;

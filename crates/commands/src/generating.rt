@@ -1,8 +1,8 @@
 ghost use Rattle.std.specs.Prelude.{◌≡◌, IfOk, Some};
 ghost use Rattle.command_line.specs.Commands.{Gen};
-ghost use Rattle.command_line.specs.Found.{IsShop};
+ghost use Rattle.command_line.specs.code.Found.{IsShop};
 ghost use Rattle.commands.specs.Runs.{RunPromise, shop_text};
-ghost use Rattle.commands.specs.Tries.{MakesModel, TriesGen};
+ghost use Rattle.commands.specs.code.Tries.{MakesModel, TriesGen};
 
 use crate::ended::Ended;
 use crate::report::end_stopped;

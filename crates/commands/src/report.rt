@@ -2,7 +2,7 @@ ghost use Rattle.std.specs.Prelude.{◌≡◌, ◌++◌, ◌∷◌, [], codes, O
 ghost use Rattle.std.specs.Fmt.{decimal};
 ghost use Rattle.textline.specs.Lines.{line};
 ghost use Rattle.commands.specs.Told.{Reports, log_line, refusal_line, unfit_line};
-ghost use Rattle.commands.specs.Tries.{EndsStopped};
+ghost use Rattle.commands.specs.code.Tries.{EndsStopped};
 ghost use Rattle.commands.specs.declared.stop.Stop.TheVariants as stop;
 
 use crate::accepted::push_count;

@@ -1,7 +1,7 @@
 ghost use Rattle.std.specs.Prelude.{Some};
 ghost use Rattle.command_line.specs.Commands.{Show};
 ghost use Rattle.commands.specs.Runs.{RunPromise};
-ghost use Rattle.commands.specs.Tries.{TriesShow};
+ghost use Rattle.commands.specs.code.Tries.{TriesShow};
 
 use crate::ended::Ended;
 use crate::load::read;

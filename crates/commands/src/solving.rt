@@ -1,9 +1,9 @@
 ghost use Rattle.std.specs.Prelude.{◌≡◌, true, Some};
 ghost use Rattle.command_line.specs.Commands.{Solve};
-ghost use Rattle.command_line.specs.Found.{IsLimit};
+ghost use Rattle.command_line.specs.code.Found.{IsLimit};
 ghost use Rattle.commands.specs.Ended.{is_success};
 ghost use Rattle.commands.specs.Runs.{RunPromise, ending_of, file};
-ghost use Rattle.commands.specs.Tries.{Searches, TriesSolve};
+ghost use Rattle.commands.specs.code.Tries.{Searches, TriesSolve};
 
 use crate::ended::Ended;
 use crate::load::read;

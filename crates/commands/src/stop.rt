@@ -53,7 +53,7 @@ impl From<NoMemory> for Stop {
 
 impl From<ReadError> for Stop {
     ghost use Rattle.std.specs.Prelude.{◌≡◌};
-    ghost use Rattle.commands.specs.Stops.{stop_of_read};
+    ghost use Rattle.commands.specs.code.Stops.{stop_of_read};
 
     ghost from_gives = { λ e s. s ≡ stop_of_read e };
 
@@ -67,7 +67,7 @@ impl From<ReadError> for Stop {
 
 impl From<ReadFault> for Stop {
     ghost use Rattle.std.specs.Prelude.{◌≡◌};
-    ghost use Rattle.commands.specs.Stops.{stop_of_text};
+    ghost use Rattle.commands.specs.code.Stops.{stop_of_text};
 
     ghost from_gives = { λ e s. s ≡ stop_of_text e };
 
@@ -81,7 +81,7 @@ impl From<ReadFault> for Stop {
 
 impl From<SolveFault> for Stop {
     ghost use Rattle.std.specs.Prelude.{◌≡◌};
-    ghost use Rattle.commands.specs.Stops.{stop_of_search};
+    ghost use Rattle.commands.specs.code.Stops.{stop_of_search};
 
     ghost from_gives = { λ e s. s ≡ stop_of_search e };
 
@@ -95,7 +95,7 @@ impl From<SolveFault> for Stop {
 
 impl From<CheckFault> for Stop {
     ghost use Rattle.std.specs.Prelude.{◌≡◌};
-    ghost use Rattle.commands.specs.Stops.{stop_of_check};
+    ghost use Rattle.commands.specs.code.Stops.{stop_of_check};
 
     ghost from_gives = { λ e s. s ≡ stop_of_check e };
 
@@ -111,7 +111,7 @@ impl From<CheckFault> for Stop {
 
 impl From<ScheduleFault> for Stop {
     ghost use Rattle.std.specs.Prelude.{◌≡◌};
-    ghost use Rattle.commands.specs.Stops.{stop_of_schedule};
+    ghost use Rattle.commands.specs.code.Stops.{stop_of_schedule};
 
     ghost from_gives = { λ e s. s ≡ stop_of_schedule e };
 

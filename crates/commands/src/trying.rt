@@ -1,8 +1,8 @@
 ghost use Rattle.std.specs.Prelude.{Some};
 ghost use Rattle.command_line.specs.Commands.{Trial};
-ghost use Rattle.command_line.specs.Found.{IsLimit, IsShop};
+ghost use Rattle.command_line.specs.code.Found.{IsLimit, IsShop};
 ghost use Rattle.commands.specs.Runs.{RunPromise, generated};
-ghost use Rattle.commands.specs.Tries.{TriesSolve};
+ghost use Rattle.commands.specs.code.Tries.{TriesSolve};
 
 use crate::ended::Ended;
 use crate::generating::generated_model;

@@ -2,7 +2,7 @@ ghost use Rattle.std.specs.Prelude.{◌≡◌, true, Some};
 ghost use Rattle.command_line.specs.Commands.{Verify};
 ghost use Rattle.sched_model.specs.Domain.{is_in_domain};
 ghost use Rattle.commands.specs.Runs.{RunPromise};
-ghost use Rattle.commands.specs.Tries.{FetchesSchedule, FindsFailing, OnlyTests, Tests, TestsFile, TriesVerify};
+ghost use Rattle.commands.specs.code.Tries.{FetchesSchedule, FindsFailing, OnlyTests, Tests, TestsFile, TriesVerify};
 
 use crate::ended::Ended;
 use crate::load::read;

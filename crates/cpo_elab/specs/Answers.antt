@@ -9,7 +9,7 @@ use Rattle.cpo_text.specs.declared.text.ReadFault.{ReadFault}
 use Rattle.cpo_text.specs.declared.text.ReadFault.TheVariants as fault
 use Rattle.cpo_elab.specs.Judged.{number_in}
 use Rattle.cpo_elab.specs.Elaborated.{after}
-use Rattle.cpo_elab.specs.Numbered.{named_first}
+use Rattle.cpo_elab.specs.NamedFirst.{named_first}
 
 -- what a text deserves
 pub data Answer : Type 0 where

@@ -68,7 +68,7 @@ use Rattle.cpo_text.specs.declared.tree.Sense.TheVariants.{Minimize, Maximize}
 use Rattle.cpo_text.specs.declared.tree.Statement.{Statement}
 use Rattle.cpo_text.specs.declared.tree.Statement.TheVariants.{Empty, Define, Constrain, Aim}
 use Rattle.cpo_elab.specs.Named.{itv_of, itvs_of, mat_of, seq_of, cum_of, stf_of, signed_parts}
-use Rattle.cpo_elab.specs.Numbers.{size_of, int_of, int_or_zero, range_of}
+use Rattle.cpo_elab.specs.Literals.{size_of, int_of, int_or_zero, range_of}
 
 -- Definitions.
 

@@ -20,7 +20,7 @@ use Rattle.cpo_text.specs.declared.tree.Constrained.TheVariants.{Parts, NoOverla
 use Rattle.cpo_text.specs.declared.tree.Statement.{Statement}
 use Rattle.cpo_text.specs.declared.tree.Statement.TheVariants.{Define, Constrain, Aim}
 use Rattle.cpo_elab.specs.Named.{signed_parts}
-use Rattle.cpo_elab.specs.Numbers.{int_of, range_of}
+use Rattle.cpo_elab.specs.Literals.{int_of, range_of}
 
 -- Ranges, and pairs of moments.
 

@@ -19,7 +19,7 @@ use Rattle.cpo_text.specs.declared.tree.Statement.TheVariants.{Define, Constrain
 use Rattle.cpo_elab.specs.declared.factors.Factor.{Factor}
 use Rattle.cpo_elab.specs.declared.factors.Factor.TheVariants.{Crowded}
 use Rattle.cpo_elab.specs.Named.{NameTest, number_of, is_defined, itv_of, itvs_of, mat_of, seq_of, stf_of, some_name, name_defined}
-use Rattle.cpo_elab.specs.Numbers.{int_of}
+use Rattle.cpo_elab.specs.Literals.{int_of}
 use Rattle.cpo_elab.specs.Held.{logic_in, some_bound, levels_in, some_size, some_amount, list_in, members_in, rows_in}
 use Rattle.cpo_elab.specs.Elaborated.{after, expr_of}
 use Rattle.cpo_elab.specs.Factors.{factor_of}

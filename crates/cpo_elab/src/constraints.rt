@@ -5,7 +5,7 @@ ghost use Rattle.cpo_elab.specs.Elaborated.{points_of, temporal_of, hierarchy_of
 use crate::copies::itvs_of;
 use crate::draft::Draft;
 use crate::exprs::expr_of;
-use crate::numbers::{int_of, int_or_zero};
+use crate::literals::{int_of, int_or_zero};
 use cpo_text::{
     Bound, Constrained, Cpart, Cumul, Extreme, Hierarchy, Moments, Order, Over, Sense, Spaced,
     Temporal,

@@ -1,12 +1,12 @@
 ghost use Rattle.std.specs.Prelude.{◌≡◌, ◌++◌, ◌≤◌, false, map, flat_map, IfOk, OnOk};
 ghost use Rattle.cpo_elab.specs.Named.{itvs_of};
-ghost use Rattle.cpo_elab.specs.Numbers.{size_of, int_of};
+ghost use Rattle.cpo_elab.specs.Literals.{size_of, int_of};
 ghost use Rattle.cpo_elab.specs.Held.{some_int};
 ghost use Rattle.cpo_elab.specs.Judged.{is_large, is_negative};
 ghost use Rattle.cpo_elab.specs.Elaborated.{types_in};
 
 use crate::draft::Draft;
-use crate::numbers::{int_of, size_of};
+use crate::literals::{int_of, size_of};
 use cpo_text::Int;
 use sched_base::{Itv, List, NoMemory};
 use std::alloc::Global;

@@ -2,14 +2,14 @@ ghost use Rattle.std.specs.Prelude.{◌≡◌, ◌+◌, ◌≤◌, ℕ, map, sum
 ghost use Rattle.sched_model.specs.Data.{parts_of};
 ghost use Rattle.sched_model.specs.Valid.{node_count, nodes_of, pair_count};
 ghost use Rattle.cpo_elab.specs.Elaborated.{plain_parts, parts_in};
-ghost use Rattle.cpo_elab.specs.Drafts.{capped, plus};
+ghost use Rattle.cpo_elab.specs.code.Drafts.{capped, plus};
 
 use crate::draft::Draft;
 use cpo_text::{Cpart, Cumul};
 use sched_base::Cum;
 use sched_model::{Constraint, Expr, Model, Part};
 
-#[tactic(auto, unfolding(crate::specs::Drafts::plus))]
+#[tactic(auto, unfolding(crate::specs::code::Drafts::plus))]
 fn plus(a: u64, b: u64) -> u64
     ensures { result ≡ plus a b }
 {
@@ -18,7 +18,7 @@ fn plus(a: u64, b: u64) -> u64
 
 /// The number of the nodes of an expression, as far as it can be counted.
 #[cycle(nodes)]
-#[tactic(auto, using(crate::proofs::Capped::plus_capped))]
+#[tactic(auto, using(crate::proofs::adding::Capped::plus_capped))]
 pub fn nodes(e: &Expr) -> u64
     ensures { result ≡ capped (node_count e.now) }
 {
@@ -50,7 +50,7 @@ pub fn nodes(e: &Expr) -> u64
     }
 }
 
-#[tactic(auto, unfolding(crate::specs::Drafts::capped))]
+#[tactic(auto, unfolding(crate::specs::code::Drafts::capped))]
 fn leaf() -> u64
     ensures { result ≡ capped 1 }
 {
@@ -59,7 +59,7 @@ fn leaf() -> u64
 
 /// A node over one part.
 #[cycle(nodes)]
-#[tactic(auto, using(crate::proofs::Capped::plus_capped))]
+#[tactic(auto, using(crate::proofs::adding::Capped::plus_capped))]
 fn nodes_over(part: &Expr) -> u64
     ensures { result ≡ capped (1 + node_count part.now) }
 {
@@ -88,7 +88,7 @@ pub fn constraint_nodes(c: &Constraint) -> u64
     }
 }
 
-#[tactic(auto, unfolding(crate::specs::Drafts::capped))]
+#[tactic(auto, unfolding(crate::specs::code::Drafts::capped))]
 fn none() -> u64
     ensures { result ≡ capped 0 }
 {
@@ -104,7 +104,7 @@ pub fn parts_of(model: &Model, f: Cum) -> &[Part]
     }
 }
 
-#[tactic(auto, unfolding(crate::specs::Drafts::capped))]
+#[tactic(auto, unfolding(crate::specs::code::Drafts::capped))]
 fn part_count(draft: &Draft, part: &Cpart) -> u64
     ensures { result ≡ capped (length (plain_parts draft.now part.now)) }
 {

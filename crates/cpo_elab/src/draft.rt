@@ -5,7 +5,7 @@ ghost use Rattle.sched_model.specs.Data.{empty_model, with_constraint, with_obje
 ghost use Rattle.sched_model.specs.Valid.{IsValid, cell_count, node_total};
 ghost use Rattle.cpo_elab.specs.Named.{number_of, id_of, is_defined, itv_of, mat_of, seq_of, cum_of, stf_of};
 ghost use Rattle.cpo_elab.specs.Judged.{node_limit};
-ghost use Rattle.cpo_elab.specs.Items.{with_item, item_name, item_sort, next_id, with_any, IsUnnamed};
+ghost use Rattle.cpo_elab.specs.code.Items.{with_item, item_name, item_sort, next_id, with_any, IsUnnamed};
 
 use crate::counts::{constraint_nodes, nodes};
 use crate::item::{Item, any_cells, any_nodes};
@@ -30,7 +30,7 @@ pub struct Draft {
 
 impl std::marker::Model for Draft {
     ghost use Rattle.sched_model.specs.Data.{Data};
-    ghost use Rattle.cpo_elab.specs.Drafts.{IsDraft};
+    ghost use Rattle.cpo_elab.specs.code.Drafts.{IsDraft};
     ghost use Rattle.sched_model.specs.contracts.types.Expr as e;
     ghost use Rattle.std.specs.Coded.{codes};
 

@@ -3,8 +3,8 @@ ghost use Rattle.sched_model.specs.Valid.{IsValid};
 ghost use Rattle.cpo_text.specs.declared.text.ReadFault.TheVariants as fault;
 ghost use Rattle.cpo_elab.specs.Elaborated.{after};
 ghost use Rattle.cpo_elab.specs.Judged.{number_in};
-ghost use Rattle.cpo_elab.specs.Shaped.{is_shaped, is_shaped_form};
-ghost use Rattle.cpo_elab.specs.Steps.{first_state, TakesStatement, Takes};
+ghost use Rattle.cpo_elab.specs.code.Shaped.{is_shaped, is_shaped_form};
+ghost use Rattle.cpo_elab.specs.code.Steps.{first_state, TakesStatement, Takes};
 
 use crate::build::with_statement;
 use crate::draft::Draft;
@@ -22,7 +22,7 @@ pub struct Elaborator {
 }
 
 impl std::marker::Model for Elaborator {
-    ghost use Rattle.cpo_elab.specs.Steps.{State, IsInStep};
+    ghost use Rattle.cpo_elab.specs.code.Steps.{State, IsInStep};
     ghost use Rattle.sched_model.specs.contracts.types.Expr as e;
     ghost use Rattle.std.specs.Coded.{codes};
 

@@ -1,11 +1,11 @@
 ghost use Rattle.std.specs.Prelude.{◌≡◌, pos, map, IfOk};
 ghost use Rattle.cpo_elab.specs.Elaborated.{measure_of, gather_of, link_of, compare_of, expr_of};
-ghost use Rattle.cpo_elab.specs.Numbers.{size_of};
+ghost use Rattle.cpo_elab.specs.Literals.{size_of};
 ghost use Rattle.sched_model.specs.declared.types.Expr.{roll-Expr};
 ghost use Rattle.sched_model.specs.declared.types.Expr.TheOpen.{Expr-F as expr};
 
 use crate::draft::Draft;
-use crate::numbers::{int_or_zero, size_of};
+use crate::literals::{int_or_zero, size_of};
 use cpo_text::{Comparison, Gather, Link, Logic, Measure};
 use sched_base::{Boxed, Itv, List, NoMemory};
 use sched_model::{CompareOp, Expr};

@@ -9,7 +9,7 @@ ghost use Rattle.cpo_elab.specs.Held.{list_in_definition, list_in_constraint, li
 ghost use Rattle.cpo_elab.specs.Judged.{is_square, has_rows_for, is_matched, has_rows, misfits, has_twice};
 
 use crate::draft::Draft;
-use crate::numbers::int_of;
+use crate::literals::int_of;
 use cpo_text::{Constrained, Definition, Int, Over, Statement};
 use indexmap::IndexSet;
 use sched_base::{List, Mat, NoMemory, Seq, Stf, at};
@@ -151,7 +151,7 @@ fn over_has_twice(alloc: Global, draft: &Draft, over: &Over) -> Result<bool, NoM
 }
 
 /// Whether both names are of one interval.
-#[tactic(auto, using(crate::proofs::Distinct::of_two))]
+#[tactic(auto, using(crate::proofs::named::Distinct::of_two))]
 fn are_same(draft: &Draft, a: &[u8], b: &[u8]) -> bool
     ensures { result ≡ not (are_distinct (itvs_of draft.now (a.now ∷ b.now ∷ []))) }
 {

@@ -2,12 +2,12 @@ ghost use Rattle.std.specs.Prelude.{◌≡◌};
 ghost use Rattle.std.specs.List.{list_any};
 ghost use Rattle.sched_model.specs.Words.{passes};
 ghost use Rattle.sched_model.specs.Bounds.{is_moment};
-ghost use Rattle.cpo_elab.specs.Numbers.{int_of};
+ghost use Rattle.cpo_elab.specs.Literals.{int_of};
 ghost use Rattle.cpo_elab.specs.Held.{ivarg_range, cpart_moments, window_moments, some_range, some_moments, some_bound, levels_in, least_size, some_size, cpart_height, some_height, some_int, some_in_rows, some_amount};
 ghost use Rattle.cpo_elab.specs.Judged.{is_outside, is_large, has_reversed, has_negative};
-ghost use Rattle.cpo_elab.specs.Drafts.{is_flawed_pair, is_flawed};
+ghost use Rattle.cpo_elab.specs.code.Drafts.{is_flawed_pair, is_flawed};
 
-use crate::numbers::{int_of, range_of};
+use crate::literals::{int_of, range_of};
 use cpo_text::{Constrained, Cpart, Cumul, Definition, Int, Ivarg, Moments, Signed, Statement};
 use sched_base::List;
 use sched_model::is_moment;

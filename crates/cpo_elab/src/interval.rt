@@ -1,7 +1,7 @@
 ghost use Rattle.std.specs.Prelude.{◌≡◌, IfOk};
 ghost use Rattle.cpo_elab.specs.Elaborated.{plain_interval, with_ivarg, interval_of};
 
-use crate::numbers::range_of;
+use crate::literals::range_of;
 use cpo_text::Ivarg;
 use sched_base::{H, List, NoMemory};
 use sched_model::IntervalDef;

@@ -1,6 +1,6 @@
 ghost use Rattle.std.specs.Prelude.{◌≡◌, ◌≤◌, IfOk};
 ghost use Rattle.sched_model.specs.Valid.{IsValid};
-ghost use Rattle.cpo_elab.specs.Items.{with_item, item_sort, next_id, item_members, item_cells, item_nodes, any_members, any_cells, any_nodes};
+ghost use Rattle.cpo_elab.specs.code.Items.{with_item, item_sort, next_id, item_members, item_cells, item_nodes, any_members, any_cells, any_nodes};
 
 use crate::counts::pair_count;
 use crate::names::Sort;

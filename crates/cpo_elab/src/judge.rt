@@ -58,7 +58,7 @@ fn leaves_bound(draft: &Draft, written: &Option<Expr>) -> bool
     }
 }
 
-#[tactic(auto, using(crate::proofs::Written::no_hull))]
+#[tactic(auto, using(crate::proofs::judging::Written::no_hull))]
 fn has_no_hull(draft: &Draft, s: &Statement, written: &Option<Expr>) -> bool
     requires { written.now ≡ option_map (expr_of draft.now) (logic_in s.now) }
     ensures { result ≡ has_no_hull draft.now s.now }

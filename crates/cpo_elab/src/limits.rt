@@ -12,7 +12,7 @@ ghost use Rattle.cpo_elab.specs.Named.{name_defined};
 ghost use Rattle.cpo_elab.specs.Held.{listed_in, logic_in, logic_held, members_defined, members_written, rows_in};
 ghost use Rattle.cpo_elab.specs.Elaborated.{expr_of, named_itself, with_unnamed, with_listed, with_written, defined, after};
 ghost use Rattle.cpo_elab.specs.Judged.{is_wide, leaves_room, passes_limit};
-ghost use Rattle.cpo_elab.specs.Drafts.{capped};
+ghost use Rattle.cpo_elab.specs.code.Drafts.{capped};
 
 use crate::constraints::is_unnamed;
 use crate::counts::{nodes, pair_count, parts_count};

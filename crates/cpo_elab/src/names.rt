@@ -1,7 +1,7 @@
 ghost use Rattle.std.specs.Prelude.{◌≡◌, [], ◌∷◌, ◌++◌, None, OnOk};
 ghost use Rattle.std.specs.Str.{bytes_eq};
 ghost use Rattle.std.specs.Map.{lookup};
-ghost use Rattle.cpo_elab.specs.Drafts.{same_sort};
+ghost use Rattle.cpo_elab.specs.code.Drafts.{same_sort};
 
 use indexmap::IndexMap;
 use sched_base::NoMemory;

@@ -3,7 +3,7 @@ ghost use Rattle.cpo_elab.specs.Elaborated.{turned, parts_signed, parts_in};
 
 use crate::counts::parts_of;
 use crate::draft::Draft;
-use crate::numbers::int_of;
+use crate::literals::int_of;
 use cpo_text::{Cpart, Cumul, Signed};
 use sched_base::{List, NoMemory};
 use sched_model::{Part, Shape};

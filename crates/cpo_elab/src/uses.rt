@@ -5,7 +5,7 @@ ghost use Rattle.sched_model.specs.Data.{has, members_of};
 ghost use Rattle.cpo_elab.specs.declared.names.Sort.TheVariants as of;
 ghost use Rattle.cpo_elab.specs.Named.{some_in_logic, some_in_cpart, some_in_cumul, some_in_over, some_in_moments, some_in_definition, some_in_constraint, some_name};
 ghost use Rattle.cpo_elab.specs.Judged.{defines_again, uses_unknown, is_no_member, asks_others, lacks_member, uses_wrong};
-ghost use Rattle.cpo_elab.specs.Drafts.{fails};
+ghost use Rattle.cpo_elab.specs.code.Drafts.{fails};
 
 use crate::draft::Draft;
 use crate::names::Sort;

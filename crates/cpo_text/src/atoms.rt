@@ -1,6 +1,6 @@
 //! Atoms that have no expression in them.
-ghost use Rattle.cpo_text.specs.Levels.{measured_at, gathered_none};
-ghost use Rattle.cpo_text.specs.Gives.{ahead, GivesOne};
+ghost use Rattle.cpo_text.specs.code.Levels.{measured_at, gathered_none};
+ghost use Rattle.cpo_text.specs.code.Gives.{ahead, GivesOne};
 
 use crate::expression::{Gather, Logic, Measure};
 use crate::fault::Fault;
@@ -10,7 +10,7 @@ use sched_base::List;
 use std::alloc::Global;
 
 /// A start, an end, a size or a length, behind its word.
-#[tactic(auto, unfolding(crate::specs::Levels::measured_at))]
+#[tactic(auto, unfolding(crate::specs::code::Levels::measured_at))]
 pub fn measured(
     alloc: Global,
     measure: Measure,

@@ -1,6 +1,6 @@
 //! Nodes of expressions that are made of the operands that were read.
 ghost use Rattle.std.specs.Prelude.{◌≡◌, ◌<◌, [], ◌∷◌, length, IfOk, IfErr};
-ghost use Rattle.cpo_text.specs.Levels.{node, linked, neg, total, group};
+ghost use Rattle.cpo_text.specs.code.Levels.{node, linked, neg, total, group};
 ghost use Rattle.cpo_text.specs.declared.fault.Fault.TheVariants.{NoMemory as Memory};
 
 use crate::expression::{Link, Logic};

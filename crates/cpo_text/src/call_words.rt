@@ -1,8 +1,8 @@
 //! The words that begin calls. None is reserved: each is known by the bracket that follows it.
 ghost use Rattle.std.specs.Prelude.{◌≡◌, option_map};
-ghost use Rattle.cpo_text.specs.Rules.{find_word};
-ghost use Rattle.cpo_text.specs.CallWords.{contributions, definitions, precedences, gatherings, always, senses, constraint_of, is_call, definition_word_at, begins_part, begins_cumul};
-ghost use Rattle.cpo_text.specs.Gives.{ahead};
+ghost use Rattle.cpo_text.specs.code.Rules.{find_word};
+ghost use Rattle.cpo_text.specs.code.CallWords.{contributions, definitions, precedences, gatherings, always, senses, constraint_of, is_call, definition_word_at, begins_part, begins_cumul};
+ghost use Rattle.cpo_text.specs.code.Gives.{ahead};
 
 use crate::level_words::{gather_of, measure_of};
 use crate::parts::{behind, next_name};
@@ -153,7 +153,7 @@ fn always_of(word: &[u8]) -> Option<ConstraintWord>
     None
 }
 
-#[tactic(auto, unfolding(crate::specs::CallWords::constraint_of))]
+#[tactic(auto, unfolding(crate::specs::code::CallWords::constraint_of))]
 pub fn constraint_word(word: &[u8]) -> Option<ConstraintWord>
     ensures { result ≡ constraint_of word.now }
 {
@@ -187,7 +187,7 @@ pub fn is_call(word: &[u8]) -> bool
 
 /// The word of a definition, if one comes next with a bracket behind it, and the place of that
 /// bracket.
-#[tactic(auto, unfolding(crate::specs::CallWords::definition_word_at))]
+#[tactic(auto, unfolding(crate::specs::code::CallWords::definition_word_at))]
 pub fn definition_word(place: Place<'_>) -> Option<(DefinitionWord, Place<'_>)>
     ensures { option_map (λ x. (x.0, ahead x.1)) result ≡ definition_word_at (ahead place.entry) }
 {
@@ -199,7 +199,7 @@ pub fn definition_word(place: Place<'_>) -> Option<(DefinitionWord, Place<'_>)>
 
 /// Whether a part of a cumulative expression begins here: a name with no bracket behind it, or the
 /// word of a part with one.
-#[tactic(auto, unfolding(crate::specs::CallWords::begins_part))]
+#[tactic(auto, unfolding(crate::specs::code::CallWords::begins_part))]
 fn begins_part(place: Place<'_>) -> bool
     ensures { result ≡ begins_part (ahead place.entry) }
 {
@@ -213,7 +213,7 @@ fn begins_part(place: Place<'_>) -> bool
 }
 
 /// Whether a cumulative expression begins here, and not an expression or another call.
-#[tactic(auto, unfolding(crate::specs::CallWords::begins_cumul))]
+#[tactic(auto, unfolding(crate::specs::code::CallWords::begins_cumul))]
 pub fn begins_cumul(place: Place<'_>) -> bool
     ensures { result ≡ begins_cumul (ahead place.entry) }
 {

@@ -1,7 +1,7 @@
 //! Definitions and constraints that are calls, each from behind the call's word.
-ghost use Rattle.cpo_text.specs.Rules.{name_at};
-ghost use Rattle.cpo_text.specs.Calls.{flag_at, types_given_at, types_at, sequence_at, matrix_at, state_function_at, parts_at, over_at, direct_at, spaced_at, spacing_at, no_overlap_at, pair_at, extreme_at, ordered_at, flags_at, aligned_at, always_equal_at, always_no_state_at};
-ghost use Rattle.cpo_text.specs.Gives.{ahead, Gives};
+ghost use Rattle.cpo_text.specs.code.Rules.{name_at};
+ghost use Rattle.cpo_text.specs.code.Calls.{flag_at, types_given_at, types_at, sequence_at, matrix_at, state_function_at, parts_at, over_at, direct_at, spaced_at, spacing_at, no_overlap_at, pair_at, extreme_at, ordered_at, flags_at, aligned_at, always_equal_at, always_no_state_at};
+ghost use Rattle.cpo_text.specs.code.Gives.{ahead, Gives};
 
 use crate::fault::Fault;
 use crate::lists::{ints, names, rows};
@@ -20,7 +20,7 @@ fn owned(alloc: Global, place: Place<'_>) -> Result<(List<u8>, Place<'_>), Fault
 }
 
 /// A number that is 0 or 1.
-#[tactic(auto, unfolding(crate::specs::Calls::flag_at))]
+#[tactic(auto, unfolding(crate::specs::code::Calls::flag_at))]
 fn flag(place: Place<'_>) -> Result<(bool, Place<'_>), Fault>
     ensures { Gives result (flag_at (ahead place.entry)) }
 {
@@ -33,7 +33,7 @@ fn flag(place: Place<'_>) -> Result<(bool, Place<'_>), Fault>
 }
 
 /// The types of a sequence's members, behind their word.
-#[tactic(auto, unfolding(crate::specs::Calls::types_given_at))]
+#[tactic(auto, unfolding(crate::specs::code::Calls::types_given_at))]
 fn types_given(alloc: Global, place: Place<'_>) -> Result<(List<Int>, Place<'_>), Fault>
     ensures { Gives result (types_given_at (ahead place.entry)) }
 {
@@ -45,7 +45,7 @@ fn types_given(alloc: Global, place: Place<'_>) -> Result<(List<Int>, Place<'_>)
 }
 
 /// The types behind a comma, or nothing.
-#[tactic(auto, unfolding(crate::specs::Calls::types_at))]
+#[tactic(auto, unfolding(crate::specs::code::Calls::types_at))]
 fn types(alloc: Global, place: Place<'_>) -> Result<(Option<List<Int>>, Place<'_>), Fault>
     ensures { Gives result (types_at (ahead place.entry)) }
 {
@@ -58,7 +58,7 @@ fn types(alloc: Global, place: Place<'_>) -> Result<(Option<List<Int>>, Place<'_
     }
 }
 
-#[tactic(auto, unfolding(crate::specs::Calls::sequence_at))]
+#[tactic(auto, unfolding(crate::specs::code::Calls::sequence_at))]
 pub fn sequence(alloc: Global, place: Place<'_>) -> Result<(Definition, Place<'_>), Fault>
     ensures { Gives result (sequence_at (ahead place.entry)) }
 {
@@ -68,7 +68,7 @@ pub fn sequence(alloc: Global, place: Place<'_>) -> Result<(Definition, Place<'_
     Ok((Definition::SequenceVar(members, types), rest))
 }
 
-#[tactic(auto, unfolding(crate::specs::Calls::matrix_at))]
+#[tactic(auto, unfolding(crate::specs::code::Calls::matrix_at))]
 pub fn matrix(alloc: Global, place: Place<'_>) -> Result<(Definition, Place<'_>), Fault>
     ensures { Gives result (matrix_at (ahead place.entry)) }
 {
@@ -77,7 +77,7 @@ pub fn matrix(alloc: Global, place: Place<'_>) -> Result<(Definition, Place<'_>)
     Ok((Definition::TransitionMatrix(rows), rest))
 }
 
-#[tactic(auto, unfolding(crate::specs::Calls::state_function_at))]
+#[tactic(auto, unfolding(crate::specs::code::Calls::state_function_at))]
 pub fn state_function(alloc: Global, place: Place<'_>) -> Result<(Definition, Place<'_>), Fault>
     ensures { Gives result (state_function_at (ahead place.entry)) }
 {
@@ -91,7 +91,7 @@ pub fn state_function(alloc: Global, place: Place<'_>) -> Result<(Definition, Pl
 }
 
 /// An interval and its parts.
-#[tactic(auto, unfolding(crate::specs::Calls::parts_at))]
+#[tactic(auto, unfolding(crate::specs::code::Calls::parts_at))]
 pub fn parts(
     alloc: Global,
     hierarchy: Hierarchy,
@@ -106,7 +106,7 @@ pub fn parts(
 }
 
 /// The name of a sequence, or the members of one without a name.
-#[tactic(auto, unfolding(crate::specs::Calls::over_at))]
+#[tactic(auto, unfolding(crate::specs::code::Calls::over_at))]
 fn over(alloc: Global, place: Place<'_>) -> Result<(Over, Place<'_>), Fault>
     ensures { Gives result (over_at (ahead place.entry)) }
 {
@@ -119,7 +119,7 @@ fn over(alloc: Global, place: Place<'_>) -> Result<(Over, Place<'_>), Fault>
 }
 
 /// The direct flag behind a comma, or nothing.
-#[tactic(auto, unfolding(crate::specs::Calls::direct_at))]
+#[tactic(auto, unfolding(crate::specs::code::Calls::direct_at))]
 fn direct(place: Place<'_>) -> Result<(Option<bool>, Place<'_>), Fault>
     ensures { Gives result (direct_at (ahead place.entry)) }
 {
@@ -132,7 +132,7 @@ fn direct(place: Place<'_>) -> Result<(Option<bool>, Place<'_>), Fault>
     }
 }
 
-#[tactic(auto, unfolding(crate::specs::Calls::spaced_at))]
+#[tactic(auto, unfolding(crate::specs::code::Calls::spaced_at))]
 fn spaced(alloc: Global, place: Place<'_>) -> Result<(Spaced, Place<'_>), Fault>
     ensures { Gives result (spaced_at (ahead place.entry)) }
 {
@@ -142,7 +142,7 @@ fn spaced(alloc: Global, place: Place<'_>) -> Result<(Spaced, Place<'_>), Fault>
 }
 
 /// The matrix and its flag behind a comma, or nothing.
-#[tactic(auto, unfolding(crate::specs::Calls::spacing_at))]
+#[tactic(auto, unfolding(crate::specs::code::Calls::spacing_at))]
 fn spacing(alloc: Global, place: Place<'_>) -> Result<(Option<Spaced>, Place<'_>), Fault>
     ensures { Gives result (spacing_at (ahead place.entry)) }
 {
@@ -155,7 +155,7 @@ fn spacing(alloc: Global, place: Place<'_>) -> Result<(Option<Spaced>, Place<'_>
     }
 }
 
-#[tactic(auto, unfolding(crate::specs::Calls::no_overlap_at))]
+#[tactic(auto, unfolding(crate::specs::code::Calls::no_overlap_at))]
 pub fn no_overlap(alloc: Global, place: Place<'_>) -> Result<(Constrained, Place<'_>), Fault>
     ensures { Gives result (no_overlap_at (ahead place.entry)) }
 {
@@ -166,7 +166,7 @@ pub fn no_overlap(alloc: Global, place: Place<'_>) -> Result<(Constrained, Place
 }
 
 /// Two names in round brackets.
-#[tactic(auto, unfolding(crate::specs::Calls::pair_at))]
+#[tactic(auto, unfolding(crate::specs::code::Calls::pair_at))]
 fn pair(alloc: Global, place: Place<'_>) -> Result<((List<u8>, List<u8>), Place<'_>), Fault>
     ensures { Gives result (pair_at (ahead place.entry)) }
 {
@@ -177,7 +177,7 @@ fn pair(alloc: Global, place: Place<'_>) -> Result<((List<u8>, List<u8>), Place<
 }
 
 /// A sequence and its first or last member.
-#[tactic(auto, unfolding(crate::specs::Calls::extreme_at))]
+#[tactic(auto, unfolding(crate::specs::code::Calls::extreme_at))]
 pub fn extreme(
     alloc: Global,
     extreme: Extreme,
@@ -190,7 +190,7 @@ pub fn extreme(
 }
 
 /// A sequence and two members, one before the other.
-#[tactic(auto, unfolding(crate::specs::Calls::ordered_at))]
+#[tactic(auto, unfolding(crate::specs::code::Calls::ordered_at))]
 pub fn ordered(
     alloc: Global,
     order: Order,
@@ -206,7 +206,7 @@ pub fn ordered(
 }
 
 /// Two flags.
-#[tactic(auto, unfolding(crate::specs::Calls::flags_at))]
+#[tactic(auto, unfolding(crate::specs::code::Calls::flags_at))]
 fn flags(place: Place<'_>) -> Result<((bool, bool), Place<'_>), Fault>
     ensures { Gives result (flags_at (ahead place.entry)) }
 {
@@ -216,7 +216,7 @@ fn flags(place: Place<'_>) -> Result<((bool, bool), Place<'_>), Fault>
 }
 
 /// Two flags behind a comma, or nothing.
-#[tactic(auto, unfolding(crate::specs::Calls::aligned_at))]
+#[tactic(auto, unfolding(crate::specs::code::Calls::aligned_at))]
 fn aligned(place: Place<'_>) -> Result<(Option<(bool, bool)>, Place<'_>), Fault>
     ensures { Gives result (aligned_at (ahead place.entry)) }
 {
@@ -229,7 +229,7 @@ fn aligned(place: Place<'_>) -> Result<(Option<(bool, bool)>, Place<'_>), Fault>
     }
 }
 
-#[tactic(auto, unfolding(crate::specs::Calls::always_equal_at))]
+#[tactic(auto, unfolding(crate::specs::code::Calls::always_equal_at))]
 pub fn always_equal(alloc: Global, place: Place<'_>) -> Result<(Constrained, Place<'_>), Fault>
     ensures { Gives result (always_equal_at (ahead place.entry)) }
 {
@@ -244,7 +244,7 @@ pub fn always_equal(alloc: Global, place: Place<'_>) -> Result<(Constrained, Pla
     ))
 }
 
-#[tactic(auto, unfolding(crate::specs::Calls::always_no_state_at))]
+#[tactic(auto, unfolding(crate::specs::code::Calls::always_no_state_at))]
 pub fn always_no_state(alloc: Global, place: Place<'_>) -> Result<(Constrained, Place<'_>), Fault>
     ensures { Gives result (always_no_state_at (ahead place.entry)) }
 {

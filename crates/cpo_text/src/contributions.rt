@@ -1,9 +1,9 @@
 //! Cumulative expressions. The fuel bounds how many parts one has: a text within its limit never
 //! uses it up.
 ghost use Rattle.std.specs.Prelude.{◌≡◌, option_map};
-ghost use Rattle.cpo_text.specs.Rules.{find_word, sign_in};
-ghost use Rattle.cpo_text.specs.Contributions.{pulse_from, pulse_at, step_at, contribution_at, part_at, joints, added_at, cumul_from, cumul_at, bounds, bounded_at, moments_at, always_in_at};
-ghost use Rattle.cpo_text.specs.Gives.{ahead, Gives};
+ghost use Rattle.cpo_text.specs.code.Rules.{find_word, sign_in};
+ghost use Rattle.cpo_text.specs.code.Contributions.{pulse_from, pulse_at, step_at, contribution_at, part_at, joints, added_at, cumul_from, cumul_at, bounds, bounded_at, moments_at, always_in_at};
+ghost use Rattle.cpo_text.specs.code.Gives.{ahead, Gives};
 
 use crate::call_words::{PartWord, part_word};
 use crate::cumul::{Cpart, Cumul, Signed};
@@ -16,7 +16,7 @@ use sched_base::List;
 use std::alloc::Global;
 
 /// The moments and the height of a pulse, behind its bracket.
-#[tactic(auto, unfolding(crate::specs::Contributions::pulse_from))]
+#[tactic(auto, unfolding(crate::specs::code::Contributions::pulse_from))]
 fn pulse_from(place: Place<'_>) -> Result<(Cpart, Place<'_>), Fault>
     ensures { Gives result (pulse_from (ahead place.entry)) }
 {
@@ -27,7 +27,7 @@ fn pulse_from(place: Place<'_>) -> Result<(Cpart, Place<'_>), Fault>
 }
 
 /// A pulse is of an interval where a name follows its bracket.
-#[tactic(auto, unfolding(crate::specs::Contributions::pulse_at))]
+#[tactic(auto, unfolding(crate::specs::code::Contributions::pulse_at))]
 fn pulse(alloc: Global, place: Place<'_>) -> Result<(Cpart, Place<'_>), Fault>
     ensures { Gives result (pulse_at (ahead place.entry)) }
 {
@@ -41,7 +41,7 @@ fn pulse(alloc: Global, place: Place<'_>) -> Result<(Cpart, Place<'_>), Fault>
     }
 }
 
-#[tactic(auto, unfolding(crate::specs::Contributions::step_at))]
+#[tactic(auto, unfolding(crate::specs::code::Contributions::step_at))]
 fn step(place: Place<'_>) -> Result<(Cpart, Place<'_>), Fault>
     ensures { Gives result (step_at (ahead place.entry)) }
 {
@@ -51,7 +51,7 @@ fn step(place: Place<'_>) -> Result<(Cpart, Place<'_>), Fault>
 }
 
 /// What stands behind the bracket of a part.
-#[tactic(auto, unfolding(crate::specs::Contributions::contribution_at))]
+#[tactic(auto, unfolding(crate::specs::code::Contributions::contribution_at))]
 fn contribution(
     alloc: Global,
     word: PartWord,
@@ -76,7 +76,7 @@ fn contribution(
 }
 
 /// A part without its sign. A name with no bracket behind it is that of a function.
-#[tactic(auto, unfolding(crate::specs::Contributions::part_at))]
+#[tactic(auto, unfolding(crate::specs::code::Contributions::part_at))]
 fn part(alloc: Global, place: Place<'_>) -> Result<(Cpart, Place<'_>), Fault>
     ensures { Gives result (part_at (ahead place.entry)) }
 {
@@ -104,7 +104,7 @@ fn joint_of(sign: &[u8]) -> Option<bool>
 }
 
 /// The sign before a later part, if it comes next, and the place behind it.
-#[tactic(auto, unfolding(crate::specs::Gives::ahead))]
+#[tactic(auto, unfolding(crate::specs::code::Gives::ahead))]
 fn joint(place: Place<'_>) -> Option<(bool, Place<'_>)>
     ensures { option_map (λ x. (x.0, ahead x.1)) result ≡ sign_in joints (ahead place.entry) }
 {
@@ -140,7 +140,7 @@ fn added(alloc: Global, fuel: u32, place: Place<'_>) -> Result<(List<Signed>, Pl
 }
 
 /// A cumulative expression behind the sign of its first part.
-#[tactic(auto, unfolding(crate::specs::Contributions::cumul_from))]
+#[tactic(auto, unfolding(crate::specs::code::Contributions::cumul_from))]
 fn cumul_from(
     alloc: Global,
     fuel: u32,
@@ -155,7 +155,7 @@ fn cumul_from(
     Ok((Cumul { first, more }, rest))
 }
 
-#[tactic(auto, unfolding(crate::specs::Contributions::cumul_at))]
+#[tactic(auto, unfolding(crate::specs::code::Contributions::cumul_at))]
 pub fn cumul(alloc: Global, fuel: u32, place: Place<'_>) -> Result<(Cumul, Place<'_>), Fault>
     ensures { Gives result (cumul_at fuel (ahead place.entry)) }
 {
@@ -178,7 +178,7 @@ fn bound_of(sign: &[u8]) -> Option<Bound>
 }
 
 /// The sign of a bound, if it comes next, and the place behind it.
-#[tactic(auto, unfolding(crate::specs::Gives::ahead))]
+#[tactic(auto, unfolding(crate::specs::code::Gives::ahead))]
 fn bound(place: Place<'_>) -> Option<(Bound, Place<'_>)>
     ensures { option_map (λ x. (x.0, ahead x.1)) result ≡ sign_in bounds (ahead place.entry) }
 {
@@ -193,7 +193,7 @@ fn bound(place: Place<'_>) -> Option<(Bound, Place<'_>)>
 }
 
 /// A cumulative expression with its bound.
-#[tactic(auto, unfolding(crate::specs::Contributions::bounded_at))]
+#[tactic(auto, unfolding(crate::specs::code::Contributions::bounded_at))]
 pub fn bounded(
     alloc: Global,
     fuel: u32,
@@ -212,7 +212,7 @@ pub fn bounded(
 }
 
 /// The window of `alwaysIn`, with the comma behind it: an interval where a name follows.
-#[tactic(auto, unfolding(crate::specs::Contributions::moments_at))]
+#[tactic(auto, unfolding(crate::specs::code::Contributions::moments_at))]
 fn moments(alloc: Global, place: Place<'_>) -> Result<(Moments, Place<'_>), Fault>
     ensures { Gives result (moments_at (ahead place.entry)) }
 {
@@ -229,7 +229,7 @@ fn moments(alloc: Global, place: Place<'_>) -> Result<(Moments, Place<'_>), Faul
     }
 }
 
-#[tactic(auto, unfolding(crate::specs::Contributions::always_in_at))]
+#[tactic(auto, unfolding(crate::specs::code::Contributions::always_in_at))]
 pub fn always_in(
     alloc: Global,
     fuel: u32,

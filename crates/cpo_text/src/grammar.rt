@@ -1,7 +1,7 @@
 ghost use Rattle.std.specs.Prelude.{◌≡◌, []};
 ghost use Rattle.cpo_text.specs.Spelling.{ivarg_sort};
-ghost use Rattle.cpo_text.specs.Rules.{given_at, ivarg_of, ivarg_at, has_sort, ivargs_at, interval_at, between_at, enclosed_at};
-ghost use Rattle.cpo_text.specs.Gives.{ahead, Gives};
+ghost use Rattle.cpo_text.specs.code.Rules.{given_at, ivarg_of, ivarg_at, has_sort, ivargs_at, interval_at, between_at, enclosed_at};
+ghost use Rattle.cpo_text.specs.code.Gives.{ahead, Gives};
 
 use crate::fault::Fault;
 use crate::parts::{behind, copy, int_behind, name, range, sign};
@@ -10,7 +10,7 @@ use crate::tree::{Constrained, Definition, Ivarg, Range, Temporal};
 use sched_base::List;
 use std::alloc::Global;
 
-#[tactic(auto, unfolding(crate::specs::Rules::given_at))]
+#[tactic(auto, unfolding(crate::specs::code::Rules::given_at))]
 fn given(place: Place<'_>) -> Result<(Range, Place<'_>), Fault>
     ensures { Gives result (given_at (ahead place.entry)) }
 {
@@ -18,7 +18,7 @@ fn given(place: Place<'_>) -> Result<(Range, Place<'_>), Fault>
 }
 
 /// The argument that this word begins.
-#[tactic(auto, unfolding(crate::specs::Rules::ivarg_of))]
+#[tactic(auto, unfolding(crate::specs::code::Rules::ivarg_of))]
 fn ivarg_of<'a>(word: &[u8], place: Place<'a>) -> Result<(Ivarg, Place<'a>), Fault>
     ensures { Gives result (ivarg_of word.now (ahead place.entry)) }
 {
@@ -40,7 +40,7 @@ fn ivarg_of<'a>(word: &[u8], place: Place<'a>) -> Result<(Ivarg, Place<'a>), Fau
     Err(Fault::Outside)
 }
 
-#[tactic(auto, unfolding(crate::specs::Rules::ivarg_at))]
+#[tactic(auto, unfolding(crate::specs::code::Rules::ivarg_at))]
 fn ivarg(place: Place<'_>) -> Result<(Ivarg, Place<'_>), Fault>
     ensures { Gives result (ivarg_at (ahead place.entry)) }
 {
@@ -85,7 +85,7 @@ fn ivargs(alloc: Global, place: Place<'_>) -> Result<(List<Ivarg>, Place<'_>), F
     }
 }
 
-#[tactic(auto, unfolding(crate::specs::Rules::interval_at))]
+#[tactic(auto, unfolding(crate::specs::code::Rules::interval_at))]
 pub fn interval(alloc: Global, place: Place<'_>) -> Result<(Definition, Place<'_>), Fault>
     ensures { Gives result (interval_at (ahead place.entry)) }
 {
@@ -98,7 +98,7 @@ pub fn interval(alloc: Global, place: Place<'_>) -> Result<(Definition, Place<'_
     Ok((Definition::IntervalVar(args), rest))
 }
 
-#[tactic(auto, unfolding(crate::specs::Rules::between_at))]
+#[tactic(auto, unfolding(crate::specs::code::Rules::between_at))]
 pub fn between(
     alloc: Global,
     temporal: Temporal,
@@ -116,7 +116,7 @@ pub fn between(
 }
 
 /// A name in round brackets.
-#[tactic(auto, unfolding(crate::specs::Rules::enclosed_at))]
+#[tactic(auto, unfolding(crate::specs::code::Rules::enclosed_at))]
 pub fn enclosed(alloc: Global, place: Place<'_>) -> Result<(List<u8>, Place<'_>), Fault>
     ensures { Gives result (enclosed_at (ahead place.entry)) }
 {

@@ -1,10 +1,10 @@
 //! The signs and words by which the levels of expressions go on.
 ghost use Rattle.std.specs.Prelude.{◌≡◌, ◌∷◌, codes, None, option_map, IfSome};
 ghost use Rattle.cpo_text.specs.Expressions.{link_sign};
-ghost use Rattle.cpo_text.specs.Places.{said_word};
-ghost use Rattle.cpo_text.specs.Rules.{behind};
-ghost use Rattle.cpo_text.specs.Levels.{comparison_of, comparison_at, measure_of, gather_of};
-ghost use Rattle.cpo_text.specs.Gives.{ahead};
+ghost use Rattle.cpo_text.specs.code.Places.{said_word};
+ghost use Rattle.cpo_text.specs.code.Rules.{behind};
+ghost use Rattle.cpo_text.specs.code.Levels.{comparison_of, comparison_at, measure_of, gather_of};
+ghost use Rattle.cpo_text.specs.code.Gives.{ahead};
 
 use crate::expression::{Comparison, Gather, Link, Measure};
 use crate::parts::is_sign;
@@ -46,7 +46,7 @@ fn comparison_of(sign: &[u8]) -> Option<Comparison>
 }
 
 /// The sign of a comparison, if it comes next, and the place behind it.
-#[tactic(auto, unfolding(crate::specs::Gives::ahead, crate::specs::Levels::comparison_at))]
+#[tactic(auto, unfolding(crate::specs::code::Gives::ahead, crate::specs::code::Levels::comparison_at))]
 pub fn comparison(place: Place<'_>) -> Option<(Comparison, Place<'_>)>
     ensures { option_map (λ x. (x.0, ahead x.1)) result ≡ comparison_at (ahead place.entry) }
 {
@@ -95,7 +95,7 @@ pub fn gather_of(word: &[u8]) -> Option<Gather>
 
 /// The token that comes next, unless it is a sign before an operand.
 #[inline(always)]
-#[tactic(auto, unfolding(crate::specs::Gives::ahead))]
+#[tactic(auto, unfolding(crate::specs::code::Gives::ahead))]
 pub fn plain(place: Place<'_>) -> Option<(Token<'_>, Place<'_>)>
     ensures is { IfSome result (λ x. ahead place.entry ≡ said_word x.0.word ∷ ahead x.1) }
     ensures no_not { IfSome result (λ x. behind (codes "!") (ahead place.entry) ≡ None) }

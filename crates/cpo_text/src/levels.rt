@@ -2,11 +2,11 @@
 //! early tests never uses it up. Most expressions begin with an atom: it is read at once, and not
 //! down through the levels, which would look at each token again and again.
 ghost use Rattle.std.specs.Prelude.{◌≡◌, ◌≤◌, ◌-◌, [], ◌∷◌, Some};
-ghost use Rattle.cpo_text.specs.Places.{said_word};
-ghost use Rattle.cpo_text.specs.Levels.{read, inner, in_front, gathered_at, gathered_behind, call_of, grouped_at};
-ghost use Rattle.cpo_text.specs.Onward.{linked_on, total_on, compared_on, implied_on, all_on, grouped_on};
-ghost use Rattle.cpo_text.specs.Levels.Task.{logic as logic_task, chain as chain_task, unit as unit_task, sum as sum_task, term as term_task, atom as atom_task, more as more_task, terms as terms_task, items as items_task};
-ghost use Rattle.cpo_text.specs.Gives.{ahead, Gives, GivesOne};
+ghost use Rattle.cpo_text.specs.code.Places.{said_word};
+ghost use Rattle.cpo_text.specs.code.Levels.{read, inner, in_front, gathered_at, gathered_behind, call_of, grouped_at};
+ghost use Rattle.cpo_text.specs.code.Onward.{linked_on, total_on, compared_on, implied_on, all_on, grouped_on};
+ghost use Rattle.cpo_text.specs.code.Levels.Task.{logic as logic_task, chain as chain_task, unit as unit_task, sum as sum_task, term as term_task, atom as atom_task, more as more_task, terms as terms_task, items as items_task};
+ghost use Rattle.cpo_text.specs.code.Gives.{ahead, Gives, GivesOne};
 
 use crate::atoms::{gathered_none, measured};
 use crate::built::{group, linked, negated, total};
@@ -21,7 +21,7 @@ use sched_base::{Boxed, List};
 use std::alloc::Global;
 
 #[cycle(levels)]
-#[tactic(auto, unfolding(crate::specs::Levels::gathered_at))]
+#[tactic(auto, unfolding(crate::specs::code::Levels::gathered_at))]
 fn gathered(
     alloc: Global,
     fuel: u32,
@@ -42,7 +42,7 @@ fn gathered(
 /// What a call word begins.
 #[cycle(levels)]
 #[inline(never)]
-#[tactic(auto, unfolding(crate::specs::Levels::call_of))]
+#[tactic(auto, unfolding(crate::specs::code::Levels::call_of))]
 fn call<'a>(
     alloc: Global,
     fuel: u32,
@@ -91,7 +91,7 @@ fn atom_of<'a>(
 }
 
 #[cycle(levels)]
-#[tactic(auto, unfolding(crate::specs::Gives::ahead))]
+#[tactic(auto, unfolding(crate::specs::code::Gives::ahead))]
 fn atom(alloc: Global, fuel: u32, place: Place<'_>) -> Result<(Logic, Place<'_>), Fault>
     ensures { GivesOne result (read fuel atom_task (ahead place.entry)) }
 {
@@ -362,7 +362,7 @@ fn leveled(alloc: Global, fuel: u32, place: Place<'_>) -> Result<(Logic, Place<'
 /// An expression whose first atom is read, up through the levels.
 #[cycle(levels)]
 #[inline(never)]
-#[tactic(auto, unfolding(crate::specs::Onward::all_on))]
+#[tactic(auto, unfolding(crate::specs::code::Onward::all_on))]
 fn all_on(
     alloc: Global,
     fuel: u32,
@@ -400,7 +400,7 @@ fn group_on(
 /// What stands behind a round bracket, the first atom in which is read. Nothing goes on at the
 /// closing bracket.
 #[cycle(levels)]
-#[tactic(auto, using(crate::proofs::Onwards::closed))]
+#[tactic(auto, using(crate::proofs::operands::Onwards::closed))]
 fn closed(
     alloc: Global,
     fuel: u32,
@@ -418,7 +418,7 @@ fn closed(
 
 /// What stands behind a round bracket and begins with the atom that this word begins.
 #[cycle(levels)]
-#[tactic(auto, unfolding(crate::specs::Onward::all_on))]
+#[tactic(auto, unfolding(crate::specs::code::Onward::all_on))]
 fn opened<'a>(
     alloc: Global,
     fuel: u32,
@@ -435,7 +435,7 @@ fn opened<'a>(
 /// What stands behind a round bracket, down through the levels.
 #[cycle(levels)]
 #[inline(never)]
-#[tactic(auto, unfolding(crate::specs::Levels::grouped_at))]
+#[tactic(auto, unfolding(crate::specs::code::Levels::grouped_at))]
 fn leveled_group(alloc: Global, fuel: u32, place: Place<'_>) -> Result<(Logic, Place<'_>), Fault>
     ensures { GivesOne result (grouped_at (read fuel logic_task) (ahead place.entry)) }
 {
@@ -460,7 +460,7 @@ fn grouped(alloc: Global, fuel: u32, place: Place<'_>) -> Result<(Logic, Place<'
 
 /// An expression that begins with the atom that this word begins.
 #[cycle(levels)]
-#[tactic(auto, unfolding(crate::specs::Onward::all_on))]
+#[tactic(auto, unfolding(crate::specs::code::Onward::all_on))]
 fn begun<'a>(
     alloc: Global,
     fuel: u32,

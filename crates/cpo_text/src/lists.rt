@@ -1,6 +1,6 @@
 //! Lists in square brackets, their items with commas between.
-ghost use Rattle.cpo_text.specs.Lists.{items_at, listed_at, names_at, ints_at, rows_at};
-ghost use Rattle.cpo_text.specs.Gives.{ahead, Gives};
+ghost use Rattle.cpo_text.specs.code.Lists.{items_at, listed_at, names_at, ints_at, rows_at};
+ghost use Rattle.cpo_text.specs.code.Gives.{ahead, Gives};
 
 use crate::fault::Fault;
 use crate::parts::{behind, copy, int, name, sign};
@@ -13,8 +13,8 @@ use std::alloc::Global;
 pub trait Reader {
     ghost use Rattle.std.specs.Prelude.{◌<◌, List, length, IfOk};
     ghost use Rattle.cpo_text.specs.Words.{Word};
-    ghost use Rattle.cpo_text.specs.Rules.{Found};
-    ghost use Rattle.cpo_text.specs.Gives.{ahead, Gives};
+    ghost use Rattle.cpo_text.specs.code.Rules.{Found};
+    ghost use Rattle.cpo_text.specs.code.Gives.{ahead, Gives};
 
     type Item: Drop;
 
@@ -42,7 +42,7 @@ fn items<R: Reader>(alloc: Global, place: Place<'_>) -> Result<(List<R::Item>, P
     }
 }
 
-#[tactic(auto, unfolding(crate::specs::Lists::listed_at))]
+#[tactic(auto, unfolding(crate::specs::code::Lists::listed_at))]
 fn listed<R: Reader>(alloc: Global, place: Place<'_>) -> Result<(List<R::Item>, Place<'_>), Fault>
     ensures { Gives result (listed_at R.reading (ahead place.entry)) }
 {
@@ -59,7 +59,7 @@ fn listed<R: Reader>(alloc: Global, place: Place<'_>) -> Result<(List<R::Item>, 
 struct NameReader;
 
 impl Reader for NameReader {
-    ghost use Rattle.cpo_text.specs.Rules.{name_at};
+    ghost use Rattle.cpo_text.specs.code.Rules.{name_at};
 
     type Item = List<u8>;
 
@@ -75,7 +75,7 @@ impl Reader for NameReader {
 struct IntReader;
 
 impl Reader for IntReader {
-    ghost use Rattle.cpo_text.specs.Rules.{int_at};
+    ghost use Rattle.cpo_text.specs.code.Rules.{int_at};
 
     type Item = Int;
 
@@ -90,7 +90,7 @@ impl Reader for IntReader {
 struct RowReader;
 
 impl Reader for RowReader {
-    ghost use Rattle.cpo_text.specs.Lists.{ints_at};
+    ghost use Rattle.cpo_text.specs.code.Lists.{ints_at};
 
     type Item = List<Int>;
 
@@ -102,7 +102,7 @@ impl Reader for RowReader {
 }
 
 /// A list of names.
-#[tactic(auto, unfolding(crate::specs::Lists::names_at))]
+#[tactic(auto, unfolding(crate::specs::code::Lists::names_at))]
 pub fn names(alloc: Global, place: Place<'_>) -> Result<(List<List<u8>>, Place<'_>), Fault>
     ensures { Gives result (names_at (ahead place.entry)) }
 {
@@ -110,7 +110,7 @@ pub fn names(alloc: Global, place: Place<'_>) -> Result<(List<List<u8>>, Place<'
 }
 
 /// A list of numbers.
-#[tactic(auto, unfolding(crate::specs::Lists::ints_at))]
+#[tactic(auto, unfolding(crate::specs::code::Lists::ints_at))]
 pub fn ints(alloc: Global, place: Place<'_>) -> Result<(List<Int>, Place<'_>), Fault>
     ensures { Gives result (ints_at (ahead place.entry)) }
 {
@@ -118,7 +118,7 @@ pub fn ints(alloc: Global, place: Place<'_>) -> Result<(List<Int>, Place<'_>), F
 }
 
 /// A list of lists of numbers.
-#[tactic(auto, unfolding(crate::specs::Lists::rows_at))]
+#[tactic(auto, unfolding(crate::specs::code::Lists::rows_at))]
 pub fn rows(alloc: Global, place: Place<'_>) -> Result<(List<List<Int>>, Place<'_>), Fault>
     ensures { Gives result (rows_at (ahead place.entry)) }
 {

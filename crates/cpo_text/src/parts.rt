@@ -1,8 +1,8 @@
 ghost use Rattle.std.specs.Prelude.{◌≡◌, option_map, IfOk};
 ghost use Rattle.cpo_text.specs.Words.{is_sign};
-ghost use Rattle.cpo_text.specs.Places.{said_word};
-ghost use Rattle.cpo_text.specs.Rules.{behind, name_at, size_at, signed_at, int_at, name_before, int_before, int_behind, range_at};
-ghost use Rattle.cpo_text.specs.Gives.{ahead, Gives, GivesName, GivesPlace};
+ghost use Rattle.cpo_text.specs.code.Places.{said_word};
+ghost use Rattle.cpo_text.specs.code.Rules.{behind, name_at, size_at, signed_at, int_at, name_before, int_before, int_behind, range_at};
+ghost use Rattle.cpo_text.specs.code.Gives.{ahead, Gives, GivesName, GivesPlace};
 
 use crate::fault::Fault;
 use crate::place::Place;
@@ -21,7 +21,7 @@ pub fn is_sign(sign: &[u8], word: Word<'_>) -> bool
 }
 
 /// The place behind a sign, if it comes next.
-#[tactic(auto, unfolding(crate::specs::Gives::ahead))]
+#[tactic(auto, unfolding(crate::specs::code::Gives::ahead))]
 pub fn behind<'a>(sign: &[u8], place: Place<'a>) -> Option<Place<'a>>
     ensures { option_map ahead result ≡ behind sign.now (ahead place.entry) }
 {
@@ -43,7 +43,7 @@ pub fn sign<'a>(sign: &[u8], place: Place<'a>) -> Result<Place<'a>, Fault>
     }
 }
 
-#[tactic(auto, unfolding(crate::specs::Gives::ahead))]
+#[tactic(auto, unfolding(crate::specs::code::Gives::ahead))]
 pub fn name(place: Place<'_>) -> Result<(&[u8], Place<'_>), Fault>
     ensures { GivesName result (name_at (ahead place.entry)) }
 {
@@ -57,7 +57,7 @@ pub fn name(place: Place<'_>) -> Result<(&[u8], Place<'_>), Fault>
 }
 
 /// The name that comes next, if one does, and the place behind it.
-#[tactic(auto, unfolding(crate::specs::Gives::ahead))]
+#[tactic(auto, unfolding(crate::specs::code::Gives::ahead))]
 pub fn next_name(place: Place<'_>) -> Option<(&[u8], Place<'_>)>
     ensures { option_map (λ x. (x.0.now, ahead x.1)) result ≡ name_at (ahead place.entry) }
 {
@@ -69,7 +69,7 @@ pub fn next_name(place: Place<'_>) -> Option<(&[u8], Place<'_>)>
 }
 
 /// A name with a sign behind it.
-#[tactic(auto, unfolding(crate::specs::Rules::name_before))]
+#[tactic(auto, unfolding(crate::specs::code::Rules::name_before))]
 pub fn name_before<'a>(end: &[u8], place: Place<'a>) -> Result<(&'a [u8], Place<'a>), Fault>
     ensures { GivesName result (name_before end.now (ahead place.entry)) }
 {
@@ -78,7 +78,7 @@ pub fn name_before<'a>(end: &[u8], place: Place<'a>) -> Result<(&'a [u8], Place<
     Ok((bytes, rest))
 }
 
-#[tactic(auto, unfolding(crate::specs::Gives::ahead))]
+#[tactic(auto, unfolding(crate::specs::code::Gives::ahead))]
 pub fn size(place: Place<'_>) -> Result<(Option<u64>, Place<'_>), Fault>
     ensures { Gives result (size_at (ahead place.entry)) }
 {
@@ -91,7 +91,7 @@ pub fn size(place: Place<'_>) -> Result<(Option<u64>, Place<'_>), Fault>
     }
 }
 
-#[tactic(auto, unfolding(crate::specs::Rules::signed_at))]
+#[tactic(auto, unfolding(crate::specs::code::Rules::signed_at))]
 fn signed(minus: bool, place: Place<'_>) -> Result<(Int, Place<'_>), Fault>
     ensures { Gives result (signed_at minus (ahead place.entry)) }
 {
@@ -99,7 +99,7 @@ fn signed(minus: bool, place: Place<'_>) -> Result<(Int, Place<'_>), Fault>
     Ok((Int { minus, size }, rest))
 }
 
-#[tactic(auto, unfolding(crate::specs::Rules::int_at))]
+#[tactic(auto, unfolding(crate::specs::code::Rules::int_at))]
 pub fn int(place: Place<'_>) -> Result<(Int, Place<'_>), Fault>
     ensures { Gives result (int_at (ahead place.entry)) }
 {
@@ -110,7 +110,7 @@ pub fn int(place: Place<'_>) -> Result<(Int, Place<'_>), Fault>
 }
 
 /// A number with a sign behind it.
-#[tactic(auto, unfolding(crate::specs::Rules::int_before))]
+#[tactic(auto, unfolding(crate::specs::code::Rules::int_before))]
 pub fn int_before<'a>(end: &[u8], place: Place<'a>) -> Result<(Int, Place<'a>), Fault>
     ensures { Gives result (int_before end.now (ahead place.entry)) }
 {
@@ -120,7 +120,7 @@ pub fn int_before<'a>(end: &[u8], place: Place<'a>) -> Result<(Int, Place<'a>), 
 }
 
 /// A number behind a sign, or nothing.
-#[tactic(auto, unfolding(crate::specs::Rules::int_behind))]
+#[tactic(auto, unfolding(crate::specs::code::Rules::int_behind))]
 pub fn int_behind<'a>(sign: &[u8], place: Place<'a>) -> Result<(Option<Int>, Place<'a>), Fault>
     ensures { Gives result (int_behind sign.now (ahead place.entry)) }
 {
@@ -133,7 +133,7 @@ pub fn int_behind<'a>(sign: &[u8], place: Place<'a>) -> Result<(Option<Int>, Pla
     }
 }
 
-#[tactic(auto, unfolding(crate::specs::Rules::range_at))]
+#[tactic(auto, unfolding(crate::specs::code::Rules::range_at))]
 pub fn range(place: Place<'_>) -> Result<(Range, Place<'_>), Fault>
     ensures { Gives result (range_at (ahead place.entry)) }
 {

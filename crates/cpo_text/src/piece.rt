@@ -1,7 +1,7 @@
 ghost use Rattle.std.specs.Prelude.{◌≡◌, ◌==◌, ◌||◌, length, IfSome, ◌≤◌};
 ghost use Rattle.std.specs.List.{prefix_len};
 ghost use Rattle.cpo_text.specs.Tokens.{is_letter, is_digit, is_name_byte, is_blank, is_sign_byte, is_sign_pair, is_on_line, is_comment, begins};
-ghost use Rattle.cpo_text.specs.Lexing.{quote_len, close_len, slash_at, sign_at, piece_from, piece_at, gap_of};
+ghost use Rattle.cpo_text.specs.code.Lexing.{quote_len, close_len, slash_at, sign_at, piece_from, piece_at, gap_of};
 
 /// What a text is made of: tokens of four kinds, single blanks, and comments to the end of a line
 /// or up to a close.
@@ -206,7 +206,7 @@ fn is_lone(b: u8) -> bool
 }
 
 /// The longest piece at the front, with its length.
-#[tactic(auto, using(crate::proofs::Lone::lone_sign), unfolding(crate::specs::Lexing::piece_at))]
+#[tactic(auto, using(crate::proofs::pieces::Lone::lone_sign), unfolding(crate::specs::code::Lexing::piece_at))]
 pub fn piece_at(bytes: &[u8]) -> Option<(Piece, usize)>
     ensures { result ≡ piece_at bytes.now }
 {
@@ -232,7 +232,7 @@ fn gap_of(piece: Option<(Piece, usize)>) -> Option<usize>
 }
 
 /// The length of the piece that begins with this byte, where it is a blank or a comment.
-#[tactic(auto, using(crate::proofs::Gaps::blank_gap, crate::proofs::Gaps::slash_gap, crate::proofs::Gaps::no_gap))]
+#[tactic(auto, using(crate::proofs::pieces::Gaps::blank_gap, crate::proofs::pieces::Gaps::slash_gap, crate::proofs::pieces::Gaps::no_gap))]
 fn gap_from(first: u8, rest: &[u8]) -> Option<usize>
     ensures { result ≡ gap_of (piece_from first rest.now) }
 {
@@ -246,7 +246,7 @@ fn gap_from(first: u8, rest: &[u8]) -> Option<usize>
 }
 
 /// The length of the piece at the front, where that is a blank or a comment.
-#[tactic(auto, unfolding(crate::specs::Lexing::piece_at))]
+#[tactic(auto, unfolding(crate::specs::code::Lexing::piece_at))]
 pub fn gap_at(bytes: &[u8]) -> Option<usize>
     ensures { result ≡ gap_of (piece_at bytes.now) }
 {

@@ -13,11 +13,11 @@ pub struct Place<'a> {
 }
 
 impl<'a> Place<'a> {
-    ghost use Rattle.cpo_text.specs.Lexing.{gap_of, piece_at, tokens_from};
-    ghost use Rattle.cpo_text.specs.Places.{left, in_front};
+    ghost use Rattle.cpo_text.specs.code.Lexing.{gap_of, piece_at, tokens_from};
+    ghost use Rattle.cpo_text.specs.code.Places.{left, in_front};
 
     /// The beginning of a text.
-    #[tactic(auto, unfolding(crate::specs::Places::left))]
+    #[tactic(auto, unfolding(crate::specs::code::Places::left))]
     pub fn start(text: &'a [u8]) -> Place<'a>
         requires { length text.now ≤ 16777216 }
         ensures { left result ≡ tokens_from 0 text.now }
@@ -44,7 +44,7 @@ impl<'a> Place<'a> {
     }
 
     /// The place of the next token, so that a look from there passes no blanks and comments.
-    #[tactic(auto, unfolding(crate::specs::Places::left))]
+    #[tactic(auto, unfolding(crate::specs::code::Places::left))]
     pub fn onto(self) -> Place<'a>
         ensures { left result ≡ left self.entry }
     {
@@ -55,7 +55,7 @@ impl<'a> Place<'a> {
     }
 
     /// The next token, and the place behind it.
-    #[tactic(auto, using(crate::proofs::Walks::part_of))]
+    #[tactic(auto, using(crate::proofs::pieces::Walks::part_of))]
     pub fn next(self) -> Option<(Token<'a>, Place<'a>)>
         ensures tokens { left self.entry ≡ in_front result }
         ensures later { IfSome result (λ x. (self.entry.at < x.1.at) × (x.1.at ≤ 16777216)) }

@@ -1,7 +1,7 @@
 ghost use Rattle.std.specs.Prelude.{◌≡◌, ◌≤◌, ◌<◌, ◌+◌, [], length, drop, IfOk, IfErr, if◌then◌else◌};
 ghost use Rattle.cpo_text.specs.Tokens.{has_comment, word_of};
 ghost use Rattle.cpo_text.specs.Runs.{ended};
-ghost use Rattle.cpo_text.specs.Lexing.{pieces, rest, tokens_from, says_end};
+ghost use Rattle.cpo_text.specs.code.Lexing.{pieces, rest, tokens_from, says_end};
 
 use crate::piece::{Piece, piece_at};
 use crate::text::Refusal;

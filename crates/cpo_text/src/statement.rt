@@ -1,7 +1,7 @@
 ghost use Rattle.std.specs.Prelude.{◌≡◌, option_map, codes};
-ghost use Rattle.cpo_text.specs.Rules.{name_before};
-ghost use Rattle.cpo_text.specs.Statements.{enough, logic_at, holds_at, aim_at, defined_at, definition_at, constraint_at, called_at, named_at, clause_at, body_at, statement_at};
-ghost use Rattle.cpo_text.specs.Gives.{ahead, Gives};
+ghost use Rattle.cpo_text.specs.code.Rules.{name_before};
+ghost use Rattle.cpo_text.specs.code.Statements.{enough, logic_at, holds_at, aim_at, defined_at, definition_at, constraint_at, called_at, named_at, clause_at, body_at, statement_at};
+ghost use Rattle.cpo_text.specs.code.Gives.{ahead, Gives};
 
 use crate::call_words::{
     ConstraintWord, DefinitionWord, begins_cumul, constraint_word, definition_word, is_call,
@@ -22,14 +22,14 @@ use crate::tree::{Constrained, Definition, Sense, Statement};
 use std::alloc::Global;
 
 /// Fuel that no text within its limit uses up.
-#[tactic(auto, unfolding(crate::specs::Statements::enough))]
+#[tactic(auto, unfolding(crate::specs::code::Statements::enough))]
 fn fuel() -> u32
     ensures { result ≡ enough }
 {
     335_544_340
 }
 
-#[tactic(auto, using(crate::proofs::Ones::gives_one), unfolding(crate::specs::Statements::logic_at))]
+#[tactic(auto, using(crate::proofs::listing::Ones::gives_one), unfolding(crate::specs::code::Statements::logic_at))]
 fn expression(alloc: Global, place: Place<'_>) -> Result<(Logic, Place<'_>), Fault>
     ensures { Gives result (logic_at enough (ahead place.entry)) }
 {
@@ -37,7 +37,7 @@ fn expression(alloc: Global, place: Place<'_>) -> Result<(Logic, Place<'_>), Fau
 }
 
 /// An expression that has to hold.
-#[tactic(auto, unfolding(crate::specs::Statements::holds_at))]
+#[tactic(auto, unfolding(crate::specs::code::Statements::holds_at))]
 fn holds(alloc: Global, place: Place<'_>) -> Result<(Statement, Place<'_>), Fault>
     ensures { Gives result (holds_at enough (ahead place.entry)) }
 {
@@ -45,7 +45,7 @@ fn holds(alloc: Global, place: Place<'_>) -> Result<(Statement, Place<'_>), Faul
     Ok((Statement::Constrain(Constrained::Holds(logic)), rest))
 }
 
-#[tactic(auto, unfolding(crate::specs::Statements::aim_at))]
+#[tactic(auto, unfolding(crate::specs::code::Statements::aim_at))]
 fn aim(alloc: Global, sense: Sense, place: Place<'_>) -> Result<(Statement, Place<'_>), Fault>
     ensures { Gives result (aim_at enough sense (ahead place.entry)) }
 {
@@ -55,7 +55,7 @@ fn aim(alloc: Global, sense: Sense, place: Place<'_>) -> Result<(Statement, Plac
 }
 
 /// What stands behind the word of a definition.
-#[tactic(auto, unfolding(crate::specs::Statements::defined_at))]
+#[tactic(auto, unfolding(crate::specs::code::Statements::defined_at))]
 fn defined(
     alloc: Global,
     word: DefinitionWord,
@@ -72,7 +72,7 @@ fn defined(
 }
 
 /// A call that defines, or else a cumulative expression.
-#[tactic(auto, unfolding(crate::specs::Statements::definition_at))]
+#[tactic(auto, unfolding(crate::specs::code::Statements::definition_at))]
 fn definition(alloc: Global, place: Place<'_>) -> Result<(Definition, Place<'_>), Fault>
     ensures { Gives result (definition_at enough (ahead place.entry)) }
 {
@@ -84,7 +84,7 @@ fn definition(alloc: Global, place: Place<'_>) -> Result<(Definition, Place<'_>)
 }
 
 /// What stands behind the word of a constraint.
-#[tactic(auto, unfolding(crate::specs::Statements::constraint_at))]
+#[tactic(auto, unfolding(crate::specs::code::Statements::constraint_at))]
 fn constraint(
     alloc: Global,
     word: ConstraintWord,
@@ -105,7 +105,7 @@ fn constraint(
 }
 
 /// The constraint or objective that this call word begins.
-#[tactic(auto, unfolding(crate::specs::Statements::called_at))]
+#[tactic(auto, unfolding(crate::specs::code::Statements::called_at))]
 fn called<'a>(alloc: Global, word: &[u8], place: Place<'a>) -> Result<(Statement, Place<'a>), Fault>
     ensures { Gives result (called_at enough word.now (ahead place.entry)) }
 {
@@ -120,7 +120,7 @@ fn called<'a>(alloc: Global, word: &[u8], place: Place<'a>) -> Result<(Statement
 }
 
 /// What begins at a place with a call word, behind which the rest stands.
-#[tactic(auto, unfolding(crate::specs::Statements::named_at))]
+#[tactic(auto, unfolding(crate::specs::code::Statements::named_at))]
 fn named<'a>(
     alloc: Global,
     place: Place<'a>,
@@ -136,7 +136,7 @@ fn named<'a>(
 }
 
 /// A constraint or an objective, without its semicolon.
-#[tactic(auto, unfolding(crate::specs::Statements::clause_at))]
+#[tactic(auto, unfolding(crate::specs::code::Statements::clause_at))]
 fn clause(alloc: Global, place: Place<'_>) -> Result<(Statement, Place<'_>), Fault>
     ensures { Gives result (clause_at enough (ahead place.entry)) }
 {
@@ -151,7 +151,7 @@ fn clause(alloc: Global, place: Place<'_>) -> Result<(Statement, Place<'_>), Fau
 }
 
 /// The name that is defined, if one is, and the place behind its sign.
-#[tactic(auto, unfolding(crate::specs::Rules::name_before))]
+#[tactic(auto, unfolding(crate::specs::code::Rules::name_before))]
 fn defined_name(place: Place<'_>) -> Option<(&[u8], Place<'_>)>
     ensures { option_map (λ x. (x.0.now, ahead x.1)) result ≡ name_before (codes "=") (ahead place.entry) }
 {
@@ -161,7 +161,7 @@ fn defined_name(place: Place<'_>) -> Option<(&[u8], Place<'_>)>
 }
 
 /// A statement without its semicolon.
-#[tactic(auto, unfolding(crate::specs::Statements::body_at))]
+#[tactic(auto, unfolding(crate::specs::code::Statements::body_at))]
 fn body(alloc: Global, place: Place<'_>) -> Result<(Statement, Place<'_>), Fault>
     ensures { Gives result (body_at enough (ahead place.entry)) }
 {
@@ -175,7 +175,7 @@ fn body(alloc: Global, place: Place<'_>) -> Result<(Statement, Place<'_>), Fault
 }
 
 /// A statement with its semicolon. Reading stops at the first token that leaves the grammar.
-#[tactic(auto, unfolding(crate::specs::Statements::statement_at))]
+#[tactic(auto, unfolding(crate::specs::code::Statements::statement_at))]
 pub fn statement(alloc: Global, place: Place<'_>) -> Result<(Statement, Place<'_>), Fault>
     ensures { Gives result (statement_at enough (ahead place.entry)) }
 {

@@ -2,8 +2,8 @@ ghost use Rattle.std.specs.Prelude.{◌≡◌, ◌≤◌, ◌+◌, ℤ, pos, neg
 ghost use Rattle.std.specs.List.{list_any};
 ghost use Rattle.std.specs.Str.{bytes_eq};
 ghost use Rattle.cpo_text.specs.Runs.{is_left_out, is_nesting, is_large, turn};
-ghost use Rattle.cpo_text.specs.Places.{said_word, left};
-ghost use Rattle.cpo_text.specs.Surveys.{unsurveyed, noted, surveyed, after_run, early_of};
+ghost use Rattle.cpo_text.specs.code.Places.{said_word, left};
+ghost use Rattle.cpo_text.specs.code.Surveys.{unsurveyed, noted, surveyed, after_run, early_of};
 
 use crate::parts::is_sign;
 use crate::place::Place;

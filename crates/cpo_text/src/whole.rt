@@ -1,8 +1,8 @@
 ghost use Rattle.std.specs.Prelude.{◌≡◌, ◌≤◌, length, IfOk};
 ghost use Rattle.cpo_text.specs.Runs.{runs, words_of};
-ghost use Rattle.cpo_text.specs.Lexing.{tokens_from};
-ghost use Rattle.cpo_text.specs.Places.{left};
-ghost use Rattle.cpo_text.specs.Surveys.{first_run, after_run};
+ghost use Rattle.cpo_text.specs.code.Lexing.{tokens_from};
+ghost use Rattle.cpo_text.specs.code.Places.{left};
+ghost use Rattle.cpo_text.specs.code.Surveys.{first_run, after_run};
 ghost use Rattle.cpo_text.specs.Reads.{HasForm, AreReadings, told, Reads};
 
 use crate::fault::Fault;

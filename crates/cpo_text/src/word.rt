@@ -1,6 +1,6 @@
 ghost use Rattle.std.specs.Prelude.{◌≡◌, option_map};
 ghost use Rattle.cpo_text.specs.Tokens.{bounded, digits_value, word_of};
-ghost use Rattle.cpo_text.specs.Places.{said_word};
+ghost use Rattle.cpo_text.specs.code.Places.{said_word};
 
 use crate::piece::Piece;
 use sched_base::NUMBER_LIMIT;

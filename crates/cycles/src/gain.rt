@@ -1,7 +1,7 @@
 //! The search for a closed walk of positive weight.
 ghost use Rattle.std.specs.Prelude.{length, IfOk, IfSome, IfNone};
-ghost use Rattle.cycles.specs.Walks.{IsGain, HasHeights};
-ghost use Rattle.cycles.specs.Search.{AreOn};
+ghost use Rattle.cycles.specs.code.Walks.{IsGain, HasHeights};
+ghost use Rattle.cycles.specs.code.Search.{AreOn};
 
 use crate::search::Search;
 use refute_basic::Arc;

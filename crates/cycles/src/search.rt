@@ -1,9 +1,9 @@
 //! The walks from each point that a search has found, and its rounds.
 ghost use Rattle.std.specs.Prelude.{◌≡◌, ℕ, ◌+◌, ◌<◌, ◌≤◌, ◌+ℤ◌, ◌≤ℤ◌, ◌^◌, pos, neg_ℤ, true, false, Bool, length, get_or, IsTrue, IfOk, IfSome, IfNone, OnOk};
-ghost use Rattle.cycles.specs.Walks.{arc_at, IsGain};
-ghost use Rattle.cycles.specs.Search.{IsSearch, IsShort, AreOn, IsPointOf, IsArcOf, IsBehind, IsStill, is_late, last_of, height, node_at, turn_of};
-ghost use Rattle.cycles.specs.Pushes.{pushed, node_by};
-ghost use Rattle.cycles.specs.Ways.{IsLoop};
+ghost use Rattle.cycles.specs.code.Walks.{arc_at, IsGain};
+ghost use Rattle.cycles.specs.code.Search.{IsSearch, IsShort, AreOn, IsPointOf, IsArcOf, IsBehind, IsStill, is_late, last_of, height, node_at, turn_of};
+ghost use Rattle.cycles.specs.code.Pushes.{pushed, node_by};
+ghost use Rattle.cycles.specs.code.Ways.{IsLoop};
 
 use crate::node::{Node, root, weigh};
 use refute_basic::Arc;
@@ -20,7 +20,7 @@ pub struct Search {
 }
 
 impl Model for Search {
-    ghost use Rattle.cycles.specs.Search.{Search};
+    ghost use Rattle.cycles.specs.code.Search.{Search};
 
     ghost Value = { Search };
 

@@ -16,9 +16,9 @@ use Rattle.engine.specs.declared.lines.Lines.{Ghosts}
 use Rattle.engine.specs.declared.stops.Stop.{Stop}
 use Rattle.engine.specs.declared.stops.Stop.TheVariants.{Quiet, Failed, Capped}
 use Rattle.engine.specs.Plain.{Plain, refutes_plain}
-use Rattle.engine.specs.Changes.{AreSameBut}
+use Rattle.engine.specs.code.Changes.{AreSameBut}
 use Rattle.engine.specs.Runs.{cap_at, Led, Ends, Counts, Ran, Broke}
-use Rattle.engine.specs.Ending.{IsEnd}
+use Rattle.engine.specs.code.Ending.{IsEnd}
 
 -- the laws of lines that are put
 abbrev pub None_put : {L : Type 0} → Ghosts L → Type 0

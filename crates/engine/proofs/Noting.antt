@@ -6,16 +6,16 @@ use Rattle.std.proofs.lemmas.Bool.Decides.{nat_tests}
 use Rattle.std.proofs.lemmas.Bool.{true≢false, or_left}
 use Rattle.std.proofs.lemmas.List.{get_or-set_same, get_or-set_other}
 use Rattle.std.proofs.lemmas.List.Elements.{All-append}
-use Rattle.iqueue.specs.Queue.{is_in}
+use Rattle.iqueue.specs.code.Queue.{is_in}
 use Rattle.iqueue.specs.laws.Ends.{in_end, in_push}
 use Rattle.sched_base.specs.declared.ids.Itv.{Itv}
 use Rattle.sched_base.specs.declared.ids.Seq.{Seq}
 use Rattle.region.specs.declared.types.CellName.{CellName}
 use Rattle.region.specs.declared.types.CellName.TheVariants.{Presence, StartMin, StartMax, EndMin, EndMax, Order}
 use Rattle.findings.specs.laws.Members.{any_more}
-use Rattle.engine.specs.Watched.{names_presence, names_bound, names_order}
-use Rattle.engine.specs.Watching.{Watching, watchers_of}
-use Rattle.engine.specs.Noted.{noted_at, IsPadded, Noted, AreListed}
+use Rattle.engine.specs.code.Watched.{names_presence, names_bound, names_order}
+use Rattle.engine.specs.code.Watching.{Watching, watchers_of}
+use Rattle.engine.specs.code.Noted.{noted_at, IsPadded, Noted, AreListed}
 use Rattle.base_laws.specs.laws.Numbers.{below_or_last, same_or_not}
 
 below_push : (n k : ℕ) (ks : List ℕ) → k < n → All (λ j. j < n) ks → All (λ j. j < n) (ks ++ k ∷ [])

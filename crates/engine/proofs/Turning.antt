@@ -2,8 +2,8 @@
 use Rattle.std.specs.Prelude.{◌≡◌, ℕ, ◌+◌, ◌<◌, false, List, length, Option, Some, None}
 use Rattle.std.proofs.Common.{refl, sym, ap, subst, ◌∙◌, arith}
 use Rattle.wake_levels.specs.declared.levels.Turn.{Turn}
-use Rattle.wake_levels.specs.Waking.{Waking, is_awake, weight, first_turn, without_on_all, woken_on}
-use Rattle.wake_levels.specs.Calm.{IsCalm}
+use Rattle.wake_levels.specs.code.Waking.{Waking, is_awake, weight, first_turn, without_on_all, woken_on}
+use Rattle.wake_levels.specs.code.Calm.{IsCalm}
 use Rattle.wake_levels.specs.laws.Turning.{weight_without, weight_on, count_without, count_on, none_in}
 use Rattle.wake_levels.specs.laws.Calming.{calm_unwoken, calm_later, all_quiet}
 

@@ -1,10 +1,4 @@
 pub mod Plain
-pub mod Changes
-pub mod Watched
-pub mod Watching
-pub mod Noted
-pub mod Engines
 pub mod Runs
-pub mod Ending
-pub mod Pairs
 pub mod laws
+pub mod code

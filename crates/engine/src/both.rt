@@ -28,7 +28,7 @@ impl<A: Propagator, B: Propagator> Both<A, B> {
 
 impl<A: Propagator, B: Propagator> Propagator for Both<A, B> {
     ghost use Rattle.std.specs.Prelude.{◌+◌, ◌-◌, ◌<◌, ◌^◌, if◌then◌else◌, nat_lt};
-    ghost use Rattle.engine.specs.Pairs.{chosen, unwatched_pair};
+    ghost use Rattle.engine.specs.code.Pairs.{chosen, unwatched_pair};
 
     ghost is_of = { λ p m. A.is_of p.first m × B.is_of p.second m × (A.size m + B.size m < 2 ^ 32) };
 

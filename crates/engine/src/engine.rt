@@ -3,17 +3,17 @@ ghost use Rattle.sched_base.specs.Calls.{Rose};
 ghost use Rattle.sched_model.specs.Data.{Data};
 ghost use Rattle.region.specs.Cells.{Region as Cells, is_settled};
 ghost use Rattle.region.specs.Looks.{IsRegionOf};
-ghost use Rattle.region.specs.Held.{IsHeldOf};
+ghost use Rattle.region.specs.code.Held.{IsHeldOf};
 ghost use Rattle.findings.specs.Found.{IsFinding};
 ghost use Rattle.kernel.specs.Derives.{IsDerived};
-ghost use Rattle.wake_levels.specs.Waking.{is_awake};
-ghost use Rattle.wake_levels.specs.Calm.{WakesEach};
+ghost use Rattle.wake_levels.specs.code.Waking.{is_awake};
+ghost use Rattle.wake_levels.specs.code.Calm.{WakesEach};
 ghost use Rattle.engine.specs.Plain.{refutes_plain};
-ghost use Rattle.engine.specs.Changes.{AreSameBut};
-ghost use Rattle.engine.specs.Watching.{watchers_of};
-ghost use Rattle.engine.specs.Engines.{IsFor, IsCalm, AreQuiet, AreAwake, NoneAwake};
+ghost use Rattle.engine.specs.code.Changes.{AreSameBut};
+ghost use Rattle.engine.specs.code.Watching.{watchers_of};
+ghost use Rattle.engine.specs.code.Engines.{IsFor, IsCalm, AreQuiet, AreAwake, NoneAwake};
 ghost use Rattle.engine.specs.Runs.{Led, Ran, Broke};
-ghost use Rattle.engine.specs.Ending.{IsEnd, IfQuiet};
+ghost use Rattle.engine.specs.code.Ending.{IsEnd, IfQuiet};
 ghost use Rattle.engine.specs.declared.stops.Stop.TheVariants as stop;
 ghost use Rattle.engine.specs.declared.stops.EngineFault.TheVariants as fault;
 
@@ -46,8 +46,8 @@ pub struct Engine<P: Propagator> {
 }
 
 impl<P: Propagator> std::marker::Model for Engine<P> {
-    ghost use Rattle.engine.specs.Noted.{AreBelow};
-    ghost use Rattle.engine.specs.Engines.{EngineValue};
+    ghost use Rattle.engine.specs.code.Noted.{AreBelow};
+    ghost use Rattle.engine.specs.code.Engines.{EngineValue};
 
     ghost Value = { EngineValue P };
 

@@ -14,7 +14,7 @@ pub trait Propagator: Drop {
     ghost use Rattle.region.specs.Looks.{IsRegionOf};
     ghost use Rattle.findings.specs.Found.{IsFinding};
     ghost use Rattle.engine.specs.Plain.{refutes_plain};
-    ghost use Rattle.engine.specs.Watched.{names_presence, names_bound, names_order};
+    ghost use Rattle.engine.specs.code.Watched.{names_presence, names_bound, names_order};
 
     /// What it is to be made for a model, and how many there are then.
     ghost is_of: { Self → Data → Type 0 };

@@ -2,8 +2,8 @@
 ghost use Rattle.std.specs.Prelude.{◌≡◌, ◌<◌, false, ℕ, IfOk, IfSome, IfNone};
 ghost use Rattle.region.specs.Looks.{IsRegionOf};
 ghost use Rattle.findings.specs.Found.{IsFinding};
-ghost use Rattle.wake_levels.specs.Waking.{is_awake};
-ghost use Rattle.wake_levels.specs.Calm.{IsCalm};
+ghost use Rattle.wake_levels.specs.code.Waking.{is_awake};
+ghost use Rattle.wake_levels.specs.code.Calm.{IsCalm};
 ghost use Rattle.engine.specs.Plain.{refutes_plain};
 
 use crate::late::is_late;

@@ -1,7 +1,7 @@
 ghost use Rattle.std.specs.Prelude.{◌≡◌, ◌<◌, ◌≤◌, ◌++◌, ◌∷◌, [], ℕ, length, slice_index_or, if◌then◌else◌, IfOk, OnOk};
 ghost use Rattle.region.specs.declared.types.CellName.{CellName as Cell};
-ghost use Rattle.engine.specs.Watching.{watchers_of};
-ghost use Rattle.engine.specs.Noted.{Noted, IsPadded, AreListed};
+ghost use Rattle.engine.specs.code.Watching.{watchers_of};
+ghost use Rattle.engine.specs.code.Noted.{Noted, IsPadded, AreListed};
 
 use crate::propagator::Propagator;
 use region::CellName;
@@ -20,7 +20,7 @@ pub struct Watchers {
 }
 
 impl std::marker::Model for Watchers {
-    ghost use Rattle.engine.specs.Watching.{Watching};
+    ghost use Rattle.engine.specs.code.Watching.{Watching};
 
     ghost Value = { Watching };
 

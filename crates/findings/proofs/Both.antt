@@ -13,8 +13,8 @@ use Rattle.region.specs.laws.Lists.{both_true, true_both}
 use Rattle.findings.specs.declared.finding.Pair.{Pair}
 use Rattle.findings.specs.Ends.{is_open_end}
 use Rattle.findings.specs.Found.{IsFound}
-use Rattle.findings.specs.Reads.{is_among, AreUnrefuted}
-use Rattle.findings.specs.Search.{IsRefutedEnd, NoEndRefuted}
+use Rattle.findings.specs.code.Reads.{is_among, AreUnrefuted}
+use Rattle.findings.specs.code.Search.{IsRefutedEnd, NoEndRefuted}
 
 of_intervals : (xs : List Itv) (qs : List Pair) (t : Topic) → is_among xs [] t ≡ true → is_among xs qs t ≡ true
 of_intervals xs qs (One x c) h = h

@@ -9,7 +9,7 @@ use Rattle.region.specs.Guesses.{admits, topic}
 use Rattle.region.specs.laws.Lists.{both_true, true_both}
 use Rattle.findings.specs.declared.finding.Pair.{Pair}
 use Rattle.findings.specs.Ends.{is_end}
-use Rattle.findings.specs.Search.{is_on, is_of_pair, IsRefutedEnd, NoEndRefuted}
+use Rattle.findings.specs.code.Search.{is_on, is_of_pair, IsRefutedEnd, NoEndRefuted}
 use Rattle.findings.specs.laws.EndGuesses.{end_guesses, place, end_at}
 use Rattle.findings.specs.laws.Members.{one_of_two, is_forward, is_turned}
 use Rattle.base_laws.specs.laws.Truth.{other_fails}

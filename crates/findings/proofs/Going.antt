@@ -9,8 +9,8 @@ use Rattle.region.specs.declared.types.Guess.{Guess}
 use Rattle.region.specs.Cells.{Region}
 use Rattle.region.specs.Guesses.{topic}
 use Rattle.findings.specs.declared.finding.Pair.{Pair}
-use Rattle.findings.specs.Reads.{is_pair, has_pair, is_among}
-use Rattle.findings.specs.Search.{is_on, is_of_pair, IsRefutedEnd, NoEndRefuted}
+use Rattle.findings.specs.code.Reads.{is_pair, has_pair, is_among}
+use Rattle.findings.specs.code.Search.{is_on, is_of_pair, IsRefutedEnd, NoEndRefuted}
 use Rattle.findings.specs.laws.Members.{any_more, any_at}
 
 next : (n : ℕ) → n + 1 ≡ suc n

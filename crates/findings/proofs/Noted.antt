@@ -4,7 +4,7 @@ use Rattle.std.specs.Int.{int_max, int_min}
 use Rattle.std.proofs.Common.{refl, ◌∙◌}
 use Rattle.region.specs.declared.types.Bounds.{Bounds}
 use Rattle.region.specs.Looks.{ect_in, lst_in}
-use Rattle.findings.specs.Numbers.{ends_of, highest_end, lowest_start}
+use Rattle.findings.specs.code.Numbers.{ends_of, highest_end, lowest_start}
 
 pub highest_end_is : (c : Bounds) (e s h : ℤ) → e ≡ int_max c.emin c.emax → s ≡ int_max c.smin c.smax → h ≡ int_max e (s +ℤ c.pmin) → h ≡ highest_end c
 highest_end_is c e s h first second is = is ∙ rw (first, second) refl

@@ -2,8 +2,8 @@
 ghost use Rattle.std.specs.Prelude.{◌≡◌, ◌&&◌, Some, None, IsTrue, IfSome, IfNone};
 ghost use Rattle.region.specs.Looks.{IsRegionOf, seen_at};
 ghost use Rattle.findings.specs.Found.{IsFound, IsFinding};
-ghost use Rattle.findings.specs.Reads.{AreUnrefuted, IsUnrefuted, is_among};
-ghost use Rattle.findings.specs.Search.{IsRefutedEnd, NoEndRefuted};
+ghost use Rattle.findings.specs.code.Reads.{AreUnrefuted, IsUnrefuted, is_among};
+ghost use Rattle.findings.specs.code.Search.{IsRefutedEnd, NoEndRefuted};
 
 use crate::finding::Pair;
 use crate::searching::{refuted_interval, refuted_order};

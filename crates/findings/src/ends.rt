@@ -4,7 +4,7 @@ ghost use Rattle.std.specs.Int.{int_max, int_min};
 ghost use Rattle.sched_model.specs.Valid.{is_moment};
 ghost use Rattle.region.specs.Looks.{HasMoments, is_shifted, ect_in, lst_in};
 ghost use Rattle.region.specs.Cells.{bounds_of};
-ghost use Rattle.findings.specs.Numbers.{ends_of, ends_in, highest_end, lowest_start, HasShifts};
+ghost use Rattle.findings.specs.code.Numbers.{ends_of, ends_in, highest_end, lowest_start, HasShifts};
 
 use region::{Bounds, Look, Presence, Region};
 use sched_base::Itv;

@@ -1,8 +1,8 @@
 //! The first guess at the end of a cell under which a region is refuted.
 ghost use Rattle.std.specs.Prelude.{◌≡◌, ◌&&◌, Some, [], IsTrue, IfSome, IfNone};
 ghost use Rattle.region.specs.Guesses.{admits};
-ghost use Rattle.findings.specs.Reads.{is_among};
-ghost use Rattle.findings.specs.Search.{IsRefutedEnd, NoEndRefuted, is_on, is_of_pair};
+ghost use Rattle.findings.specs.code.Reads.{is_among};
+ghost use Rattle.findings.specs.code.Search.{IsRefutedEnd, NoEndRefuted, is_on, is_of_pair};
 
 use crate::finding::Pair;
 use region::{Guess, GuessTest, Region};

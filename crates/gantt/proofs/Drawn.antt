@@ -18,7 +18,7 @@ use Rattle.gantt.specs.declared.stop.Stop.{Stop}
 use Rattle.gantt.specs.declared.stop.Stop.TheVariants as stop
 use Rattle.gantt.specs.Told.{Tells, Reports, fault_line, memory_line, refusal_line, unfit_line}
 use Rattle.gantt.specs.Runs.{IfFile, FileDeserves, SpellsWithin, IsUnfit, IsVerified, RefusalDue, DrawPromise, DrawsPart}
-use Rattle.gantt.specs.Tries.{OnlyReads, OnlyTests, TestsFile, TriesDraw, EndsStopped}
+use Rattle.gantt.specs.code.Tries.{OnlyReads, OnlyTests, TestsFile, TriesDraw, EndsStopped}
 
 -- The model and a schedule were read, and the schedule is a solution.
 

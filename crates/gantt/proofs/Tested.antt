@@ -11,7 +11,7 @@ use Rattle.gantt.specs.declared.stop.ScheduleRefusal.TheVariants.{TooLong, Line,
 use Rattle.gantt.specs.declared.stop.Stop.{Stop}
 use Rattle.gantt.specs.declared.stop.Stop.TheVariants as stop
 use Rattle.gantt.specs.Runs.{IfFile, schedule_limit, SpellsWithin, IsUnfit}
-use Rattle.gantt.specs.Tries.{schedule_bytes, FetchesSchedule, Tests, TestsFile}
+use Rattle.gantt.specs.code.Tries.{schedule_bytes, FetchesSchedule, Tests, TestsFile}
 
 if_bytes : (o : Option Bytes) (P Q : Bytes → Type 0) → ((bs : Bytes) → P bs → Q bs) → IfSome o P → IfSome o Q
 if_bytes None P Q gives is = tt

@@ -1,5 +1,3 @@
-pub mod Ended
 pub mod Runs
-pub mod Stops
 pub mod Told
-pub mod Tries
+pub mod code

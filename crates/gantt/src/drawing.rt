@@ -1,5 +1,5 @@
 ghost use Rattle.std.specs.Prelude.{◌≡◌};
-ghost use Rattle.gantt.specs.Tries.{TriesDraw};
+ghost use Rattle.gantt.specs.code.Tries.{TriesDraw};
 ghost use Rattle.gantt.specs.Runs.{DrawPromise};
 
 use crate::ended::Ended;

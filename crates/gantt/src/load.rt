@@ -1,4 +1,4 @@
-ghost use Rattle.gantt.specs.Tries.{Fetches, OnlyReads, Reads};
+ghost use Rattle.gantt.specs.code.Tries.{Fetches, OnlyReads, Reads};
 
 use crate::stop::Stop;
 use cpo_elab::read_model;

@@ -2,7 +2,7 @@ ghost use Rattle.std.specs.Prelude.{◌≡◌, ◌++◌, ◌∷◌, [], codes, O
 ghost use Rattle.std.specs.Fmt.{decimal};
 ghost use Rattle.textline.specs.Lines.{line};
 ghost use Rattle.gantt.specs.Told.{Reports, refusal_line, unfit_line};
-ghost use Rattle.gantt.specs.Tries.{EndsStopped};
+ghost use Rattle.gantt.specs.code.Tries.{EndsStopped};
 ghost use Rattle.gantt.specs.declared.stop.Stop.TheVariants as stop;
 
 use crate::ended::Ended;

@@ -48,7 +48,7 @@ impl From<NoMemory> for Stop {
 
 impl From<ReadError> for Stop {
     ghost use Rattle.std.specs.Prelude.{◌≡◌};
-    ghost use Rattle.gantt.specs.Stops.{stop_of_read};
+    ghost use Rattle.gantt.specs.code.Stops.{stop_of_read};
 
     ghost from_gives = { λ e s. s ≡ stop_of_read e };
 
@@ -62,7 +62,7 @@ impl From<ReadError> for Stop {
 
 impl From<ReadFault> for Stop {
     ghost use Rattle.std.specs.Prelude.{◌≡◌};
-    ghost use Rattle.gantt.specs.Stops.{stop_of_text};
+    ghost use Rattle.gantt.specs.code.Stops.{stop_of_text};
 
     ghost from_gives = { λ e s. s ≡ stop_of_text e };
 
@@ -76,7 +76,7 @@ impl From<ReadFault> for Stop {
 
 impl From<ScheduleFault> for Stop {
     ghost use Rattle.std.specs.Prelude.{◌≡◌};
-    ghost use Rattle.gantt.specs.Stops.{stop_of_schedule};
+    ghost use Rattle.gantt.specs.code.Stops.{stop_of_schedule};
 
     ghost from_gives = { λ e s. s ≡ stop_of_schedule e };
 

@@ -1,6 +1,6 @@
 ghost use Rattle.std.specs.Prelude.{◌≡◌, true};
 ghost use Rattle.sched_model.specs.Domain.{is_in_domain};
-ghost use Rattle.gantt.specs.Tries.{FetchesSchedule, FindsFailing, OnlyTests, Tests, TestsFile};
+ghost use Rattle.gantt.specs.code.Tries.{FetchesSchedule, FindsFailing, OnlyTests, Tests, TestsFile};
 
 use crate::stop::{ScheduleRefusal, Stop};
 use read_schedule::read_schedule;

@@ -1,16 +1,3 @@
-mod Lists
-mod Alike
-mod Looked
-mod Judged
-mod Sizes
-mod Apart
-mod Names
-mod Bytes
-mod Said
-mod SaidShops
-mod Shallow
-mod ShopSaid
-mod Objective
-mod ShopValid
-mod ShopWritten
-mod Deserved
+pub mod text
+pub mod shop
+pub mod deserving

@@ -1,2 +1,1 @@
-pub mod Shops
-pub mod Laws
+pub mod code

@@ -13,8 +13,8 @@ use Rattle.sched_model.specs.Data.{has, same}
 use Rattle.hull_tree.specs.declared.atoms.Atom.{Atom}
 use Rattle.hull_tree.specs.declared.nodes.Node.{Node}
 use Rattle.hull_tree.specs.declared.nodes.Span.{Span}
-use Rattle.hull_tree.specs.Nodes.{node_at, named}
-use Rattle.hull_tree.specs.Atoms.{atom_at, key_at, key_of, HasAtomsBelow, AreAtoms, HasIntervals, IsClear}
+use Rattle.hull_tree.specs.code.Nodes.{node_at, named}
+use Rattle.hull_tree.specs.code.Atoms.{atom_at, key_at, key_of, HasAtomsBelow, AreAtoms, HasIntervals, IsClear}
 
 lower : (i n : ℕ) → i < n + 1 → (i ≡ n → ⊥) → i < n
 lower i n h ne = let k : i ≢ n = ne in omega (arith, h, k)

@@ -7,7 +7,7 @@ use Rattle.region.specs.Cells.{Region}
 use Rattle.hull_tree.specs.declared.nodes.Node.{Node}
 use Rattle.hull_tree.specs.declared.nodes.Span.{Span}
 use Rattle.hull_tree.specs.declared.nodes.Node.TheVariants as node
-use Rattle.hull_tree.specs.Nodes.{combined, ends_at, node_at, node_ends, AreEnds, IsPlaced, AreNodes, IsThere}
+use Rattle.hull_tree.specs.code.Nodes.{combined, ends_at, node_at, node_ends, AreEnds, IsPlaced, AreNodes, IsThere}
 
 -- a list with one more
 

@@ -27,12 +27,12 @@ use Rattle.sched_model.specs.laws.Products.{ranges_same}
 use Rattle.region.specs.Cells.{Region}
 use Rattle.region.specs.Looks.{IsRegionOf}
 use Rattle.look_hull.specs.LookHull.{look_step, look_hull}
-use Rattle.sched_model.specs.Saturated.{saturated_range}
-use Rattle.sched_model.specs.Names.{Each, all_names, names_step, names_of}
+use Rattle.sched_model.specs.code.Saturated.{saturated_range}
+use Rattle.sched_model.specs.code.Names.{Each, all_names, names_step, names_of}
 use Rattle.sched_model.specs.laws.Names.{each_left, each_right}
 use Rattle.sched_model.specs.Data.{has, same}
 use Rattle.region.specs.laws.OneSequence.{same_is}
-use Rattle.look_hull.specs.Saturated.{saturated}
+use Rattle.look_hull.specs.code.Saturated.{saturated}
 use Rattle.look_hull.specs.laws.Hulls.{Kept, look_kept}
 use Rattle.look_hull.specs.laws.Saturation.{pair_kept}
 use Rattle.hull_tree.specs.declared.nodes.Leaf.{Leaf}
@@ -41,8 +41,8 @@ use Rattle.hull_tree.specs.declared.nodes.Op.{Op}
 use Rattle.hull_tree.specs.declared.nodes.Op.TheVariants as op
 use Rattle.hull_tree.specs.declared.nodes.Node.{Node}
 use Rattle.hull_tree.specs.declared.nodes.Node.TheVariants as node
-use Rattle.hull_tree.specs.Nodes.{interval_of, named, leaf_ends, combined, joined_truth, negation, whole, is_limited, ends_at, node_ends, AreEnds, Grown, IsAt, IsJoined}
-use Rattle.hull_tree.specs.Meaning.{IsNamed, Means, MeanEach, IsProductFrom, times_near}
+use Rattle.hull_tree.specs.code.Nodes.{interval_of, named, leaf_ends, combined, joined_truth, negation, whole, is_limited, ends_at, node_ends, AreEnds, Grown, IsAt, IsJoined}
+use Rattle.hull_tree.specs.code.Meaning.{IsNamed, Means, MeanEach, IsProductFrom, times_near}
 use Rattle.hull_tree.specs.laws.Halves.{limited_kept}
 use Rattle.hull_tree.proofs.Placing.{ends_before, all_within}
 

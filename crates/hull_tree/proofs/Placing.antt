@@ -14,7 +14,7 @@ use Rattle.hull_tree.specs.declared.nodes.Op.TheVariants.{Neg, Add, Times, Great
 use Rattle.hull_tree.specs.declared.nodes.Node.{Node}
 use Rattle.hull_tree.specs.declared.nodes.Span.{Span}
 use Rattle.hull_tree.specs.declared.nodes.Node.TheVariants as node
-use Rattle.hull_tree.specs.Nodes.{combined, whole, is_joining, is_limited, ends_at, node_at, span_at, IsWithin, node_ends, nothing, AreEnds, IsPlaced, IsPlacedBy, AreNodes, Grown, IsAt, IsJoined}
+use Rattle.hull_tree.specs.code.Nodes.{combined, whole, is_joining, is_limited, ends_at, node_at, span_at, IsWithin, node_ends, nothing, AreEnds, IsPlaced, IsPlacedBy, AreNodes, Grown, IsAt, IsJoined}
 use Rattle.hull_tree.specs.laws.Halves.{halves, one_added, one_and, one_or}
 use Rattle.hull_tree.proofs.Growing.{get_last, longer_by}
 

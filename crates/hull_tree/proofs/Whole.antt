@@ -18,16 +18,16 @@ use Rattle.region.specs.Looks.{IsRegionOf}
 use Rattle.region.specs.laws.OneSequence.{same_self}
 use Rattle.region.specs.laws.Intervals.{bounds_elsewhere}
 use Rattle.look_hull.specs.LookHull.{look_hull}
-use Rattle.look_hull.specs.Saturated.{saturated}
+use Rattle.look_hull.specs.code.Saturated.{saturated}
 use Rattle.look_hull.specs.laws.Hulls.{look_kept}
 use Rattle.look_hull.specs.laws.Saturation.{pair_kept}
 use Rattle.hull_tree.specs.declared.atoms.Atom.{Atom}
 use Rattle.hull_tree.specs.declared.nodes.Node.{Node}
 use Rattle.hull_tree.specs.declared.nodes.Span.{Span}
-use Rattle.hull_tree.specs.Nodes.{ends_at, node_at, node_ends, AreEnds, AreNodes, AreSameBut, DifferAt, IsEndsOf}
-use Rattle.hull_tree.specs.Meaning.{IsNamed, Means}
-use Rattle.hull_tree.specs.Atoms.{atom_at, AreAtoms, HasIntervals}
-use Rattle.hull_tree.specs.Trees.{Tree, IsTreeOf, IsEvaluated, IsRootRange, changed}
+use Rattle.hull_tree.specs.code.Nodes.{ends_at, node_at, node_ends, AreEnds, AreNodes, AreSameBut, DifferAt, IsEndsOf}
+use Rattle.hull_tree.specs.code.Meaning.{IsNamed, Means}
+use Rattle.hull_tree.specs.code.Atoms.{atom_at, AreAtoms, HasIntervals}
+use Rattle.hull_tree.specs.code.Trees.{Tree, IsTreeOf, IsEvaluated, IsRootRange, changed}
 use Rattle.hull_tree.proofs.Growing.{ends_none, ends_set, set_size}
 
 -- the ranges of the first n nodes in a region, over others

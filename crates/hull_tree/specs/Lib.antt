@@ -1,5 +1,2 @@
-pub mod Nodes
-pub mod Meaning
-pub mod Atoms
-pub mod Trees
 pub mod laws
+pub mod code

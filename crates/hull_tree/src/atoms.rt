@@ -2,7 +2,7 @@
 ghost use Rattle.std.specs.Prelude.{◌≡◌, ◌<◌, ◌+◌, ◌^◌, length, true, false, IfOk, OnOk, IsTrue, nat_lt};
 ghost use Rattle.std.specs.List.Sorted.{IsNonDecreasingBy, IsPartitionPoint, IsPermutation};
 ghost use Rattle.sched_model.specs.Data.{has};
-ghost use Rattle.hull_tree.specs.Atoms.{AreAtoms, HasAtomsBelow, HasIntervals, IsClear, key_at, key_of};
+ghost use Rattle.hull_tree.specs.code.Atoms.{AreAtoms, HasAtomsBelow, HasIntervals, IsClear, key_at, key_of};
 
 use crate::nodes::{Node, Span, named};
 use crate::put::next_place;

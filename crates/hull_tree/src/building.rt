@@ -1,7 +1,7 @@
 ghost use Rattle.std.specs.Prelude.{◌≡◌, ◌∷◌, [], ◌<◌, length, true, All, IfOk, OnOk, List};
 ghost use Rattle.sched_model.specs.Data.{Data};
-ghost use Rattle.hull_tree.specs.Nodes.{AreNodes, Grown, IsJoined, is_joining};
-ghost use Rattle.hull_tree.specs.Meaning.{Means, MeanEach, IsProductFrom};
+ghost use Rattle.hull_tree.specs.code.Nodes.{AreNodes, Grown, IsJoined, is_joining};
+ghost use Rattle.hull_tree.specs.code.Meaning.{Means, MeanEach, IsProductFrom};
 
 use crate::nodes::{Leaf, Node, Op, Span};
 use crate::put::{join, put_leaf, put_pair};

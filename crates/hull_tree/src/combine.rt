@@ -2,9 +2,9 @@
 ghost use Rattle.std.specs.Prelude.{◌≡◌, ◌&&◌, ◌||◌};
 ghost use Rattle.region.specs.Looks.{IsRegionOf};
 ghost use Rattle.look_hull.specs.LookHull.{surely_true, surely_false};
-ghost use Rattle.look_hull.specs.Saturated.{saturated};
+ghost use Rattle.look_hull.specs.code.Saturated.{saturated};
 ghost use Rattle.hull_tree.specs.declared.nodes.Op.TheVariants as op;
-ghost use Rattle.hull_tree.specs.Nodes.{combined, joined_truth, added, negation, leaf_ends};
+ghost use Rattle.hull_tree.specs.code.Nodes.{combined, joined_truth, added, negation, leaf_ends};
 
 use crate::nodes::{Leaf, Op};
 use look_hull::{

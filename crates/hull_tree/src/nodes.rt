@@ -1,6 +1,6 @@
 //! Expressions as nodes.
 ghost use Rattle.std.specs.Prelude.{◌≡◌};
-ghost use Rattle.hull_tree.specs.Nodes.{interval_of, named};
+ghost use Rattle.hull_tree.specs.code.Nodes.{interval_of, named};
 
 use sched_base::Itv;
 use sched_model::CompareOp;

@@ -1,6 +1,6 @@
 ghost use Rattle.std.specs.Prelude.{◌≡◌, ◌<◌, ◌≤◌, length, true, All, IfOk, OnOk, ◌∷◌, []};
 ghost use Rattle.hull_tree.specs.declared.nodes.Node.TheVariants as node;
-ghost use Rattle.hull_tree.specs.Nodes.{AreNodes, Grown, IsAt, IsJoined, IsPlacedBy, IsWithin, is_joining};
+ghost use Rattle.hull_tree.specs.code.Nodes.{AreNodes, Grown, IsAt, IsJoined, IsPlacedBy, IsWithin, is_joining};
 
 use crate::nodes::{Leaf, Node, Op, Span};
 use sched_base::NoMemory;

@@ -6,9 +6,9 @@ ghost use Rattle.sched_model.specs.Words.{passes_if_any};
 ghost use Rattle.region.specs.Guesses.{admits, looked_at, topic};
 ghost use Rattle.region.specs.Looks.{IsRegionOf};
 ghost use Rattle.look_hull.specs.LookHull.{look_hull};
-ghost use Rattle.hull_tree.specs.Nodes.{AreNodes, DifferAt};
-ghost use Rattle.hull_tree.specs.Atoms.{AreAtoms};
-ghost use Rattle.hull_tree.specs.Trees.{IsTreeOf, IsEvaluated, IsRootRange, changed};
+ghost use Rattle.hull_tree.specs.code.Nodes.{AreNodes, DifferAt};
+ghost use Rattle.hull_tree.specs.code.Atoms.{AreAtoms};
+ghost use Rattle.hull_tree.specs.code.Trees.{IsTreeOf, IsEvaluated, IsRootRange, changed};
 
 use crate::atoms::{Atom, atoms_of, intervals_of};
 use crate::building::build;
@@ -32,7 +32,7 @@ pub struct HullTree {
 }
 
 impl std::marker::Model for HullTree {
-    ghost use Rattle.hull_tree.specs.Trees.{Tree, IsTree};
+    ghost use Rattle.hull_tree.specs.code.Trees.{Tree, IsTree};
 
     ghost Value = { Tree };
 

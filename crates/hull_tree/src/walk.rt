@@ -1,10 +1,10 @@
 //! The ranges of all nodes in a region, and that of one under a guess.
 ghost use Rattle.std.specs.Prelude.{◌≡◌, ◌<◌, length};
 ghost use Rattle.region.specs.Looks.{IsRegionOf};
-ghost use Rattle.hull_tree.specs.Nodes.{AreNodes, AreEnds, DifferAt, IsEndsOf, IsThere, node_ends};
+ghost use Rattle.hull_tree.specs.code.Nodes.{AreNodes, AreEnds, DifferAt, IsEndsOf, IsThere, node_ends};
 ghost use Rattle.std.specs.Prelude.{true};
 ghost use Rattle.std.specs.List.Sorted.{IsNonDecreasingBy};
-ghost use Rattle.hull_tree.specs.Atoms.{AreAtoms, IsClear, key_of};
+ghost use Rattle.hull_tree.specs.code.Atoms.{AreAtoms, IsClear, key_of};
 
 use crate::atoms::{Atom, reaches};
 use crate::combine::{Ends, combine, leaf_ends};

@@ -4,8 +4,8 @@ use Rattle.std.proofs.Math.ListN.{length-set}
 use Rattle.std.proofs.lemmas.Bool.{cases_eq, eq-eqb, false_from_ne_true}
 use Rattle.std.specs.Ptr.{Ptr}
 use Rattle.iqueue.specs.declared.node.Node.{Node}
-use Rattle.iqueue.specs.Queue.{Queue, AreDistinctBelow, is_in, without, woken}
-use Rattle.iqueue.specs.Links.{spot, number, IsEnd, next_to, prev_to, with_next, with_prev, first_of, front_of, next_of, prev_of, IsNode, IsRun, waits, behind, walked, numbers, IsLinked}
+use Rattle.iqueue.specs.code.Queue.{Queue, AreDistinctBelow, is_in, without, woken}
+use Rattle.iqueue.specs.code.Links.{spot, number, IsEnd, next_to, prev_to, with_next, with_prev, first_of, front_of, next_of, prev_of, IsNode, IsRun, waits, behind, walked, numbers, IsLinked}
 use Rattle.iqueue.proofs.Members.{first_stays, apart_test, in_head, in_front, in_below, in_less, in_one, distinct_end, distinct_front, distinct_back, distinct_less, absent_less, at_most, cut}
 use Rattle.iqueue.specs.laws.Ends.{in_end}
 use Rattle.iqueue.proofs.Nodes.{number_spot, set_other, set_same, changed_length, changed_waits, next_linked, prev_linked}

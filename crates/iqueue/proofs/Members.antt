@@ -3,7 +3,7 @@ use Rattle.std.proofs.Common.{◌≡◌, ℕ, ◌<◌, ◌≤◌, Bool, true, fa
 use Rattle.std.proofs.lemmas.Bool.{eq-eqb, ne_eqb, eqb-true, eqb-false, or_parts}
 use Rattle.std.proofs.lemmas.Map.Steps.{length-le_from_distinct_below}
 use Rattle.std.specs.List.{IsDistinct, AllByRecursion, list_any}
-use Rattle.iqueue.specs.Queue.{AreDistinctBelow, is_in, without}
+use Rattle.iqueue.specs.code.Queue.{AreDistinctBelow, is_in, without}
 
 pub apart_test : (k j : ℕ) (js : List ℕ) → is_in k (j ∷ js) ≡ false → (nat_eq k j ≡ false) × (is_in k js ≡ false)
 apart_test k j js absent = or_parts (nat_eq k j) (is_in k js) absent

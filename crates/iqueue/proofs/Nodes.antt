@@ -5,7 +5,7 @@ use Rattle.std.specs.Mem.{type_size}
 use Rattle.block.proofs.Indices.{index_place}
 use Rattle.iqueue.specs.declared.node.Node.{Node}
 use Rattle.iqueue.specs.contracts.node.Node.{the_row}
-use Rattle.iqueue.specs.Links.{spot, number, changed, waits, next_to, prev_to, next_of, prev_of}
+use Rattle.iqueue.specs.code.Links.{spot, number, changed, waits, next_to, prev_to, next_of, prev_of}
 
 pub number_spot : (base : Ptr) (k : ℕ) → number base (spot base k) ≡ k
 number_spot base k = index_place the_row base k (lit< tt)

@@ -3,8 +3,8 @@ use Rattle.std.proofs.Common.{◌≡◌, ℕ, true, false, List, [], ◌∷◌, 
 use Rattle.std.proofs.lemmas.Bool.{or_right}
 use Rattle.std.specs.Ptr.{Ptr}
 use Rattle.iqueue.specs.declared.node.Node.{Node}
-use Rattle.iqueue.specs.Queue.{AreDistinctBelow, is_in}
-use Rattle.iqueue.specs.Links.{spot, number, next_to, prev_to, with_next, with_prev, first_of, next_of, IsRun}
+use Rattle.iqueue.specs.code.Queue.{AreDistinctBelow, is_in}
+use Rattle.iqueue.specs.code.Links.{spot, number, next_to, prev_to, with_next, with_prev, first_of, next_of, IsRun}
 use Rattle.iqueue.proofs.Members.{in_head}
 use Rattle.iqueue.proofs.Nodes.{number_spot, changed_other, changed_same, next_number, next_keeps, next_is, prev_number, prev_keeps, prev_is}
 

@@ -1,7 +1,7 @@
 ghost use Rattle.std.specs.Prelude.{◌≡◌, ◌<◌, ◌++◌, ◌∷◌, [], true, false, slice_get};
 ghost use Rattle.std.specs.Vec.{vec_len, vec_ptr};
-ghost use Rattle.iqueue.specs.Queue.{is_in, without};
-ghost use Rattle.iqueue.specs.Links.{IsLinked, IsEnd, SameBlock, numbers, with_next, with_prev, first_of, front_of, prev_of, next_of, prev_to, next_to};
+ghost use Rattle.iqueue.specs.code.Queue.{is_in, without};
+ghost use Rattle.iqueue.specs.code.Links.{IsLinked, IsEnd, SameBlock, numbers, with_next, with_prev, first_of, front_of, prev_of, next_of, prev_to, next_to};
 
 use block::{item_at, place_of};
 use std::ptr;

@@ -1,5 +1,5 @@
 ghost use Rattle.std.specs.Prelude.{◌≡◌, ◌<◌, ◌∷◌, [], slice_get, IfOk, IfNone, IfSome, IsTrue, ◌↔◌};
-ghost use Rattle.iqueue.specs.Queue.{AreDistinctBelow, is_in, without, woken};
+ghost use Rattle.iqueue.specs.code.Queue.{AreDistinctBelow, is_in, without, woken};
 
 use crate::node::{Ends, Node, append, first_number, out, unlink};
 use sched_base::NoMemory;
@@ -20,8 +20,8 @@ pub struct WakeQueue {
 impl Model for WakeQueue {
     ghost use Rattle.std.specs.Prelude.{◌≡◌, length, slice_get};
     ghost use Rattle.std.specs.Vec.{vec_ptr};
-    ghost use Rattle.iqueue.specs.Queue.{Queue};
-    ghost use Rattle.iqueue.specs.Links.{IsLinked, front_of, numbers};
+    ghost use Rattle.iqueue.specs.code.Queue.{Queue};
+    ghost use Rattle.iqueue.specs.code.Links.{IsLinked, front_of, numbers};
 
     ghost Value = { Queue };
 

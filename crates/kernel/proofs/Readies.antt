@@ -34,7 +34,7 @@ use Rattle.region.specs.Looks.{Refuting}
 use Rattle.kernel.specs.Refuting.{refutes_with}
 use Rattle.kernel.specs.Steps.{LogState, Gives, Steps, done, more, step, opening, open_regions, is_wanted, best_of, best_verdict, closed_verdict, verdict_of}
 use Rattle.kernel.specs.Agenda.{first_in}
-use Rattle.kernel.specs.Faults.{fault_unless, fault_at, fault_in, after}
+use Rattle.kernel.specs.code.Faults.{fault_unless, fault_at, fault_in, after}
 use Rattle.region.specs.Looks.{seen_at}
 use Rattle.kernel.specs.Promises.{LosesNothing, AreApart, IsFound, IfFound, Ready, Means}
 use Rattle.kernel.proofs.Regions.{Keeps, any_here, any_none, fail_keeps, derive_keeps, split_keeps}

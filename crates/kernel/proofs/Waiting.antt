@@ -5,9 +5,9 @@ use Rattle.std.proofs.lemmas.List.Elements.{All-push, All-nil, All-cons, All-hea
 use Rattle.region.specs.declared.types.Guess.{Guess}
 use Rattle.region.specs.Cells.{Region}
 use Rattle.region.specs.Guesses.{with_fact, admits, splits}
-use Rattle.region.specs.Held.{Held, Regains}
+use Rattle.region.specs.code.Held.{Held, Regains}
 use Rattle.region.specs.laws.Narrowing.{splitting}
-use Rattle.kernel.specs.Pending.{ArePending, AreOpen, after_saved}
+use Rattle.kernel.specs.code.Pending.{ArePending, AreOpen, after_saved}
 
 all_front : {X : Type 0} (P : X → Type 0) (xs : List X) (y : X) → All P (xs ++ y ∷ []) → All P xs
 all_front P [] y h = All-nil P

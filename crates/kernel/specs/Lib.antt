@@ -3,8 +3,7 @@ pub mod Refuting
 pub mod Steps
 pub mod Promises
 pub mod Fit
-pub mod Pending
 pub mod Agenda
 pub mod Derives
-pub mod Faults
 pub mod laws
+pub mod code

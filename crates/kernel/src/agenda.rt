@@ -32,7 +32,7 @@ pub struct Agenda {
 
 impl std::marker::Model for Agenda {
     ghost use Rattle.kernel.specs.Agenda.{Open, shown};
-    ghost use Rattle.kernel.specs.Pending.{ArePending, after_saved};
+    ghost use Rattle.kernel.specs.code.Pending.{ArePending, after_saved};
 
     ghost Value = { Open };
 

@@ -3,16 +3,16 @@
 #![tactic(auto)]
 
 mod agenda;
+mod kernel;
 mod laws;
-mod log;
 mod no_extra;
 mod pending;
 mod refuting;
 mod solution;
 mod types;
 
+pub use kernel::Kernel;
 pub use laws::loses_nothing;
-pub use log::Kernel;
 pub use no_extra::{NoExtra, NoWitness};
 pub use pending::Pending;
 pub use types::{Found, Line, StepFault, Verdict, Witness};

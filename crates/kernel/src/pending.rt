@@ -1,8 +1,8 @@
 ghost use Rattle.std.specs.Prelude.{◌≡◌, ◌≤◌, ◌∷◌, ◌++◌, [], length, IsTrue, IfOk, OnOk, OnErr, IfSome, IfNone};
 ghost use Rattle.region.specs.Guesses.{splits, with_guess, with_fact, guess_cell, guess_holds};
 ghost use Rattle.region.specs.Narrows.{Narrows};
-ghost use Rattle.region.specs.Held.{Held};
-ghost use Rattle.kernel.specs.Pending.{ArePending, after_saved, Takes};
+ghost use Rattle.region.specs.code.Held.{Held};
+ghost use Rattle.kernel.specs.code.Pending.{ArePending, after_saved, Takes};
 
 use region::{CellName, Fact, Guess, Region};
 use sched_base::NoMemory;

@@ -11,7 +11,7 @@ use Rattle.textline.specs.laws.Lines.{no_feed, none_before}
 use Rattle.logtext.specs.declared.entry.Entry.{Entry}
 use Rattle.logtext.specs.Entries.{Spells, line_limit}
 use Rattle.logtext.specs.Reading.{HasNoWholeLine, IsLineAt}
-use Rattle.log_lines.specs.Pieces.{Fed}
+use Rattle.log_lines.specs.code.Pieces.{Fed}
 
 none_found : (bytes : Bytes) (r : Option ℕ) → IsFirstByte (is_byte 10) bytes r → is_none r ≡ true → list_all no_feed bytes ≡ true
 none_found bytes (Some k) first none = cc

@@ -1,7 +1,7 @@
 ghost use Rattle.std.specs.Prelude.{◌≡◌, ◌+◌, ◌≤◌, ◌^◌, ◌==◌, ◌↔◌, true, not, IsTrue, [], length, take, drop, OnOk, OnErr, vec_len};
 ghost use Rattle.std.specs.List.{list_all};
 ghost use Rattle.logtext.specs.Reading.{HasNoWholeLine};
-ghost use Rattle.log_lines.specs.Pieces.{nothing_fed, fed_more, ReadsNext};
+ghost use Rattle.log_lines.specs.code.Pieces.{nothing_fed, fed_more, ReadsNext};
 
 use logtext::{Entry, EntryFault, LogReader};
 use memchr::memchr;
@@ -54,7 +54,7 @@ pub struct LineReader<X: Refuter> {
 
 impl<X: Refuter> std::marker::Model for LineReader<X> {
     ghost use Rattle.std.specs.Prelude.{drop};
-    ghost use Rattle.log_lines.specs.Pieces.{Fed, IsHeld};
+    ghost use Rattle.log_lines.specs.code.Pieces.{Fed, IsHeld};
 
     ghost Value = { Fed };
 

@@ -13,7 +13,7 @@ impl Desk for Sips {
     ghost use Rattle.sched_base.specs.declared.desk.Port.TheVariants as Port;
     ghost use Rattle.sched_base.specs.State.{is_opened};
     ghost use Rattle.sched_base.specs.Calls.{Opens, Reads, Creates, Writes};
-    ghost use Rattle.sched_base.specs.Memory.{memory_state};
+    ghost use Rattle.sched_base.specs.code.Memory.{memory_state};
 
     ghost state = { λ s. memory_state s.desk };
 

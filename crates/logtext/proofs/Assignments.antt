@@ -12,7 +12,7 @@ use Rattle.textline.specs.Lines.{Bytes}
 use Rattle.logtext.specs.declared.entry.EntryFault.{EntryFault}
 use Rattle.logtext.specs.declared.entry.EntryFault.TheVariants.{Bad, NoMemory}
 use Rattle.logtext.specs.Spelling.{slot_words, order_words, segments_words, assignment_words}
-use Rattle.logtext.specs.Reads.{ReadsRow, ReadsWhole, BeginsWith, BeginsSlot}
+use Rattle.logtext.specs.code.Reads.{ReadsRow, ReadsWhole, BeginsWith, BeginsSlot}
 use Rattle.logtext.specs.laws.Leads.{open_told}
 use Rattle.logtext.specs.laws.Told.{slot_told, slot_starts, behind_slots, order_told, order_starts, behind_orders, segments_told, function_starts, behind_functions}
 use Rattle.base_laws.specs.laws.Truth.{three_true}

@@ -9,7 +9,7 @@ use Rattle.sched_base.specs.State.{State}
 use Rattle.sched_base.specs.Calls.{Counted, Writes, appended}
 use Rattle.sched_base.specs.laws.Appended.{appended_nothing, appended_twice}
 use Rattle.textline.specs.Lines.{Bytes}
-use Rattle.logtext.specs.Writing.{Gathers}
+use Rattle.logtext.specs.code.Writing.{Gathers}
 
 abbrev pub Answer : Type 0
 Answer = Result (Unit {0}) Failed

@@ -5,7 +5,7 @@ use Rattle.region.specs.declared.types.Guess.TheVariants.{StartLe, StartGe, EndL
 use Rattle.kernel.specs.Fit.{is_fit_guess}
 use Rattle.textline.specs.Lines.{Bytes}
 use Rattle.logtext.specs.Spelling.{guess_words}
-use Rattle.logtext.specs.Reads.{NoneStands, bound_words, is_fit_bound, pair_words, is_fit_pair}
+use Rattle.logtext.specs.code.Reads.{NoneStands, bound_words, is_fit_bound, pair_words, is_fit_pair}
 use Rattle.logtext.specs.laws.Leads.{tag, behind}
 
 pub no_start_le : (old ws : List Bytes) → old ≡ codes "SL" ∷ ws → NoneStands bound_words is_fit_bound ws → NoneStands guess_words is_fit_guess old

@@ -12,7 +12,7 @@ use Rattle.textline.specs.laws.Lines.{both_true}
 use Rattle.logtext.specs.declared.entry.EntryFault.{EntryFault}
 use Rattle.logtext.specs.declared.entry.EntryFault.TheVariants.{Bad, NoMemory}
 use Rattle.logtext.specs.Spelling.{guess_words, witness_words, line_words}
-use Rattle.logtext.specs.Reads.{NoneStands, ReadsWhole}
+use Rattle.logtext.specs.code.Reads.{NoneStands, ReadsWhole}
 use Rattle.logtext.specs.laws.Leads.{tag, behind}
 use Rattle.logtext.specs.laws.Told.{guess_told}
 

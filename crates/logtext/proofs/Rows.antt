@@ -11,7 +11,7 @@ use Rattle.textline.specs.laws.Lines.{both_true, true_both}
 use Rattle.logtext.specs.declared.entry.EntryFault.{EntryFault}
 use Rattle.logtext.specs.declared.entry.EntryFault.TheVariants.{Bad, NoMemory}
 use Rattle.logtext.specs.Spelling.{segment_words, member_word}
-use Rattle.logtext.specs.Reads.{Reads, ReadsRow, ReadsNext, are_so_many, id_words, ids_words, rows_words, counted_ids, counted_segments}
+use Rattle.logtext.specs.code.Reads.{Reads, ReadsRow, ReadsNext, are_so_many, id_words, ids_words, rows_words, counted_ids, counted_segments}
 use Rattle.logtext.specs.laws.Leads.{Tells, open_stuck, behind, head_is}
 use Rattle.logtext.specs.laws.Told.{count_told}
 use Rattle.logtext.proofs.Values.{same_length, length_same}

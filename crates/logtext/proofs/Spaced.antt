@@ -10,7 +10,7 @@ use Rattle.sched_base.specs.declared.desk.Failed.{Failed}
 use Rattle.sched_base.specs.State.{State}
 use Rattle.textline.specs.Lines.{Bytes, line, spaced}
 use Rattle.textline.specs.laws.Spaced.{spaced_append, line_is}
-use Rattle.logtext.specs.Writing.{Gathers}
+use Rattle.logtext.specs.code.Writing.{Gathers}
 use Rattle.logtext.proofs.Gathering.{Answer, goes_on, holds, stops}
 
 -- the only word

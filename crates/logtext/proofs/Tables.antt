@@ -7,7 +7,7 @@ use Rattle.std.proofs.lemmas.Grind.{common_steps}
 use Rattle.std.specs.List.{position, position_or_len}
 use Rattle.std.specs.Str.{bytes_eq}
 use Rattle.textline.specs.Lines.{Bytes}
-use Rattle.logtext.specs.Reads.{FindsWord}
+use Rattle.logtext.specs.code.Reads.{FindsWord}
 
 below_none : (p : Bytes → Bool) (ws : List Bytes) (k : ℕ) → position p ws ≡ None → k < length ws → k < position_or_len p ws
 below_none p ws k e within = grind (arith, common_steps)

@@ -11,7 +11,7 @@ use Rattle.logtext.specs.declared.entry.EntryFault.{EntryFault}
 use Rattle.logtext.specs.declared.entry.EntryFault.TheVariants.{Bad, NoMemory}
 use Rattle.logtext.specs.Entries.{entry_text, entry_words, is_fit_entry, line_limit, Spells}
 use Rattle.logtext.specs.Reading.{HasNoWholeLine, BeginsWithNone, IsLineAt, ReadsEntry}
-use Rattle.logtext.specs.Reads.{ReadsWhole, FindsFeed}
+use Rattle.logtext.specs.code.Reads.{ReadsWhole, FindsFeed}
 use Rattle.logtext.specs.laws.Entries.{AreTold, has_words, entry_plain}
 use Rattle.logtext.proofs.Lines.{NoneWhole}
 use Rattle.std.proofs.lemmas.List.{take_all}

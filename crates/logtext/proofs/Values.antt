@@ -8,7 +8,7 @@ use Rattle.sched_model.specs.Valid.{is_small}
 use Rattle.sched_model.specs.laws.Small.{small_mag}
 use Rattle.kernel.specs.Fit.{is_count}
 use Rattle.textline.specs.Lines.{Bytes}
-use Rattle.logtext.specs.Reads.{NoneStands, count_words, moment_words}
+use Rattle.logtext.specs.code.Reads.{NoneStands, count_words, moment_words}
 
 pub over_count : (w : Bytes) (n : ℕ) (old new : List Bytes) → old ≡ w ∷ new → w ≡ decimal n → n < 2 ^ 64 → 2 ^ 32 ≤ n → NoneStands count_words is_count old
 over_count w n old new stands is range over v rest fit e =

@@ -21,7 +21,7 @@ use Rattle.textline.specs.laws.Lines.{both_true}
 use Rattle.logtext.specs.declared.entry.EntryFault.{EntryFault}
 use Rattle.logtext.specs.declared.entry.EntryFault.TheVariants.{Bad, NoMemory}
 use Rattle.logtext.specs.Spelling.{basic_kinds, hier_kinds, seq_kinds, cumul_kinds, state_kinds, kind_words, witness_words}
-use Rattle.logtext.specs.Reads.{NoneStands, ReadsWhole, ReadsNumbers, ReadsValue, FindsWord, count_words, moment_words, extra_words}
+use Rattle.logtext.specs.code.Reads.{NoneStands, ReadsWhole, ReadsNumbers, ReadsValue, FindsWord, count_words, moment_words, extra_words}
 use Rattle.logtext.specs.laws.Leads.{behind, head_is}
 use Rattle.logtext.specs.laws.Told.{count_told, moments_told}
 use Rattle.logtext.specs.laws.Entries.{AreTold, all_small, few_is_count}

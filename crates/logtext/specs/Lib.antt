@@ -1,8 +1,6 @@
 pub mod Spelling
 pub mod Entries
-pub mod Reads
 pub mod Reading
-pub mod Writing
 pub mod Logs
-pub mod Promises
 pub mod laws
+pub mod code

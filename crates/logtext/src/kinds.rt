@@ -2,7 +2,7 @@ ghost use Rattle.std.specs.Prelude.{◌≡◌, ◌<◌, [], get_or};
 ghost use Rattle.std.specs.List.{position};
 ghost use Rattle.std.specs.Str.{bytes_eq};
 ghost use Rattle.logtext.specs.Spelling.{basic_kinds, hier_kinds, seq_kinds, cumul_kinds, state_kinds};
-ghost use Rattle.logtext.specs.Reads.{FindsWord};
+ghost use Rattle.logtext.specs.code.Reads.{FindsWord};
 
 /// The words of the kinds in `refute_basic`, by their places there.
 const BASIC: [&[u8]; 6] = [b"SIZE", b"ARC", b"CYCLE", b"EXPR", b"OBJ", b"LEAF"];

@@ -1,4 +1,4 @@
-ghost use Rattle.logtext.specs.Promises.{SpellingsAreTold, SpellingsEndOnce};
+ghost use Rattle.logtext.specs.code.Promises.{SpellingsAreTold, SpellingsEndOnce};
 
 use region::Refuter;
 

@@ -2,7 +2,7 @@ ghost use Rattle.std.specs.Prelude.{◌∷◌, codes};
 ghost use Rattle.kernel.specs.Fit.{is_fit};
 ghost use Rattle.logtext.specs.Spelling.{line_words};
 ghost use Rattle.logtext.specs.Entries.{entry_words, is_fit_entry};
-ghost use Rattle.logtext.specs.Reads.{ReadsWhole};
+ghost use Rattle.logtext.specs.code.Reads.{ReadsWhole};
 
 use crate::entry::{Entry, EntryFault};
 use crate::solution::read_assignment;

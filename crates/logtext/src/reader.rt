@@ -1,7 +1,7 @@
 ghost use Rattle.std.specs.Prelude.{◌≡◌, ◌≤◌, length, take};
 ghost use Rattle.logtext.specs.Entries.{line_limit};
 ghost use Rattle.logtext.specs.Reading.{ReadsEntry};
-ghost use Rattle.logtext.specs.Reads.{FindsFeed};
+ghost use Rattle.logtext.specs.code.Reads.{FindsFeed};
 
 use crate::entry::{Entry, EntryFault};
 use crate::line::read_words;

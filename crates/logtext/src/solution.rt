@@ -1,7 +1,7 @@
 ghost use Rattle.std.specs.Prelude.{codes};
 ghost use Rattle.kernel.specs.Fit.{is_id, is_fit_segment, is_fit_order, are_fit_segments, is_fit_slot, is_fit_assignment};
 ghost use Rattle.logtext.specs.Spelling.{slot_words, order_words, segment_words, segments_words, assignment_words};
-ghost use Rattle.logtext.specs.Reads.{Takes, Reads, ReadsRow, ReadsNext, ReadsWhole, BeginsWith, BeginsSlot, are_so_many, ids_words, rows_words, counted_ids, counted_segments};
+ghost use Rattle.logtext.specs.code.Reads.{Takes, Reads, ReadsRow, ReadsNext, ReadsWhole, BeginsWith, BeginsSlot, are_so_many, ids_words, rows_words, counted_ids, counted_segments};
 
 use crate::entry::EntryFault;
 use crate::value::{take_count, take_id, take_moment};

@@ -1,7 +1,7 @@
 ghost use Rattle.std.specs.Prelude.{◌<◌, ◌^◌, pos, [], ◌∷◌};
 ghost use Rattle.kernel.specs.Fit.{is_fit_guess, is_fit_witness};
 ghost use Rattle.logtext.specs.Spelling.{guess_words, witness_words};
-ghost use Rattle.logtext.specs.Reads.{Takes, ReadsWhole, ReadsNumbers, ReadsValue, extra_words};
+ghost use Rattle.logtext.specs.code.Reads.{Takes, ReadsWhole, ReadsNumbers, ReadsValue, extra_words};
 
 use crate::entry::EntryFault;
 use crate::kinds::{basic_place, cumul_place, hier_place, seq_place, state_place};

@@ -1,7 +1,7 @@
 ghost use Rattle.std.specs.Prelude.{◌≡◌, IsTrue, ◌↔◌};
 ghost use Rattle.sched_model.specs.Valid.{is_small};
 ghost use Rattle.kernel.specs.Fit.{is_count, is_id};
-ghost use Rattle.logtext.specs.Reads.{Takes, count_words, id_words, moment_words, bound_words, is_fit_bound, pair_words, is_fit_pair};
+ghost use Rattle.logtext.specs.code.Reads.{Takes, count_words, id_words, moment_words, bound_words, is_fit_bound, pair_words, is_fit_pair};
 
 use sched_base::{Itv, Seq};
 use sched_model::is_small;

@@ -10,7 +10,7 @@ ghost use Rattle.refute_state.specs.Witness.{numbers_of as state_numbers};
 ghost use Rattle.kernel.specs.declared.types.Witness.TheVariants.{Extra};
 ghost use Rattle.logtext.specs.Spelling.{guess_words, basic_kinds, hier_kinds, seq_kinds, cumul_kinds, state_kinds, kind_words, witness_words, slot_words, member_word, order_words, segment_words, segments_words, assignment_words};
 ghost use Rattle.textline.specs.Lines.{spaced};
-ghost use Rattle.logtext.specs.Writing.{Gathers};
+ghost use Rattle.logtext.specs.code.Writing.{Gathers};
 
 use crate::kinds::{basic_word, cumul_word, hier_word, seq_word, state_word};
 use crate::writer::LogWriter;

@@ -3,7 +3,7 @@ ghost use Rattle.kernel.specs.Fit.{is_fit};
 ghost use Rattle.kernel.specs.declared.types.Line.TheVariants as Line;
 ghost use Rattle.textline.specs.Lines.{line};
 ghost use Rattle.logtext.specs.Spelling.{guess_words, assignment_words, line_text, head_text, end_text};
-ghost use Rattle.logtext.specs.Writing.{Gathers};
+ghost use Rattle.logtext.specs.code.Writing.{Gathers};
 
 use itoa::{Buffer, Integer};
 use kernel::{Line, Witness};

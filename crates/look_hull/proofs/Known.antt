@@ -12,7 +12,7 @@ use Rattle.region.specs.Looks.{HasMoments}
 use Rattle.region.specs.Looks.{IsRegionOf, is_narrowed}
 use Rattle.region.specs.laws.Lists.{placewise-length}
 use Rattle.look_hull.specs.LookHull.{unless_empty, unless_absent, range_of_listed, interval_look}
-use Rattle.look_hull.specs.Known.{KnownAs}
+use Rattle.look_hull.specs.code.Known.{KnownAs}
 
 pub listed_past : (m : Data) (r : Region) (n : ℕ) → IsRegionOf m r → length r.bounds ≤ n → slice_get m.intervals n ≡ None
 listed_past m r n of past = slice_get_past m.intervals n (let same = placewise-length is_narrowed m.intervals r.bounds of.bounds in omega (arith, same, past))

@@ -5,7 +5,7 @@ use Rattle.std.specs.Option.{option_to_list}
 use Rattle.std.proofs.lemmas.List.{at_drop_more}
 use Rattle.sched_model.specs.Words.{total}
 use Rattle.sched_model.specs.Ranges.{Ends, lows, highs, greatest_range, least_range}
-use Rattle.sched_model.specs.Saturated.{saturated_range}
+use Rattle.sched_model.specs.code.Saturated.{saturated_range}
 use Rattle.base_laws.specs.laws.Numbers.{regroup}
 
 -- the next range, at the front of what is left

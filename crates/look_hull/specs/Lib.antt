@@ -1,4 +1,3 @@
 pub mod LookHull
-pub mod Saturated
-pub mod Known
 pub mod laws
+pub mod code

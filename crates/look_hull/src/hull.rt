@@ -3,7 +3,7 @@ ghost use Rattle.sched_model.specs.Ranges.{greatest_range, least_range, total_ra
 ghost use Rattle.sched_model.specs.Hull.{hull_of};
 ghost use Rattle.region.specs.Looks.{IsRegionOf};
 ghost use Rattle.look_hull.specs.LookHull.{look_hull, and_range, or_range};
-ghost use Rattle.look_hull.specs.Saturated.{saturated, saturated_look, saturated_negation, saturated_product};
+ghost use Rattle.look_hull.specs.code.Saturated.{saturated, saturated_look, saturated_negation, saturated_product};
 
 use crate::intervals::{end_of, presence_of, size_of, start_of};
 use crate::truths::{

@@ -3,7 +3,7 @@ ghost use Rattle.std.specs.Int.{int_max, int_min};
 ghost use Rattle.sched_model.specs.Valid.{is_moment};
 ghost use Rattle.region.specs.Looks.{HasMoments, IsRegionOf};
 ghost use Rattle.look_hull.specs.LookHull.{unless_empty, unless_absent, start_look, end_look, size_look, presence_look, interval_look};
-ghost use Rattle.look_hull.specs.Known.{KnownAs};
+ghost use Rattle.look_hull.specs.code.Known.{KnownAs};
 
 use region::{Bounds, Look, Presence, earliest_end, latest_start};
 use sched_base::Itv;

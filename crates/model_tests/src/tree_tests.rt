@@ -1,6 +1,6 @@
 //! Trees of tasks, with completion times worked out by hand.
 ghost use Rattle.std.specs.Prelude.{◌≡◌, length};
-ghost use Rattle.thetatree.specs.Leaves.{AreTasks};
+ghost use Rattle.thetatree.specs.code.Leaves.{AreTasks};
 
 use sched_base::{H, NoMemory};
 use std::alloc::Global;

@@ -14,8 +14,8 @@ use Rattle.region.specs.Looks.{IsRegionOf, seen_at}
 use Rattle.region.specs.Tight.{is_tight, weaker}
 use Rattle.look_hull.specs.LookHull.{look_hull}
 use Rattle.findings.specs.Found.{IsFound}
-use Rattle.findings.specs.Reads.{LooksOnlyAt, AreUnrefuted}
-use Rattle.hull_tree.specs.Trees.{Tree, IsTreeOf}
+use Rattle.findings.specs.code.Reads.{LooksOnlyAt, AreUnrefuted}
+use Rattle.hull_tree.specs.code.Trees.{Tree, IsTreeOf}
 use Rattle.refute_basic.specs.declared.witness.BasicWitness.{BasicWitness}
 use Rattle.refute_basic.specs.declared.witness.BasicWitness.TheVariants as basic
 use Rattle.refute_basic.specs.Expr.{is_never_true, expr_row}
@@ -23,9 +23,9 @@ use Rattle.refute_basic.specs.Obj.{never_beats}
 use Rattle.refute_basic.specs.Basic.{refutes}
 use Rattle.refute_basic.specs.laws.Hulls.{logic_names, objective_names}
 use Rattle.prop_basic.specs.declared.hulls.Goal.TheVariants.{Holds, Beats}
-use Rattle.prop_basic.specs.Goals.{misses}
-use Rattle.prop_basic.specs.Tables.{Fits}
-use Rattle.prop_basic.specs.Tasks.{size_of, quiet, witness_at, IsSilent}
+use Rattle.prop_basic.specs.code.Goals.{misses}
+use Rattle.prop_basic.specs.code.Tables.{Fits}
+use Rattle.prop_basic.specs.code.Tasks.{size_of, quiet, witness_at, IsSilent}
 use Rattle.prop_basic.specs.laws.Owners.{quiet_from, silent_from, size_at, expr_at, is_below}
 use Rattle.prop_basic.specs.laws.Silent.{AsksAll, unrefuted_from, silent_on}
 use Rattle.sched_model.specs.Bounds.{is_number}

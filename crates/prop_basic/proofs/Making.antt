@@ -5,9 +5,9 @@ use Rattle.std.proofs.lemmas.Bool.{cases_eq}
 use Rattle.std.proofs.lemmas.List.{get_or_append_left, length_push}
 use Rattle.sched_base.specs.declared.ids.Itv.{Itv}
 use Rattle.sched_model.specs.declared.types.Constraint.{Constraint}
-use Rattle.hull_tree.specs.Trees.{Tree}
-use Rattle.prop_basic.specs.Tasks.{logic_of}
-use Rattle.prop_basic.specs.Tables.{Fits, FitEach, AreNumbered, tree_at}
+use Rattle.hull_tree.specs.code.Trees.{Tree}
+use Rattle.prop_basic.specs.code.Tasks.{logic_of}
+use Rattle.prop_basic.specs.code.Tables.{Fits, FitEach, AreNumbered, tree_at}
 use Rattle.base_laws.specs.laws.Places.{newest, there}
 
 pub numbered_none : AreNumbered 0 []

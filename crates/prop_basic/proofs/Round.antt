@@ -13,7 +13,7 @@ use Rattle.region.specs.Cells.{Region}
 use Rattle.region.specs.Guesses.{topic}
 use Rattle.region.specs.laws.Lists.{true_both}
 use Rattle.findings.specs.Ends.{is_open_end}
-use Rattle.findings.specs.Reads.{is_among, AreUnrefuted}
+use Rattle.findings.specs.code.Reads.{is_among, AreUnrefuted}
 
 has_either : (xs : List Itv) (k : ℕ) (x : Itv) → has xs x ≡ (has (take k xs) x || has (drop k xs) x)
 has_either xs k x = ap (λ ys. has ys x) (sym (take-append-drop k xs)) ∙ list_any-append (same x) (take k xs) (drop k xs)

@@ -9,12 +9,12 @@ use Rattle.sched_model.specs.Data.{Data, has}
 use Rattle.region.specs.declared.types.CellName.{CellName}
 use Rattle.region.specs.declared.types.CellName.TheVariants as cell
 use Rattle.region.specs.laws.OneSequence.{same_self, same_is}
-use Rattle.findings.specs.Reads.{reads_cell}
-use Rattle.hull_tree.specs.Trees.{Tree}
+use Rattle.findings.specs.code.Reads.{reads_cell}
+use Rattle.hull_tree.specs.code.Trees.{Tree}
 use Rattle.refute_basic.specs.declared.witness.BasicWitness.TheVariants as basic
 use Rattle.refute_basic.specs.laws.Hulls.{logic_names, objective_names}
-use Rattle.prop_basic.specs.Tasks.{reads_of, watching, is_cell_of, logic_of, objective_of}
-use Rattle.prop_basic.specs.Tables.{Fits, names_in, tree_at, Table, IsFor}
+use Rattle.prop_basic.specs.code.Tasks.{reads_of, watching, is_cell_of, logic_of, objective_of}
+use Rattle.prop_basic.specs.code.Tables.{Fits, names_in, tree_at, Table, IsFor}
 use Rattle.prop_basic.proofs.Asked.{obj_is, size_is, expr_is}
 
 cell_more : (xs ys : List Itv) (b : Bool) → ((x : Itv) → has xs x ≡ true → has ys x ≡ true) → (c : CellName) → reads_cell (record { intervals = xs; pairs = []; best = b }) c ≡ true → is_cell_of ys c ≡ true

@@ -1,5 +1,2 @@
-pub mod Tasks
-pub mod Tables
-pub mod Ready
-pub mod Goals
 pub mod laws
+pub mod code

@@ -5,8 +5,8 @@ ghost use Rattle.region.specs.Looks.{IsRegionOf};
 ghost use Rattle.findings.specs.Found.{IsFinding};
 ghost use Rattle.refute_basic.specs.declared.witness.BasicWitness.TheVariants as basic;
 ghost use Rattle.refute_basic.specs.Basic.{refutes};
-ghost use Rattle.prop_basic.specs.Tasks.{IsSilent, logic_of, objective_of};
-ghost use Rattle.prop_basic.specs.Tables.{Fits};
+ghost use Rattle.prop_basic.specs.code.Tasks.{IsSilent, logic_of, objective_of};
+ghost use Rattle.prop_basic.specs.code.Tables.{Fits};
 
 use crate::hulls::{Goal, Scan, ask_tree};
 use findings::{Finding, ask};

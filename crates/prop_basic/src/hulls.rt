@@ -4,10 +4,10 @@ ghost use Rattle.sched_model.specs.declared.types.Expr.{Expr};
 ghost use Rattle.sched_model.specs.Hull.{hull_of};
 ghost use Rattle.region.specs.Looks.{IsRegionOf};
 ghost use Rattle.findings.specs.Found.{IsFound};
-ghost use Rattle.findings.specs.Reads.{AreUnrefuted};
-ghost use Rattle.hull_tree.specs.Trees.{IsTreeOf};
-ghost use Rattle.prop_basic.specs.Goals.{is_missed, misses};
-ghost use Rattle.prop_basic.specs.Ready.{IsReady};
+ghost use Rattle.findings.specs.code.Reads.{AreUnrefuted};
+ghost use Rattle.hull_tree.specs.code.Trees.{IsTreeOf};
+ghost use Rattle.prop_basic.specs.code.Goals.{is_missed, misses};
+ghost use Rattle.prop_basic.specs.code.Ready.{IsReady};
 
 use findings::ask_by;
 use hull_tree::{HullTree, Sides};
@@ -69,8 +69,8 @@ struct HullTest<'a> {
 }
 
 impl<'a> GuessTest for HullTest<'a> {
-    ghost use Rattle.prop_basic.specs.Goals.{misses};
-    ghost use Rattle.prop_basic.specs.Ready.{IsReady};
+    ghost use Rattle.prop_basic.specs.code.Goals.{misses};
+    ghost use Rattle.prop_basic.specs.code.Ready.{IsReady};
 
     ghost region = { λ t. t.region.now.region };
 
@@ -103,7 +103,7 @@ pub struct Scan {
 }
 
 impl std::marker::Model for Scan {
-    ghost use Rattle.hull_tree.specs.Trees.{Tree};
+    ghost use Rattle.hull_tree.specs.code.Trees.{Tree};
 
     ghost Value = { Tree };
 

@@ -5,8 +5,8 @@ ghost use Rattle.region.specs.declared.types.CellName.{CellName as CellNames};
 ghost use Rattle.region.specs.Looks.{IsRegionOf};
 ghost use Rattle.findings.specs.Found.{IsFinding};
 ghost use Rattle.refute_basic.specs.Basic.{refutes};
-ghost use Rattle.prop_basic.specs.Tasks.{size_of, quiet, watching, watching_best, is_cell_of, logic_of, objective_of};
-ghost use Rattle.prop_basic.specs.Tables.{Fits, FitEach, AreNumbered, IsFor, names_in};
+ghost use Rattle.prop_basic.specs.code.Tasks.{size_of, quiet, watching, watching_best, is_cell_of, logic_of, objective_of};
+ghost use Rattle.prop_basic.specs.code.Tables.{Fits, FitEach, AreNumbered, IsFor, names_in};
 
 use crate::expressions::{ask_constraint, ask_objective, ask_size};
 use crate::hulls::Scan;
@@ -28,7 +28,7 @@ pub struct PropBasic {
 
 impl std::marker::Model for PropBasic {
     ghost use Rattle.std.specs.Prelude.{◌+◌, ◌<◌, ◌^◌, length};
-    ghost use Rattle.prop_basic.specs.Tables.{Table};
+    ghost use Rattle.prop_basic.specs.code.Tables.{Table};
 
     ghost Value = { Table };
 

@@ -14,7 +14,7 @@ use Rattle.sched_model.specs.Data.{Data, same, has}
 use Rattle.region.specs.laws.OneSequence.{same_is}
 use Rattle.refute_cumul.specs.Listed.{shape_names, window_names, names_in}
 use Rattle.prop_cumul.specs.declared.task.Task.{Task}
-use Rattle.prop_cumul.specs.Tables.{is_of, AreGroups, IsTaskOf, AreTasks, no_task}
+use Rattle.prop_cumul.specs.code.Tables.{is_of, AreGroups, IsTaskOf, AreTasks, no_task}
 
 -- names
 has_append : (xs ys : List Itv) (y : Itv) → has (xs ++ ys) y ≡ (has xs y || has ys y)

@@ -11,9 +11,9 @@ use Rattle.sched_model.specs.Words.{total}
 use Rattle.sched_model.specs.Cumulative.{between, signed}
 use Rattle.region.specs.Cells.{Region}
 use Rattle.refute_cumul.specs.declared.profile.Level.{Level}
-use Rattle.refute_cumul.specs.Loads.{bounded, height_at, load_of, load}
-use Rattle.refute_cumul.specs.Profiles.{level_in, IsFirstAbove, StaysBelow}
-use Rattle.prop_cumul.specs.Extra.{extra, IsUnmoved, IsStillOf, AreStill, IsStill, IsRaisedAbove, StaysLow}
+use Rattle.refute_cumul.specs.code.Loads.{bounded, height_at, load_of, load}
+use Rattle.refute_cumul.specs.code.Profiles.{level_in, IsFirstAbove, StaysBelow}
+use Rattle.prop_cumul.specs.code.Extra.{extra, IsUnmoved, IsStillOf, AreStill, IsStill, IsRaisedAbove, StaysLow}
 
 trans : (x y z : ℤ) → x ≤ℤ y → y ≤ℤ z → x ≤ℤ z
 trans x y z h k = omega (arith, ints, h, k)

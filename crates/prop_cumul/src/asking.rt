@@ -4,11 +4,11 @@ ghost use Rattle.sched_model.specs.Data.{parts_of};
 ghost use Rattle.region.specs.Looks.{IsRegionOf};
 ghost use Rattle.findings.specs.Found.{IsFinding};
 ghost use Rattle.refute_cumul.specs.OnCumul.{refutes};
-ghost use Rattle.refute_cumul.specs.Sides.{IsBoundOf, HasRoom, as_constraint};
-ghost use Rattle.prop_cumul.specs.Tables.{IsTaskOf, is_cumul};
-ghost use Rattle.prop_cumul.specs.Tasks.{quiet};
-ghost use Rattle.prop_cumul.specs.Silence.{is_out_of_reach};
-ghost use Rattle.prop_cumul.specs.Asking.{IsReady, IsSideQuiet, AreQuietOn, IsBusy};
+ghost use Rattle.refute_cumul.specs.code.Sides.{IsBoundOf, HasRoom, as_constraint};
+ghost use Rattle.prop_cumul.specs.code.Tables.{IsTaskOf, is_cumul};
+ghost use Rattle.prop_cumul.specs.code.Tasks.{quiet};
+ghost use Rattle.prop_cumul.specs.code.Silence.{is_out_of_reach};
+ghost use Rattle.prop_cumul.specs.code.Asking.{IsReady, IsSideQuiet, AreQuietOn, IsBusy};
 
 use crate::side::{Side, ask_interval, ask_plain};
 use crate::task::Task;

@@ -1,7 +1,7 @@
 //! What a guess adds to the load of the parts of an interval, and the search with it in a profile.
 ghost use Rattle.std.specs.Prelude.{◌≡◌, ◌≤◌, ◌^◌, ◌<ℤ◌, ◌≤ℤ◌, neg_ℤ, pos, length, IfSome, IfNone};
-ghost use Rattle.refute_cumul.specs.Loads.{load};
-ghost use Rattle.prop_cumul.specs.Extra.{extra, IsUnmoved, IsStillOf, AreStill, IsStill, IsRaisedAbove, StaysLow};
+ghost use Rattle.refute_cumul.specs.code.Loads.{load};
+ghost use Rattle.prop_cumul.specs.code.Extra.{extra, IsUnmoved, IsStillOf, AreStill, IsStill, IsRaisedAbove, StaysLow};
 
 use refute_cumul::{Profile, bounded, load};
 use region::Look;

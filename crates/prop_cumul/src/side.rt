@@ -11,9 +11,9 @@ ghost use Rattle.refute_cumul.specs.declared.witness.CumulWitness.TheVariants.{P
 ghost use Rattle.refute_cumul.specs.OnCumul.{refutes};
 ghost use Rattle.refute_cumul.specs.laws.Loads.{side};
 ghost use Rattle.refute_cumul.specs.Listed.{names_of};
-ghost use Rattle.refute_cumul.specs.Sides.{is_high};
-ghost use Rattle.prop_cumul.specs.Tables.{is_of};
-ghost use Rattle.prop_cumul.specs.Asking.{IsReady, NeverHigh, IsQuietUnder, IsQuietOn, IsBusy};
+ghost use Rattle.refute_cumul.specs.code.Sides.{is_high};
+ghost use Rattle.prop_cumul.specs.code.Tables.{is_of};
+ghost use Rattle.prop_cumul.specs.code.Asking.{IsReady, NeverHigh, IsQuietUnder, IsQuietOn, IsBusy};
 ghost use Rattle.findings.specs.laws.EndGuesses.{IsAnEnd};
 ghost use Rattle.prop_cumul.specs.laws.Asking.{TellsExtra, IsRefutedUnder};
 

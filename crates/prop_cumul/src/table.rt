@@ -5,8 +5,8 @@ ghost use Rattle.region.specs.declared.types.CellName.{CellName as CellNames};
 ghost use Rattle.region.specs.Looks.{IsRegionOf};
 ghost use Rattle.findings.specs.Found.{IsFinding};
 ghost use Rattle.refute_cumul.specs.OnCumul.{refutes};
-ghost use Rattle.prop_cumul.specs.Tables.{IsFor};
-ghost use Rattle.prop_cumul.specs.Tasks.{size_of, quiet, watching, watching_best, is_cell_of};
+ghost use Rattle.prop_cumul.specs.code.Tables.{IsFor};
+ghost use Rattle.prop_cumul.specs.code.Tasks.{size_of, quiet, watching, watching_best, is_cell_of};
 
 use crate::asking::ask_constraint;
 use crate::task::{Task, has, tasks_of};
@@ -27,7 +27,7 @@ pub struct PropCumul {
 
 impl std::marker::Model for PropCumul {
     ghost use Rattle.std.specs.Prelude.{◌<◌, ◌^◌, length};
-    ghost use Rattle.prop_cumul.specs.Tables.{Table};
+    ghost use Rattle.prop_cumul.specs.code.Tables.{Table};
 
     ghost Value = { Table };
 

@@ -5,7 +5,7 @@ ghost use Rattle.std.specs.Option.{option_to_list};
 ghost use Rattle.sched_base.specs.declared.ids.Itv.{Itv as Itvs};
 ghost use Rattle.sched_model.specs.Data.{same, has};
 ghost use Rattle.refute_cumul.specs.Listed.{shape_names, window_names, names_in};
-ghost use Rattle.prop_cumul.specs.Tables.{is_of, IsTaskIn, IsTaskOf, AreGroups, AreTasks};
+ghost use Rattle.prop_cumul.specs.code.Tables.{is_of, IsTaskIn, IsTaskOf, AreGroups, AreTasks};
 
 use refute_cumul::parts_of;
 use sched_base::{Itv, List, NoMemory};

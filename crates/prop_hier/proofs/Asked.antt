@@ -11,12 +11,12 @@ use Rattle.findings.specs.Found.{IsFound, IsFinding}
 use Rattle.refute_hier.specs.declared.witness.HierWitness.{HierWitness}
 use Rattle.refute_hier.specs.Hier.{refutes}
 use Rattle.refute_hier.specs.declared.family.Kind.{Kind}
-use Rattle.refute_hier.specs.Rows.{is_family, IsWitness}
-use Rattle.prop_hier.specs.Rows.{refutes_under}
-use Rattle.prop_hier.specs.Ready.{AreParts}
-use Rattle.prop_hier.specs.Related.{AreSilent}
-use Rattle.prop_hier.specs.Tables.{intervals_of}
-use Rattle.prop_hier.specs.Tasks.{quiet}
+use Rattle.refute_hier.specs.code.Rows.{is_family, IsWitness}
+use Rattle.prop_hier.specs.code.Rows.{refutes_under}
+use Rattle.prop_hier.specs.code.Ready.{AreParts}
+use Rattle.prop_hier.specs.code.Related.{AreSilent}
+use Rattle.prop_hier.specs.code.Tables.{intervals_of}
+use Rattle.prop_hier.specs.code.Tasks.{quiet}
 use Rattle.prop_hier.specs.laws.Relations.{quiet_related, silent_related}
 use Rattle.refute_hier.specs.laws.Parts.{IsFamily}
 use Rattle.prop_hier.specs.laws.Quiet.{Unrefuted, unrefuted_from, finding_from}

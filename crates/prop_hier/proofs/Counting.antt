@@ -26,10 +26,10 @@ use Rattle.region.specs.laws.Found.{never}
 use Rattle.refute_hier.specs.declared.family.Kind.{Kind}
 use Rattle.refute_hier.specs.declared.family.Kind.TheVariants.{Span, Alternative, Synchronize}
 use Rattle.prop_hier.specs.declared.counts.Counts.{Counts}
-use Rattle.refute_hier.specs.Rows.{some_case, some_refutes}
-use Rattle.prop_hier.specs.Counts.{asks, counted, counts_of, one_if, recounted, counts_after, counts_refute}
-use Rattle.prop_hier.specs.Few.{AreFew}
-use Rattle.prop_hier.specs.Ready.{IsReady, is_about, is_quick}
+use Rattle.refute_hier.specs.code.Rows.{some_case, some_refutes}
+use Rattle.prop_hier.specs.code.Counts.{asks, counted, counts_of, one_if, recounted, counts_after, counts_refute}
+use Rattle.prop_hier.specs.code.Few.{AreFew}
+use Rattle.prop_hier.specs.code.Ready.{IsReady, is_about, is_quick}
 
 -- one element more
 count_cons : {X : Type 0} (p : X → Bool) (x : X) (xs : List X) → count_by p (x ∷ xs) ≡ one_if (p x) + count_by p xs

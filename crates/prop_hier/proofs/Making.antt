@@ -6,7 +6,7 @@ use Rattle.std.proofs.lemmas.List.{get_or_append_left, length_push}
 use Rattle.sched_model.specs.declared.types.Constraint.{Constraint}
 use Rattle.sched_model.specs.Data.{Data}
 use Rattle.prop_hier.specs.declared.watch.Watch.{Watch}
-use Rattle.prop_hier.specs.Tables.{Table, ListEach, no_watch, watch_of}
+use Rattle.prop_hier.specs.code.Tables.{Table, ListEach, no_watch, watch_of}
 use Rattle.base_laws.specs.laws.Places.{newest, there}
 
 -- those of the first constraints

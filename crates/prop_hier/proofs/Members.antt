@@ -13,12 +13,12 @@ use Rattle.region.specs.Guesses.{topic}
 use Rattle.region.specs.laws.Lists.{both_true, true_both}
 use Rattle.region.specs.laws.OneSequence.{same_is, same_self, has_cases}
 use Rattle.findings.specs.Ends.{is_open_end}
-use Rattle.findings.specs.Reads.{AreUnrefuted, is_among}
+use Rattle.findings.specs.code.Reads.{AreUnrefuted, is_among}
 use Rattle.region.specs.Looks.{Seen}
 use Rattle.refute_hier.specs.declared.family.Kind.{Kind}
 use Rattle.prop_hier.specs.declared.counts.Counts.{Counts}
-use Rattle.prop_hier.specs.Counts.{counts_of}
-use Rattle.prop_hier.specs.Ready.{AreParts, IsReady}
+use Rattle.prop_hier.specs.code.Counts.{counts_of}
+use Rattle.prop_hier.specs.code.Ready.{AreParts, IsReady}
 use Rattle.base_laws.specs.laws.Truth.{alone}
 
 -- nothing refutes the region as it stands, once one was asked, nor under a guess on one of the first

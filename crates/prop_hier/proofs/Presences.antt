@@ -18,12 +18,12 @@ use Rattle.region.specs.laws.OneSequence.{same_is, same_self, has_cases}
 use Rattle.findings.specs.declared.finding.Pair.{Pair}
 use Rattle.findings.specs.Ends.{is_end, is_open_end}
 use Rattle.findings.specs.Found.{IsFinding}
-use Rattle.findings.specs.Reads.{IsUnrefuted, is_among, is_paired}
+use Rattle.findings.specs.code.Reads.{IsUnrefuted, is_among, is_paired}
 use Rattle.findings.specs.laws.Kept.{asked_more}
 use Rattle.refute_hier.specs.declared.witness.HierWitness.{HierWitness}
 use Rattle.refute_hier.specs.Hier.{refutes}
-use Rattle.prop_hier.specs.Related.{asks_pairs, IsSilent}
-use Rattle.prop_hier.specs.Presences.{refuted_present, IsRefutedPresence, NoPresenceRefuted}
+use Rattle.prop_hier.specs.code.Related.{asks_pairs, IsSilent}
+use Rattle.prop_hier.specs.code.Presences.{refuted_present, IsRefutedPresence, NoPresenceRefuted}
 
 -- what some of the first passes, or the next
 pub any_next : {X : Type 0} (test : X → Bool) (xs : List X) (n : ℕ) (e : X) → n < length xs → list_any test (take (suc n) xs) ≡ true → (list_any test (take n xs) ≡ true) ⊎ (test (get_or xs n e) ≡ true)

@@ -9,8 +9,8 @@ use Rattle.region.specs.Cells.{Region}
 use Rattle.region.specs.Looks.{Seen, IsRegionOf, seen_at}
 use Rattle.region.specs.laws.OneSequence.{same_is, same_self}
 use Rattle.refute_hier.specs.declared.witness.HierWitness.TheVariants.{SeqRel}
-use Rattle.prop_hier.specs.Related.{pairs_of, IsSilent, AreSilent}
-use Rattle.prop_hier.specs.Possible.{may_break}
+use Rattle.prop_hier.specs.code.Related.{pairs_of, IsSilent, AreSilent}
+use Rattle.prop_hier.specs.code.Possible.{may_break}
 use Rattle.prop_hier.specs.laws.Possible.{silent_impossible}
 use Rattle.prop_hier.proofs.Presences.{any_next, passes_at, after}
 

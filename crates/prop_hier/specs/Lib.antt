@@ -1,10 +1,2 @@
-pub mod Rows
-pub mod Counts
-pub mod Few
-pub mod Ready
-pub mod Related
-pub mod Presences
-pub mod Possible
-pub mod Tables
-pub mod Tasks
 pub mod laws
+pub mod code

@@ -2,12 +2,12 @@
 ghost use Rattle.std.specs.Prelude.{◌≡◌, ◌∷◌, [], IfNone, IfSome, slice_get};
 ghost use Rattle.region.specs.Looks.{IsRegionOf};
 ghost use Rattle.findings.specs.Found.{IsFound, IsFinding};
-ghost use Rattle.findings.specs.Reads.{AreUnrefuted};
+ghost use Rattle.findings.specs.code.Reads.{AreUnrefuted};
 ghost use Rattle.refute_hier.specs.Hier.{refutes};
-ghost use Rattle.prop_hier.specs.Rows.{refutes_under};
-ghost use Rattle.prop_hier.specs.Ready.{AreParts};
-ghost use Rattle.prop_hier.specs.Tables.{intervals_of};
-ghost use Rattle.prop_hier.specs.Tasks.{quiet};
+ghost use Rattle.prop_hier.specs.code.Rows.{refutes_under};
+ghost use Rattle.prop_hier.specs.code.Ready.{AreParts};
+ghost use Rattle.prop_hier.specs.code.Tables.{intervals_of};
+ghost use Rattle.prop_hier.specs.code.Tasks.{quiet};
 
 use crate::counts::count_parts;
 use crate::member_test::MemberTest;

@@ -1,8 +1,8 @@
 //! How many parts are what the rows of a constraint ask.
 ghost use Rattle.std.specs.Prelude.{◌≡◌, ◌<◌, ◌^◌};
 ghost use Rattle.region.specs.Looks.{HasMoments};
-ghost use Rattle.prop_hier.specs.Counts.{asks, counted, counts_of, recounted, counts_after, counts_refute};
-ghost use Rattle.prop_hier.specs.Few.{AreFew};
+ghost use Rattle.prop_hier.specs.code.Counts.{asks, counted, counts_of, recounted, counts_after, counts_refute};
+ghost use Rattle.prop_hier.specs.code.Few.{AreFew};
 
 use refute_hier::{Family, Kind, Role, plays, plays_in};
 use region::{Bounds, Look, Presence};

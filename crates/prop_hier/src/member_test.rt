@@ -1,8 +1,8 @@
 //! Whether a constraint refutes a region under a guess on one of its intervals.
 ghost use Rattle.std.specs.Prelude.{◌≡◌, IsTrue};
 ghost use Rattle.region.specs.Guesses.{admits, topic, with_guess};
-ghost use Rattle.refute_hier.specs.Rows.{some_refutes};
-ghost use Rattle.prop_hier.specs.Ready.{IsReady, is_about, is_quick};
+ghost use Rattle.refute_hier.specs.code.Rows.{some_refutes};
+ghost use Rattle.prop_hier.specs.code.Ready.{IsReady, is_about, is_quick};
 
 use crate::counts::{Change, Counts, counts_after, counts_refute};
 use refute_hier::{Family, known, some_refutes};
@@ -71,8 +71,8 @@ impl<'a> MemberTest<'a> {
 }
 
 impl<'a> GuessTest for MemberTest<'a> {
-    ghost use Rattle.prop_hier.specs.Rows.{refutes_under};
-    ghost use Rattle.prop_hier.specs.Ready.{IsReady};
+    ghost use Rattle.prop_hier.specs.code.Rows.{refutes_under};
+    ghost use Rattle.prop_hier.specs.code.Ready.{IsReady};
 
     ghost region = { λ t. t.region.now.region };
 

@@ -1,7 +1,7 @@
 //! What a region leaves possible of a relation of the members of a sequence.
 ghost use Rattle.std.specs.Prelude.{◌≡◌, not};
 ghost use Rattle.refute_hier.specs.Parts.{is_away};
-ghost use Rattle.prop_hier.specs.Possible.{may_stand, may_break};
+ghost use Rattle.prop_hier.specs.code.Possible.{may_stand, may_break};
 
 use refute_hier::known;
 use region::{Look, OrderCell, Presence};

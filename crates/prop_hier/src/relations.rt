@@ -6,8 +6,8 @@ ghost use Rattle.region.specs.Looks.{IsRegionOf, seen_at};
 ghost use Rattle.findings.specs.Found.{IsFinding};
 ghost use Rattle.refute_hier.specs.declared.witness.HierWitness.TheVariants.{SeqRel};
 ghost use Rattle.refute_hier.specs.Hier.{refutes};
-ghost use Rattle.prop_hier.specs.Related.{pairs_of, IsSilent, AreSilent};
-ghost use Rattle.prop_hier.specs.Presences.{refuted_present, IsRefutedPresence, NoPresenceRefuted};
+ghost use Rattle.prop_hier.specs.code.Related.{pairs_of, IsSilent, AreSilent};
+ghost use Rattle.prop_hier.specs.code.Presences.{refuted_present, IsRefutedPresence, NoPresenceRefuted};
 
 use crate::possible::may_break;
 use findings::{Finding, Pair, ask};

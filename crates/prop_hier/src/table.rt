@@ -9,8 +9,8 @@ ghost use Rattle.region.specs.declared.types.CellName.TheVariants as cell;
 ghost use Rattle.region.specs.Looks.{IsRegionOf};
 ghost use Rattle.findings.specs.Found.{IsFinding};
 ghost use Rattle.refute_hier.specs.Hier.{refutes};
-ghost use Rattle.prop_hier.specs.Tables.{IsFor, watch_of};
-ghost use Rattle.prop_hier.specs.Tasks.{size_of, quiet, watching, watching_best, is_bound, is_cell_of};
+ghost use Rattle.prop_hier.specs.code.Tables.{IsFor, watch_of};
+ghost use Rattle.prop_hier.specs.code.Tasks.{size_of, quiet, watching, watching_best, is_bound, is_cell_of};
 
 use crate::asking::ask_constraint;
 use crate::watch::{Watch, watch_each};
@@ -31,7 +31,7 @@ pub struct PropHier {
 
 impl std::marker::Model for PropHier {
     ghost use Rattle.std.specs.Prelude.{◌<◌, ◌^◌, length};
-    ghost use Rattle.prop_hier.specs.Tables.{Table};
+    ghost use Rattle.prop_hier.specs.code.Tables.{Table};
 
     ghost Value = { Table };
 

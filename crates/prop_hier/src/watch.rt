@@ -2,7 +2,7 @@
 ghost use Rattle.std.specs.Prelude.{◌≡◌, ◌∷◌, Some, IfOk, nat_eq};
 ghost use Rattle.std.specs.List.{list_any};
 ghost use Rattle.sched_model.specs.Data.{has};
-ghost use Rattle.prop_hier.specs.Tables.{intervals_of, sequences_of, watch_of, is_bound_of, watches, ListEach};
+ghost use Rattle.prop_hier.specs.code.Tables.{intervals_of, sequences_of, watch_of, is_bound_of, watches, ListEach};
 
 use refute_hier::{members_of, related_in};
 use region::CellName;

@@ -5,14 +5,14 @@ use Rattle.std.proofs.lemmas.Bool.{true≢false}
 use Rattle.sched_base.specs.declared.ids.Itv.{Itv}
 use Rattle.sched_model.specs.Data.{Data}
 use Rattle.region.specs.Cells.{Region}
-use Rattle.findings.specs.Reads.{IsUnrefuted}
+use Rattle.findings.specs.code.Reads.{IsUnrefuted}
 use Rattle.task_sets.specs.Times.{has}
 use Rattle.refute_seq.specs.declared.witness.SeqWitness.{SeqWitness}
 use Rattle.refute_seq.specs.declared.witness.SeqWitness.TheVariants.{Overload, Edge, NotEnd, Detect}
 use Rattle.refute_seq.specs.OnSequence.{refutes}
-use Rattle.prop_sets.specs.Rows.{member_at}
-use Rattle.prop_sets.specs.Tasks.{looks_after, quiet}
-use Rattle.prop_sets.specs.Busy.{IsBusy, name_at, ids_of}
+use Rattle.prop_sets.specs.code.Rows.{member_at}
+use Rattle.prop_sets.specs.code.Tasks.{looks_after, quiet}
+use Rattle.prop_sets.specs.code.Busy.{IsBusy, name_at, ids_of}
 use Rattle.prop_sets.proofs.Marking.{take_more, take_all}
 
 pub never_unrefuted : (m : Data) (r : Region) (best : Option ℤ) (i : Itv) (w : SeqWitness) → IsBusy m r best i w → IsUnrefuted refutes m r best w (i ∷ []) [] → ⊥

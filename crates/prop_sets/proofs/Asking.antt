@@ -14,17 +14,17 @@ use Rattle.region.specs.Cells.{Region, bounds_of}
 use Rattle.task_sets.specs.Times.{Times, IsSized}
 use Rattle.refute_seq.specs.declared.witness.SeqWitness.TheVariants.{Overload, Edge, NotEnd, Detect}
 use Rattle.theta_passes.specs.declared.rows.Row.{Row}
-use Rattle.theta_passes.specs.Rows.{row_at, is_candidate, times_at, IsNearRow}
-use Rattle.theta_passes.specs.Edge.{PassOrNone}
-use Rattle.theta_passes.specs.Late.{LatePass}
-use Rattle.theta_passes.specs.Over.{NoOverloads}
-use Rattle.theta_passes.specs.Rows.{IsByEst}
-use Rattle.theta_passes.specs.Late.{IsLow, lowest}
-use Rattle.prop_sets.specs.Orders.{AreSpanned, IsByStart}
-use Rattle.prop_sets.specs.Rows.{seen, asked_bounds, asks_early, asks_late, chosen_row, side_of, member_at, AreRows}
-use Rattle.prop_sets.specs.Sides.{NoEdge, NoDetect, NoNotEnd, IsSideQuiet}
-use Rattle.prop_sets.specs.Given.{IsOf, IsRowed}
-use Rattle.prop_sets.specs.Busy.{IsBusy, IsLateFound, IsOverFound, IsEdgeFound, name_at, ids_of}
+use Rattle.theta_passes.specs.code.Rows.{row_at, is_candidate, times_at, IsNearRow}
+use Rattle.theta_passes.specs.code.Edge.{PassOrNone}
+use Rattle.theta_passes.specs.code.Late.{LatePass}
+use Rattle.theta_passes.specs.code.Over.{NoOverloads}
+use Rattle.theta_passes.specs.code.Rows.{IsByEst}
+use Rattle.theta_passes.specs.code.Late.{IsLow, lowest}
+use Rattle.prop_sets.specs.code.Orders.{AreSpanned, IsByStart}
+use Rattle.prop_sets.specs.code.Rows.{seen, asked_bounds, asks_early, asks_late, chosen_row, side_of, member_at, AreRows}
+use Rattle.prop_sets.specs.code.Sides.{NoEdge, NoDetect, NoNotEnd, IsSideQuiet}
+use Rattle.prop_sets.specs.code.Given.{IsOf, IsRowed}
+use Rattle.prop_sets.specs.code.Busy.{IsBusy, IsLateFound, IsOverFound, IsEdgeFound, name_at, ids_of}
 use Rattle.prop_sets.specs.laws.Under.{IsNarrow, IsMoment, narrow}
 use Rattle.prop_sets.specs.laws.Members.{those_apart}
 use Rattle.prop_sets.specs.laws.Placed.{IsNoted, row_base, rows_sized}

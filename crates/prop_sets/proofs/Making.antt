@@ -7,11 +7,11 @@ use Rattle.sched_model.specs.Data.{Data, members_of}
 use Rattle.sched_model.specs.Valid.{IsValid}
 use Rattle.region.specs.Cells.{Region}
 use Rattle.region.specs.Looks.{IsRegionOf}
-use Rattle.prop_sets.specs.Given.{IsOf}
-use Rattle.prop_sets.specs.Reordered.{IsReordered}
-use Rattle.prop_sets.specs.Tasks.{sequence_at}
-use Rattle.prop_sets.specs.Sides.{IsSideQuiet}
-use Rattle.prop_sets.specs.Known.{IsStill}
+use Rattle.prop_sets.specs.code.Given.{IsOf}
+use Rattle.prop_sets.specs.code.Reordered.{IsReordered}
+use Rattle.prop_sets.specs.code.Tasks.{sequence_at}
+use Rattle.prop_sets.specs.code.Sides.{IsSideQuiet}
+use Rattle.prop_sets.specs.code.Known.{IsStill}
 
 -- a constraint whose sequence is known
 pub is_of : (m : Data) (c : ℕ) (p : Seq) (r : Region) (ms xs : List Itv) → IsValid m → IsRegionOf m r → c < length m.constraints → sequence_at m c ≡ Some p → ms ≡ members_of m p → IsReordered ms xs → IsOf m c p r xs

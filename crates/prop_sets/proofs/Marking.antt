@@ -1,7 +1,7 @@
 -- Places that are picked one after the other.
 use Rattle.std.specs.Prelude.{◌≡◌, ℕ, zero, suc, ◌+◌, ◌<◌, ◌≤◌, Bool, true, false, List, [], ◌∷◌, ◌++◌, length}
 use Rattle.std.proofs.Common.{refl, sym, ap, ◌∙◌, arith, take, get_or}
-use Rattle.task_sets.specs.Ects.{up_from, keep, kept}
+use Rattle.task_sets.specs.laws.Ects.{up_from, keep, kept}
 
 -- picking the first places one after the other
 up_more : (a n : ℕ) → up_from a (n + 1) ≡ up_from a n ++ (a + n) ∷ []

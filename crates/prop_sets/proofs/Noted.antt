@@ -8,8 +8,8 @@ use Rattle.region.specs.declared.types.Bounds.{Bounds}
 use Rattle.region.specs.Cells.{Region, bounds_of}
 use Rattle.base_laws.specs.laws.Places.{newest}
 use Rattle.theta_passes.specs.declared.rows.Row.{Row}
-use Rattle.theta_passes.specs.Rows.{row_at}
-use Rattle.prop_sets.specs.Rows.{member_at, AreRows}
+use Rattle.theta_passes.specs.code.Rows.{row_at}
+use Rattle.prop_sets.specs.code.Rows.{member_at, AreRows}
 
 -- the first n rows
 pub record AreFirst (make : Bounds → Row) (r : Region) (xs : List Itv) (n : ℕ) (rows : List Row) : Type 0 where

@@ -15,11 +15,11 @@ use Rattle.theta_passes.specs.laws.Members.{present_below, is_below as row_below
 use Rattle.prop_sets.specs.declared.orders.Keyed.{Keyed}
 use Rattle.prop_sets.specs.declared.orders.By.{By}
 use Rattle.prop_sets.specs.declared.orders.By.TheVariants as by
-use Rattle.prop_sets.specs.Rows.{seen, member_at}
+use Rattle.prop_sets.specs.code.Rows.{seen, member_at}
 use Rattle.std.specs.List.Sorted.{IsPermutation}
-use Rattle.prop_sets.specs.Reordered.{IsReordered}
+use Rattle.prop_sets.specs.code.Reordered.{IsReordered}
 use Rattle.prop_sets.specs.laws.Reordering.{reordered}
-use Rattle.prop_sets.specs.Orders.{AreRising, AreKeyed, ArePlaces, AreStarts, AreNamed, IsByStart, IsOrderBy, on_by, key_by, keyed_at, no_place}
+use Rattle.prop_sets.specs.code.Orders.{AreRising, AreKeyed, ArePlaces, AreStarts, AreNamed, IsByStart, IsOrderBy, on_by, key_by, keyed_at, no_place}
 
 -- no key is below one before it, for each that is next to another
 pub rising_from_sort : (ks : List Keyed) → ((k : ℕ) (d : Keyed) → 0 ≤ k → k + 1 < length ks → is_lt (int_cmp (get_or ks (k + 1) d).key (get_or ks k d).key) ≡ false) → AreRising ks

@@ -8,9 +8,9 @@ use Rattle.base_laws.specs.laws.Places.{newest}
 use Rattle.sched_base.specs.declared.ids.Itv.{Itv}
 use Rattle.region.specs.Cells.{Region, bounds_of}
 use Rattle.prop_sets.specs.declared.known.Numbers.{Numbers}
-use Rattle.prop_sets.specs.Rows.{member_at}
-use Rattle.prop_sets.specs.Known.{numbers_of, AreNumbers, IfKnown, AreKnown, AreUnknown}
-use Rattle.prop_sets.specs.Known as known
+use Rattle.prop_sets.specs.code.Rows.{member_at}
+use Rattle.prop_sets.specs.code.Known.{numbers_of, AreNumbers, IfKnown, AreKnown, AreUnknown}
+use Rattle.prop_sets.specs.code.Known as known
 
 pub no_numbers : (r : Region) (ms : List Itv) → AreNumbers r ms 0 []
 no_numbers r ms = record { size = refl; each = λ k low. absurd (omega (arith, low)) }

@@ -6,21 +6,21 @@ use Rattle.std.proofs.lemmas.Int.{ints}
 use Rattle.std.proofs.lemmas.Bool.{true≢false, false_from_ne_true, or_left, or_right}
 use Rattle.base_laws.specs.laws.Numbers.{below_or_last}
 use Rattle.task_sets.specs.Times.{Times, has, ends_at, greatest_lct, is_task_set, is_overload, overload_row}
-use Rattle.task_sets.specs.Sums.{has_first, same_number}
-use Rattle.task_sets.specs.Ects.{lt_holds}
-use Rattle.task_sets.specs.Cuts.{overload_is, task_set_of, no_task_set}
+use Rattle.task_sets.specs.laws.Sums.{has_first, same_number}
+use Rattle.task_sets.specs.laws.Ects.{lt_holds}
+use Rattle.task_sets.specs.laws.Cuts.{overload_is, task_set_of, no_task_set}
 use Rattle.theta_passes.specs.declared.rows.Presence.{Presence}
 use Rattle.theta_passes.specs.declared.rows.Presence.TheVariants as is
 use Rattle.theta_passes.specs.declared.rows.Row.{Row}
-use Rattle.theta_passes.specs.Rows.{is_present, is_candidate, row_at, says_absent, says_present, times_at, with_candidate, IsBounded}
-use Rattle.theta_passes.specs.Over.{IsFalling, NoOverloads, Overfull}
-use Rattle.theta_passes.specs.Edge.{IsOrder, IsFound, NoOverload}
-use Rattle.theta_passes.specs.Late.{IsRising, LatePass}
-use Rattle.theta_passes.specs.Witnesses.{members_of, IsEdgeSets, IsLateSet}
+use Rattle.theta_passes.specs.code.Rows.{is_present, is_candidate, row_at, says_absent, says_present, times_at, with_candidate, IsBounded}
+use Rattle.theta_passes.specs.code.Over.{IsFalling, NoOverloads, Overfull}
+use Rattle.theta_passes.specs.code.Edge.{IsOrder, IsFound, NoOverload}
+use Rattle.theta_passes.specs.code.Late.{IsRising, LatePass}
+use Rattle.theta_passes.specs.code.Witnesses.{members_of, IsEdgeSets, IsLateSet}
 use Rattle.theta_passes.specs.laws.Members.{candidate, is_below as row_below}
 use Rattle.prop_sets.specs.declared.orders.By.TheVariants as by
-use Rattle.prop_sets.specs.Busy.{IsLateFound, IsOverFound, IsEdgeFound}
-use Rattle.prop_sets.specs.Orders.{AreSpanned, IsOrderBy}
+use Rattle.prop_sets.specs.code.Busy.{IsLateFound, IsOverFound, IsEdgeFound}
+use Rattle.prop_sets.specs.code.Orders.{AreSpanned, IsOrderBy}
 use Rattle.prop_sets.proofs.Marking.{take_more, take_all}
 
 -- whether a list has a number

@@ -6,7 +6,7 @@ use Rattle.sched_model.specs.Data.{Data, has}
 use Rattle.region.specs.declared.types.CellName.{CellName}
 use Rattle.region.specs.declared.types.CellName.TheVariants as cell
 use Rattle.region.specs.laws.OneSequence.{has_cases}
-use Rattle.prop_sets.specs.Tasks.{members_at, watching, is_bound, is_bound_of}
+use Rattle.prop_sets.specs.code.Tasks.{members_at, watching, is_bound, is_bound_of}
 
 pub presence_watched : (m : Data) (k : ℕ) (xs : List Itv) → xs ≡ members_at m k → (x : Itv) → IsTrue (watching m k (cell.Presence x)) → IsTrue (has xs x)
 presence_watched m k xs is x h = subst (λ ys. has ys x ≡ true) (sym is) (elim (has_cases (has (members_at m k) x) _ h) [ inl one ↦ one | inr none ↦ cc ])

@@ -1,10 +1,2 @@
-pub mod Tasks
-pub mod Rows
-pub mod Sides
-pub mod Given
-pub mod Busy
-pub mod Reordered
-pub mod Orders
-pub mod Known
-pub mod Tables
 pub mod laws
+pub mod code

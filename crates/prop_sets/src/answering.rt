@@ -5,9 +5,9 @@ ghost use Rattle.region.specs.Looks.{IsRegionOf};
 ghost use Rattle.findings.specs.Found.{IsFinding};
 ghost use Rattle.refute_seq.specs.declared.witness.SeqWitness.TheVariants as witness;
 ghost use Rattle.refute_seq.specs.OnSequence.{refutes};
-ghost use Rattle.prop_sets.specs.Tasks.{looks_after, quiet};
-ghost use Rattle.prop_sets.specs.Rows.{member_at, side_of};
-ghost use Rattle.prop_sets.specs.Busy.{IsBusy, name_at, ids_of};
+ghost use Rattle.prop_sets.specs.code.Tasks.{looks_after, quiet};
+ghost use Rattle.prop_sets.specs.code.Rows.{member_at, side_of};
+ghost use Rattle.prop_sets.specs.code.Busy.{IsBusy, name_at, ids_of};
 
 use crate::passes::{Behind, Cut};
 use findings::{Finding, ask};

@@ -1,7 +1,7 @@
 //! The numbers of members, by which it is known again that nothing is found of them.
 ghost use Rattle.std.specs.Prelude.{◌≡◌, true, length, Some, IfOk};
 ghost use Rattle.region.specs.Looks.{HasMoments};
-ghost use Rattle.prop_sets.specs.Known.{numbers_of, AreNumbers};
+ghost use Rattle.prop_sets.specs.code.Known.{numbers_of, AreNumbers};
 
 use crate::numbers::{bounds_at, ect_in, lst_in, row_presence};
 use region::{Bounds, Region};

@@ -4,7 +4,7 @@ ghost use Rattle.std.specs.Int.{int_max, int_min};
 ghost use Rattle.sched_model.specs.Valid.{is_moment};
 ghost use Rattle.region.specs.Cells.{bounds_of, unknown};
 ghost use Rattle.region.specs.Looks.{HasMoments, is_shifted, ect_in, lst_in};
-ghost use Rattle.prop_sets.specs.Rows.{asked_bounds, row_presence, row_of, seen, chosen_row, side_of, AreRows};
+ghost use Rattle.prop_sets.specs.code.Rows.{asked_bounds, row_presence, row_of, seen, chosen_row, side_of, AreRows};
 
 use region::{Bounds, Look, Presence, Region};
 use sched_base::{Itv, NoMemory};

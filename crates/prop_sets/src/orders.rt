@@ -2,10 +2,10 @@
 ghost use Rattle.std.specs.Prelude.{◌≡◌, ℕ, ◌<◌, ◌≤◌, neg_ℤ, length, IfOk};
 ghost use Rattle.std.specs.List.Sorted.{IsPermutation};
 ghost use Rattle.region.specs.Looks.{HasMoments};
-ghost use Rattle.theta_passes.specs.Rows.{row_at};
-ghost use Rattle.prop_sets.specs.Rows.{seen, side_of, member_at};
-ghost use Rattle.prop_sets.specs.Reordered.{IsReordered};
-ghost use Rattle.prop_sets.specs.Orders.{AreRising, AreKeyed, ArePlaces, AreStarts, AreNamed, AreSpanned, IsByStart, IsOrderBy, on_by, key_by, keyed_at};
+ghost use Rattle.theta_passes.specs.code.Rows.{row_at};
+ghost use Rattle.prop_sets.specs.code.Rows.{seen, side_of, member_at};
+ghost use Rattle.prop_sets.specs.code.Reordered.{IsReordered};
+ghost use Rattle.prop_sets.specs.code.Orders.{AreRising, AreKeyed, ArePlaces, AreStarts, AreNamed, AreSpanned, IsByStart, IsOrderBy, on_by, key_by, keyed_at};
 ghost use Rattle.prop_sets.specs.laws.Under.{IsMoment};
 
 use crate::numbers::{bounds_at, turned_moment};

@@ -1,12 +1,12 @@
 //! What the passes find of rows, with the sets that show it.
 ghost use Rattle.std.specs.Prelude.{◌≡◌, ◌⊎◌, ℕ, ◌<◌, ◌≤◌, ◌∷◌, List, true, false, None, Some, length, IfOk, IfNone, IfSome};
 ghost use Rattle.task_sets.specs.Times.{IsSized, has};
-ghost use Rattle.theta_passes.specs.Rows.{row_at, times_at, is_candidate, is_present, IsNearRow, IsByEst};
-ghost use Rattle.theta_passes.specs.Over.{NoOverloads, Overfull, OverPass};
-ghost use Rattle.theta_passes.specs.Edge.{PassOrNone, IsOrder, IsFound};
-ghost use Rattle.theta_passes.specs.Late.{LatePass, IsLow};
-ghost use Rattle.prop_sets.specs.Orders.{AreSpanned};
-ghost use Rattle.prop_sets.specs.Busy.{IsOverFound, IsEdgeFound, IsLateFound};
+ghost use Rattle.theta_passes.specs.code.Rows.{row_at, times_at, is_candidate, is_present, IsNearRow, IsByEst};
+ghost use Rattle.theta_passes.specs.code.Over.{NoOverloads, Overfull, OverPass};
+ghost use Rattle.theta_passes.specs.code.Edge.{PassOrNone, IsOrder, IsFound};
+ghost use Rattle.theta_passes.specs.code.Late.{LatePass, IsLow};
+ghost use Rattle.prop_sets.specs.code.Orders.{AreSpanned};
+ghost use Rattle.prop_sets.specs.code.Busy.{IsOverFound, IsEdgeFound, IsLateFound};
 
 use crate::orders::{By, order_by};
 use sched_base::NoMemory;

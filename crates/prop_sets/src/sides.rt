@@ -3,14 +3,14 @@ ghost use Rattle.std.specs.Prelude.{◌≡◌, ℕ, ◌≤◌, length, IfOk, IfN
 ghost use Rattle.region.specs.Looks.{IsRegionOf};
 ghost use Rattle.findings.specs.Found.{IsFinding};
 ghost use Rattle.refute_seq.specs.OnSequence.{refutes};
-ghost use Rattle.prop_sets.specs.Tasks.{quiet};
-ghost use Rattle.prop_sets.specs.Rows.{side_of};
-ghost use Rattle.prop_sets.specs.Sides.{NoEdge, NoDetect, NoNotEnd, IsSideQuiet};
+ghost use Rattle.prop_sets.specs.code.Tasks.{quiet};
+ghost use Rattle.prop_sets.specs.code.Rows.{side_of};
+ghost use Rattle.prop_sets.specs.code.Sides.{NoEdge, NoDetect, NoNotEnd, IsSideQuiet};
 ghost use Rattle.task_sets.specs.Times.{IsSized};
-ghost use Rattle.theta_passes.specs.Rows.{row_at, times_at, IsNearRow, IsByEst};
-ghost use Rattle.theta_passes.specs.Late.{IsLow};
-ghost use Rattle.prop_sets.specs.Given.{IsOf, IsRowed};
-ghost use Rattle.prop_sets.specs.Orders.{AreSpanned, IsByStart};
+ghost use Rattle.theta_passes.specs.code.Rows.{row_at, times_at, IsNearRow, IsByEst};
+ghost use Rattle.theta_passes.specs.code.Late.{IsLow};
+ghost use Rattle.prop_sets.specs.code.Given.{IsOf, IsRowed};
+ghost use Rattle.prop_sets.specs.code.Orders.{AreSpanned, IsByStart};
 
 use crate::answering::{answer_detect, answer_edge, answer_not_end, answer_overload};
 use crate::numbers::rows_of;

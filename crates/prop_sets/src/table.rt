@@ -7,11 +7,11 @@ ghost use Rattle.region.specs.declared.types.CellName.{CellName as CellNames};
 ghost use Rattle.region.specs.declared.types.CellName.TheVariants as cell;
 ghost use Rattle.region.specs.Looks.{IsRegionOf};
 ghost use Rattle.findings.specs.Found.{IsFinding};
-ghost use Rattle.findings.specs.Tables.{AreLists, members_in};
+ghost use Rattle.findings.specs.code.Tables.{AreLists, members_in};
 ghost use Rattle.refute_seq.specs.OnSequence.{refutes};
-ghost use Rattle.prop_sets.specs.Tasks.{size_of, sequence_in, sequence_at, members_at, quiet, watching, watching_best, is_bound, is_bound_of};
-ghost use Rattle.prop_sets.specs.Tables.{IsFor};
-ghost use Rattle.prop_sets.specs.Known.{IsStill, AreUnknown};
+ghost use Rattle.prop_sets.specs.code.Tasks.{size_of, sequence_in, sequence_at, members_at, quiet, watching, watching_best, is_bound, is_bound_of};
+ghost use Rattle.prop_sets.specs.code.Tables.{IsFor};
+ghost use Rattle.prop_sets.specs.code.Known.{IsStill, AreUnknown};
 
 use crate::known::{Numbers, is_remembered, numbers_in};
 use crate::orders::by_start;
@@ -35,8 +35,8 @@ pub struct PropSets {
 
 impl std::marker::Model for PropSets {
     ghost use Rattle.std.specs.Prelude.{◌<◌, ◌^◌, length};
-    ghost use Rattle.prop_sets.specs.Tables.{Table};
-    ghost use Rattle.prop_sets.specs.Known.{AreKnown};
+    ghost use Rattle.prop_sets.specs.code.Tables.{Table};
+    ghost use Rattle.prop_sets.specs.code.Known.{AreKnown};
 
     ghost Value = { Table };
 

@@ -8,18 +8,18 @@ use Rattle.std.proofs.lemmas.Int.{ints}
 use Rattle.sched_model.specs.Words.{passes}
 use Rattle.sched_model.specs.Data.{Data}
 use Rattle.region.specs.Cells.{Region}
-use Rattle.findings.specs.Reads.{IsUnrefuted}
+use Rattle.findings.specs.code.Reads.{IsUnrefuted}
 use Rattle.refute_state.specs.declared.demand.Demand.{Demand}
 use Rattle.refute_state.specs.declared.witness.StateWitness.TheVariants.{State, State3}
 use Rattle.refute_state.specs.Demands.{demand_at, of_one, same_state}
-use Rattle.refute_state.specs.Gathered.{demands_at}
+use Rattle.refute_state.specs.code.Gathered.{demands_at}
 use Rattle.refute_state.specs.OnState.{refutes}
 use Rattle.findings.specs.declared.ends.Ends.{Ends}
-use Rattle.findings.specs.Numbers.{ends_in}
+use Rattle.findings.specs.code.Numbers.{ends_in}
 use Rattle.prop_state.specs.declared.demands.Named.{Named}
-use Rattle.prop_state.specs.Tasks.{IsSilent, quiet, interval_in, intervals_at}
-use Rattle.prop_state.specs.Walks.{EachOf, SilentTwo, SilentThree, SilentAround, IsNamed, IsOf}
-use Rattle.prop_state.specs.Silence.{longest_part, IsCovered, may_refute_pair, may_refute_around, may_refute_triple}
+use Rattle.prop_state.specs.code.Tasks.{IsSilent, quiet, interval_in, intervals_at}
+use Rattle.prop_state.specs.code.Walks.{EachOf, SilentTwo, SilentThree, SilentAround, IsNamed, IsOf}
+use Rattle.prop_state.specs.code.Silence.{longest_part, IsCovered, may_refute_pair, may_refute_around, may_refute_triple}
 use Rattle.prop_state.specs.laws.Owners.{demand_here}
 use Rattle.prop_state.specs.laws.Quieting.{silent_two, silent_three}
 use Rattle.prop_state.specs.laws.Silence.{pair_silent, triple_silent, around_silent, states_silent, order_silent, same_silent, asked_from_silent, silent_from_asked}

@@ -8,11 +8,11 @@ use Rattle.sched_model.specs.Data.{Data}
 use Rattle.base_laws.specs.laws.Places.{each_pushed}
 use Rattle.refute_state.specs.declared.demand.Demand.{Demand}
 use Rattle.refute_state.specs.Demands.{demand_at}
-use Rattle.refute_state.specs.Gathered.{demands_at, demands_of}
-use Rattle.prop_state.specs.Tasks.{interval_in, intervals_at}
-use Rattle.prop_state.specs.Tables.{AreDemands, AreIntervals, HasRoom}
+use Rattle.refute_state.specs.code.Gathered.{demands_at, demands_of}
+use Rattle.prop_state.specs.code.Tasks.{interval_in, intervals_at}
+use Rattle.prop_state.specs.code.Tables.{AreDemands, AreIntervals, HasRoom}
 use Rattle.prop_state.specs.declared.demands.Named.{Named}
-use Rattle.prop_state.specs.Walks.{EachOf, IsNamed}
+use Rattle.prop_state.specs.code.Walks.{EachOf, IsNamed}
 use Rattle.prop_state.specs.laws.Unwatched.{few_demands}
 use Rattle.refute_state.specs.laws.Settled.{In}
 use Rattle.region.specs.Cells.{Region}

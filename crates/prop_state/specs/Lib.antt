@@ -1,5 +1,2 @@
-pub mod Tasks
-pub mod Tables
-pub mod Silence
-pub mod Walks
 pub mod laws
+pub mod code

@@ -1,6 +1,6 @@
 ghost use Rattle.std.specs.Prelude.{◌≡◌, ◌≤◌, true, false, length, IfSome, IfNone};
-ghost use Rattle.refute_state.specs.Gathered.{demands_at};
-ghost use Rattle.prop_state.specs.Walks.{EachOf, IsNamed, AreNamed};
+ghost use Rattle.refute_state.specs.code.Gathered.{demands_at};
+ghost use Rattle.prop_state.specs.code.Walks.{EachOf, IsNamed, AreNamed};
 
 use findings::{Ends, ends_in};
 use refute_state::{Demand, demand_at};

@@ -4,8 +4,8 @@ ghost use Rattle.region.specs.Looks.{IsRegionOf};
 ghost use Rattle.findings.specs.Found.{IsFinding};
 ghost use Rattle.refute_state.specs.declared.witness.StateWitness.TheVariants as witness;
 ghost use Rattle.refute_state.specs.OnState.{refutes};
-ghost use Rattle.prop_state.specs.Tasks.{IsSilent, quiet};
-ghost use Rattle.prop_state.specs.Walks.{AreNamed, EachOf, EachTwo, IsOf, SilentTwo};
+ghost use Rattle.prop_state.specs.code.Tasks.{IsSilent, quiet};
+ghost use Rattle.prop_state.specs.code.Walks.{AreNamed, EachOf, EachTwo, IsOf, SilentTwo};
 
 use crate::demands::Named;
 use crate::silence::may_refute_pair;

@@ -3,9 +3,9 @@ ghost use Rattle.std.specs.Prelude.{◌≡◌, ◌-ℤ◌, ◌≤ℤ◌, false, 
 ghost use Rattle.std.specs.Int.{int_max};
 ghost use Rattle.region.specs.Cells.{bounds_of, says_absent};
 ghost use Rattle.region.specs.Looks.{is_shifted};
-ghost use Rattle.findings.specs.Numbers.{ends_in, HasShifts};
-ghost use Rattle.prop_state.specs.Silence.{longest_part, IsCovered};
-ghost use Rattle.prop_state.specs.Walks.{EachOf};
+ghost use Rattle.findings.specs.code.Numbers.{ends_in, HasShifts};
+ghost use Rattle.prop_state.specs.code.Silence.{longest_part, IsCovered};
+ghost use Rattle.prop_state.specs.code.Walks.{EachOf};
 
 use crate::silence::is_absent;
 use findings::{Ends, ends_in};

@@ -1,7 +1,7 @@
 //! Where STATE and STATE3 find nothing, by a few comparisons.
 ghost use Rattle.std.specs.Prelude.{◌≡◌, ◌+ℤ◌, pos, int_lt, ◌||◌};
 ghost use Rattle.region.specs.Cells.{says_present, says_absent};
-ghost use Rattle.prop_state.specs.Silence.{is_late_in, may_be_late, nearly_two, nearly_three, may_stand_two, may_stand_three, may_clash, may_refute_two, may_all_be_late, may_refute_three, may_refute_pair, may_refute_around, may_refute_triple};
+ghost use Rattle.prop_state.specs.code.Silence.{is_late_in, may_be_late, nearly_two, nearly_three, may_stand_two, may_stand_three, may_clash, may_refute_two, may_all_be_late, may_refute_three, may_refute_pair, may_refute_around, may_refute_triple};
 
 use crate::demands::Named;
 use findings::Ends;
@@ -17,7 +17,7 @@ fn is_past(end: i64, n: i64, start: i64) -> bool
 }
 
 /// Whether the first can't end in time for the second.
-#[tactic(auto, unfolding(crate::specs::Silence::is_late_in))]
+#[tactic(auto, unfolding(crate::specs::code::Silence::is_late_in))]
 fn is_late_in(c: Ends, n: i64, d: Ends) -> bool
     ensures { result ≡ is_late_in c n d }
 {
@@ -25,7 +25,7 @@ fn is_late_in(c: Ends, n: i64, d: Ends) -> bool
 }
 
 /// Whether it can't under some guess on one of them.
-#[tactic(auto, unfolding(crate::specs::Silence::may_be_late))]
+#[tactic(auto, unfolding(crate::specs::code::Silence::may_be_late))]
 fn may_be_late(c: Ends, n: i64, d: Ends) -> bool
     ensures { result ≡ may_be_late c n d }
 {
@@ -45,14 +45,14 @@ pub fn is_absent(c: Ends) -> bool
     c.presence == Presence::Absent
 }
 
-#[tactic(auto, unfolding(crate::specs::Silence::nearly_three))]
+#[tactic(auto, unfolding(crate::specs::code::Silence::nearly_three))]
 fn nearly_three(p: bool, q: bool, s: bool) -> bool
     ensures { result ≡ nearly_three p q s }
 {
     (p && q) || (p && s) || (q && s)
 }
 
-#[tactic(auto, unfolding(crate::specs::Silence::nearly_two))]
+#[tactic(auto, unfolding(crate::specs::code::Silence::nearly_two))]
 fn nearly_two(p: bool, q: bool) -> bool
     ensures { result ≡ nearly_two p q }
 {
@@ -71,14 +71,14 @@ fn are_two_there(c: Ends, d: Ends, e: Ends) -> bool
     nearly_three(is_present(c), is_present(d), is_present(e))
 }
 
-#[tactic(auto, unfolding(crate::specs::Silence::may_stand_two))]
+#[tactic(auto, unfolding(crate::specs::code::Silence::may_stand_two))]
 fn may_stand_two(c: Ends, d: Ends) -> bool
     ensures { result ≡ may_stand_two c d }
 {
     !is_absent(c) && !is_absent(d) && is_some_there(c, d)
 }
 
-#[tactic(auto, unfolding(crate::specs::Silence::may_stand_three))]
+#[tactic(auto, unfolding(crate::specs::code::Silence::may_stand_three))]
 fn may_stand_three(c: Ends, d: Ends, e: Ends) -> bool
     ensures { result ≡ may_stand_three c d e }
 {
@@ -92,7 +92,7 @@ fn is_one_late(c: Ends, n: i64, d: Ends, k: i64) -> bool
     nearly_two(is_late_in(c, n, d), is_late_in(d, k, c))
 }
 
-#[tactic(auto, unfolding(crate::specs::Silence::may_refute_two))]
+#[tactic(auto, unfolding(crate::specs::code::Silence::may_refute_two))]
 fn may_refute_two(c: Ends, n: i64, d: Ends, k: i64) -> bool
     ensures { result ≡ may_refute_two c n d k }
 {
@@ -111,14 +111,14 @@ fn are_two_late(c: Ends, e: Ends, d: Ends, n: i64) -> bool
 }
 
 /// Whether each of these tests may hold under some guess.
-#[tactic(auto, unfolding(crate::specs::Silence::may_all_be_late))]
+#[tactic(auto, unfolding(crate::specs::code::Silence::may_all_be_late))]
 fn may_all_be_late(c: Ends, e: Ends, d: Ends, n: i64) -> bool
     ensures { result ≡ may_all_be_late c e d n }
 {
     may_be_late(e, 0, c) && may_be_late(d, 0, e) && may_be_late(c, n, d)
 }
 
-#[tactic(auto, unfolding(crate::specs::Silence::may_refute_three))]
+#[tactic(auto, unfolding(crate::specs::code::Silence::may_refute_three))]
 fn may_refute_three(c: Ends, e: Ends, d: Ends, n: i64) -> bool
     ensures { result ≡ may_refute_three c e d n }
 {
@@ -126,7 +126,7 @@ fn may_refute_three(c: Ends, e: Ends, d: Ends, n: i64) -> bool
 }
 
 /// Whether two demands may clash by their states, or by how they are aligned.
-#[tactic(auto, unfolding(crate::specs::Silence::may_clash))]
+#[tactic(auto, unfolding(crate::specs::code::Silence::may_clash))]
 fn may_clash(a: Demand, b: Demand) -> bool
     ensures { result ≡ may_clash a b }
 {
@@ -135,7 +135,7 @@ fn may_clash(a: Demand, b: Demand) -> bool
 }
 
 /// Whether STATE of two demands may refute, as the region stands or under a guess at the end of a cell.
-#[tactic(auto, unfolding(crate::specs::Silence::may_refute_pair))]
+#[tactic(auto, unfolding(crate::specs::code::Silence::may_refute_pair))]
 pub fn may_refute_pair(model: &Model, a: Named, b: Named) -> bool
     ensures { result ≡ may_refute_pair model.now a b }
 {
@@ -152,7 +152,7 @@ pub fn may_refute_pair(model: &Model, a: Named, b: Named) -> bool
 
 /// Whether STATE3 may refute of two demands of one state and some third between them whose compulsory
 /// part is never longer than this.
-#[tactic(auto, unfolding(crate::specs::Silence::may_refute_around))]
+#[tactic(auto, unfolding(crate::specs::code::Silence::may_refute_around))]
 pub fn may_refute_around(model: &Model, longest: i64, a: Named, b: Named) -> bool
     ensures { result ≡ may_refute_around model.now longest a b }
 {
@@ -165,7 +165,7 @@ pub fn may_refute_around(model: &Model, longest: i64, a: Named, b: Named) -> boo
 
 /// Whether STATE3 of three demands may refute, as the region stands or under a guess at the end of a
 /// cell.
-#[tactic(auto, unfolding(crate::specs::Silence::may_refute_triple))]
+#[tactic(auto, unfolding(crate::specs::code::Silence::may_refute_triple))]
 pub fn may_refute_triple(model: &Model, a: Named, x: Named, b: Named) -> bool
     ensures { result ≡ may_refute_triple model.now a x b }
 {

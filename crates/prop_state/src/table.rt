@@ -6,10 +6,10 @@ ghost use Rattle.region.specs.declared.types.CellName.{CellName as CellNames};
 ghost use Rattle.region.specs.declared.types.CellName.TheVariants as cell;
 ghost use Rattle.region.specs.Looks.{IsRegionOf};
 ghost use Rattle.findings.specs.Found.{IsFinding};
-ghost use Rattle.refute_state.specs.Gathered.{demands_of};
+ghost use Rattle.refute_state.specs.code.Gathered.{demands_of};
 ghost use Rattle.refute_state.specs.OnState.{refutes};
-ghost use Rattle.prop_state.specs.Tasks.{size_of, intervals_at, quiet, watching, watching_best, is_bound, is_bound_of};
-ghost use Rattle.prop_state.specs.Tables.{AreDemands, AreIntervals, IsFor};
+ghost use Rattle.prop_state.specs.code.Tasks.{size_of, intervals_at, quiet, watching, watching_best, is_bound, is_bound_of};
+ghost use Rattle.prop_state.specs.code.Tables.{AreDemands, AreIntervals, IsFor};
 
 use crate::demands::{NONE, Named, note_demands};
 use crate::pairs::ask_pairs;
@@ -34,7 +34,7 @@ pub struct PropState {
 
 impl std::marker::Model for PropState {
     ghost use Rattle.std.specs.Prelude.{◌<◌, ◌^◌, length};
-    ghost use Rattle.prop_state.specs.Tables.{Table, HasRoom};
+    ghost use Rattle.prop_state.specs.code.Tables.{Table, HasRoom};
 
     ghost Value = { Table };
 

@@ -4,9 +4,9 @@ ghost use Rattle.region.specs.Looks.{IsRegionOf};
 ghost use Rattle.findings.specs.Found.{IsFinding};
 ghost use Rattle.refute_state.specs.declared.witness.StateWitness.TheVariants as witness;
 ghost use Rattle.refute_state.specs.OnState.{refutes};
-ghost use Rattle.prop_state.specs.Tasks.{IsSilent, quiet};
-ghost use Rattle.prop_state.specs.Silence.{IsCovered};
-ghost use Rattle.prop_state.specs.Walks.{AreNamed, EachOf, EachThree, IsOf, SilentAround, SilentThree};
+ghost use Rattle.prop_state.specs.code.Tasks.{IsSilent, quiet};
+ghost use Rattle.prop_state.specs.code.Silence.{IsCovered};
+ghost use Rattle.prop_state.specs.code.Walks.{AreNamed, EachOf, EachThree, IsOf, SilentAround, SilentThree};
 
 use crate::demands::Named;
 use crate::parts::longest_of;

@@ -15,8 +15,8 @@ use Rattle.sched_model.specs.Words.{passes}
 use Rattle.sched_model.specs.Data.{same}
 use Rattle.refute_basic.specs.laws.Arc.{ends_of}
 use Rattle.refute_basic.specs.Standing.{is_no_overlap}
-use Rattle.prop_temporal.specs.Tables.{FitEach, AreOptional, AreDisjunctive, ends_at}
-use Rattle.prop_temporal.specs.Tasks.{is_optional, has_sequence}
+use Rattle.prop_temporal.specs.code.Tables.{FitEach, AreOptional, AreDisjunctive, ends_at}
+use Rattle.prop_temporal.specs.code.Tasks.{is_optional, has_sequence}
 use Rattle.base_laws.specs.laws.Places.{newest, there}
 
 -- the optional intervals among the first

@@ -7,8 +7,8 @@ use Rattle.sched_base.specs.declared.ids.Seq.{Seq}
 use Rattle.sched_model.specs.Data.{Data, has}
 use Rattle.region.specs.declared.types.CellName.{CellName}
 use Rattle.region.specs.declared.types.CellName.TheVariants as cell
-use Rattle.prop_temporal.specs.Tasks.{watching, is_cell_of, is_bound, is_of_walks, has_sequence}
-use Rattle.prop_temporal.specs.Tables.{Table, IsFor}
+use Rattle.prop_temporal.specs.code.Tasks.{watching, is_cell_of, is_bound, is_of_walks, has_sequence}
+use Rattle.prop_temporal.specs.code.Tables.{Table, IsFor}
 
 or_nothing : (b : Bool) → (b || false) ≡ b
 or_nothing true = refl

@@ -4,7 +4,7 @@ ghost use Rattle.region.specs.Looks.{IsRegionOf};
 ghost use Rattle.findings.specs.Found.{IsFinding};
 ghost use Rattle.refute_basic.specs.declared.witness.BasicWitness.TheVariants as basic;
 ghost use Rattle.refute_basic.specs.Basic.{refutes};
-ghost use Rattle.prop_temporal.specs.Tasks.{IsSilent, quiet, reads_of};
+ghost use Rattle.prop_temporal.specs.code.Tasks.{IsSilent, quiet, reads_of};
 
 use crate::silence::is_surely_silent;
 use findings::{Finding, ask};

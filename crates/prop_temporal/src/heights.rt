@@ -1,6 +1,6 @@
 //! Heights of points, and whether they fall along arcs.
 ghost use Rattle.std.specs.Prelude.{◌≡◌, ◌+ℤ◌, true, int_lt, length};
-ghost use Rattle.prop_temporal.specs.Heights.{AllKeep, height_in, height_with};
+ghost use Rattle.prop_temporal.specs.code.Heights.{AllKeep, height_in, height_with};
 
 use refute_basic::Arc;
 

@@ -1,6 +1,6 @@
 //! The members of the sequences of constraints.
 ghost use Rattle.std.specs.Prelude.{◌≡◌, slice_get};
-ghost use Rattle.prop_temporal.specs.Members.{members_at, told_in};
+ghost use Rattle.prop_temporal.specs.code.Members.{members_at, told_in};
 ghost use Rattle.refute_basic.specs.Cycle.{itv};
 
 use refute_basic::{ArcName, members_of, precedes};

@@ -2,8 +2,8 @@
 ghost use Rattle.std.specs.Prelude.{◌≡◌, ◌≤ℤ◌, ◌^◌, pos, neg_ℤ, true, length, slice_get, OnOk};
 ghost use Rattle.region.specs.Looks.{IsRegionOf};
 ghost use Rattle.refute_basic.specs.Witness.{is_name};
-ghost use Rattle.prop_temporal.specs.Members.{members_at};
-ghost use Rattle.prop_temporal.specs.Shown.{AreShown, HasTried, Tries, TriesAll, IsOfConstraint, IsOfInterval, IsOfPrecedence, IsOfOrder, IsOfSide, IsOfMember, name, member_name};
+ghost use Rattle.prop_temporal.specs.code.Members.{members_at};
+ghost use Rattle.prop_temporal.specs.code.Shown.{AreShown, HasTried, Tries, TriesAll, IsOfConstraint, IsOfInterval, IsOfPrecedence, IsOfOrder, IsOfSide, IsOfMember, name, member_name};
 ghost use Rattle.prop_temporal.specs.laws.Own.{HasOwn};
 
 use crate::members::{is_told, members_at};
@@ -21,7 +21,7 @@ pub struct Shown {
 }
 
 impl std::marker::Model for Shown {
-    ghost use Rattle.prop_temporal.specs.Shown.{Shown};
+    ghost use Rattle.prop_temporal.specs.code.Shown.{Shown};
 
     ghost Value = { Shown };
 

@@ -4,7 +4,7 @@ ghost use Rattle.std.specs.Int.{int_max, int_min};
 ghost use Rattle.sched_model.specs.declared.types.Constraint.TheVariants.{Temporal};
 ghost use Rattle.sched_model.specs.Words.{passes};
 ghost use Rattle.region.specs.Cells.{says_present};
-ghost use Rattle.prop_temporal.specs.Silence.{earliest_in, latest_in, highest_in, lowest_in, is_in_time, is_silent_way};
+ghost use Rattle.prop_temporal.specs.code.Silence.{earliest_in, latest_in, highest_in, lowest_in, is_in_time, is_silent_way};
 
 use region::{Bounds, Presence, Region};
 use sched_base::{Itv, at};

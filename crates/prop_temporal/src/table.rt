@@ -10,8 +10,8 @@ ghost use Rattle.findings.specs.Found.{IsFinding};
 ghost use Rattle.refute_basic.specs.Basic.{refutes};
 ghost use Rattle.refute_basic.specs.laws.Arc.{ends_of};
 ghost use Rattle.refute_basic.specs.Standing.{is_no_overlap};
-ghost use Rattle.prop_temporal.specs.Tasks.{size_of, quiet, watching, watching_best, is_cell_of, is_bound, is_of_walks, has_sequence};
-ghost use Rattle.prop_temporal.specs.Tables.{FitEach, AreOptional, AreDisjunctive, IsFor};
+ghost use Rattle.prop_temporal.specs.code.Tasks.{size_of, quiet, watching, watching_best, is_cell_of, is_bound, is_of_walks, has_sequence};
+ghost use Rattle.prop_temporal.specs.code.Tables.{FitEach, AreOptional, AreDisjunctive, IsFor};
 
 use crate::ends::ask_constraint;
 use crate::sources::Sources;
@@ -40,7 +40,7 @@ pub struct PropTemporal {
 
 impl std::marker::Model for PropTemporal {
     ghost use Rattle.std.specs.Prelude.{◌<◌, ◌^◌, length};
-    ghost use Rattle.prop_temporal.specs.Tables.{Table};
+    ghost use Rattle.prop_temporal.specs.code.Tables.{Table};
 
     ghost Value = { Table };
 

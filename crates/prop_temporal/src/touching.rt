@@ -1,9 +1,9 @@
 //! Which constraints name each interval, or a sequence of which it is a member.
 ghost use Rattle.std.specs.Prelude.{◌≡◌, ◌<◌, ◌++◌, ◌∷◌, [], length, get_or, slice_set, IfOk, OnOk};
 ghost use Rattle.sched_model.specs.Data.{Data};
-ghost use Rattle.prop_temporal.specs.Heights.{AreTouched};
-ghost use Rattle.prop_temporal.specs.Tables.{FitEach};
-ghost use Rattle.prop_temporal.specs.Touches.{Touches, AreTouchedBy};
+ghost use Rattle.prop_temporal.specs.code.Heights.{AreTouched};
+ghost use Rattle.prop_temporal.specs.code.Tables.{FitEach};
+ghost use Rattle.prop_temporal.specs.code.Touches.{Touches, AreTouchedBy};
 
 use crate::members::members_at;
 use sched_base::{Itv, List, NoMemory};

@@ -6,9 +6,9 @@ ghost use Rattle.findings.specs.Found.{IsFinding};
 ghost use Rattle.refute_basic.specs.declared.arc_name.ArcName.{ArcName as Name};
 ghost use Rattle.refute_basic.specs.declared.witness.BasicWitness.TheVariants as basic;
 ghost use Rattle.refute_basic.specs.Basic.{refutes};
-ghost use Rattle.prop_temporal.specs.Tasks.{quiet};
-ghost use Rattle.prop_temporal.specs.Shown.{AreShown, HasTried, name_at};
-ghost use Rattle.prop_temporal.specs.Heights.{AreTouched, IsReady, OwnKeep};
+ghost use Rattle.prop_temporal.specs.code.Tasks.{quiet};
+ghost use Rattle.prop_temporal.specs.code.Shown.{AreShown, HasTried, name_at};
+ghost use Rattle.prop_temporal.specs.code.Heights.{AreTouched, IsReady, OwnKeep};
 ghost use Rattle.prop_temporal.specs.laws.Quieting.{NoWalk, present_at};
 
 use crate::heights::{hold, hold_with, least_heights};
@@ -128,7 +128,7 @@ pub struct Walks {
 }
 
 impl std::marker::Model for Walks {
-    ghost use Rattle.prop_temporal.specs.Heights.{Kept};
+    ghost use Rattle.prop_temporal.specs.code.Heights.{Kept};
 
     ghost Value = { Kept };
 

@@ -19,7 +19,7 @@ use Rattle.region.specs.Looks.{IsRegionOf, seen_at, ect_in, lst_in}
 use Rattle.region.specs.laws.Lists.{both_true, true_both}
 use Rattle.region.specs.laws.OneSequence.{same_self}
 use Rattle.findings.specs.Ends.{is_open_end, is_end}
-use Rattle.findings.specs.Numbers.{highest_end, lowest_start}
+use Rattle.findings.specs.code.Numbers.{highest_end, lowest_start}
 use Rattle.refute_seq.specs.declared.witness.SeqWitness.TheVariants.{Pair, Triple}
 use Rattle.refute_seq.specs.OnSequence.{refutes}
 use Rattle.refute_seq.specs.declared.witness.SeqWitness.{SeqWitness}
@@ -29,9 +29,9 @@ use Rattle.region.specs.declared.types.Topic.TheVariants.{Two}
 use Rattle.prop_unary.specs.laws.Under.{asks_itself}
 use Rattle.prop_unary.specs.laws.Circles.{circles_quiet}
 use Rattle.prop_unary.specs.declared.disjunctive.Disjunctive.{Disjunctive}
-use Rattle.prop_unary.specs.Tasks.{IsSilent, quiet}
-use Rattle.prop_unary.specs.Silence.{IsDisjunctive, stays_in_time, is_silent_two, reach, AreSilent, AreSilentWhere}
-use Rattle.prop_unary.specs.Circles.{EachOf, SilentBehind, SilentAround, SilentAt}
+use Rattle.prop_unary.specs.code.Tasks.{IsSilent, quiet}
+use Rattle.prop_unary.specs.code.Silence.{IsDisjunctive, stays_in_time, is_silent_two, reach, AreSilent, AreSilentWhere}
+use Rattle.prop_unary.specs.code.Circles.{EachOf, SilentBehind, SilentAround, SilentAt}
 use Rattle.prop_unary.specs.laws.Silence.{silent_pair, silent_itself, backward_pair}
 use Rattle.prop_unary.specs.laws.Quieting.{pairs_quiet, pair_silent, triple_silent}
 

@@ -11,11 +11,11 @@ use Rattle.region.specs.declared.types.Bounds.{Bounds}
 use Rattle.region.specs.declared.types.OrderCell.{OrderCell}
 use Rattle.region.specs.Cells.{Region, bounds_of, says_absent}
 use Rattle.findings.specs.declared.ends.Ends.{Ends}
-use Rattle.findings.specs.Numbers.{ends_of}
+use Rattle.findings.specs.code.Numbers.{ends_of}
 use Rattle.prop_unary.specs.declared.places.Places.{Places}
 use Rattle.prop_unary.specs.declared.disjunctive.Disjunctive.{Disjunctive}
-use Rattle.prop_unary.specs.Silence.{IsDisjunctive, are_silent_ends, is_silent_two, reach, AreSilentWhere}
-use Rattle.prop_unary.specs.Rows.{has_place, may_stand, member_at, IsRow}
+use Rattle.prop_unary.specs.code.Silence.{IsDisjunctive, are_silent_ends, is_silent_two, reach, AreSilentWhere}
+use Rattle.prop_unary.specs.code.Rows.{has_place, may_stand, member_at, IsRow}
 use Rattle.prop_unary.proofs.Asked.{silent_same, silent_tested}
 
 -- one more at its place

@@ -7,8 +7,8 @@ use Rattle.std.proofs.lemmas.Bool.Decides.{nat_tests}
 use Rattle.sched_base.specs.declared.ids.Itv.{Itv}
 use Rattle.sched_model.specs.Data.{same, has}
 use Rattle.region.specs.laws.OneSequence.{same_is, has_cases}
-use Rattle.prop_unary.specs.Circles.{EachOf, EachBetween}
-use Rattle.prop_unary.specs.Rows.{member_at}
+use Rattle.prop_unary.specs.code.Circles.{EachOf, EachBetween}
+use Rattle.prop_unary.specs.code.Rows.{member_at}
 use Rattle.prop_unary.specs.laws.Rows.{each_placed}
 
 pub each_none : (P : Itv → Type 0) (xs : List Itv) → EachOf P (take 0 xs)

@@ -10,10 +10,10 @@ use Rattle.sched_model.specs.Data.{Data, has, members_of}
 use Rattle.region.specs.declared.types.CellName.{CellName}
 use Rattle.region.specs.declared.types.CellName.TheVariants as cell
 use Rattle.region.specs.laws.OneSequence.{has_cases}
-use Rattle.findings.specs.Reads.{reads_cell, is_paired}
-use Rattle.prop_unary.specs.Tasks.{sequence_in, sequence_at, reads_pair, reads_triple, pairs_of, watching, is_bound, is_bound_of}
-use Rattle.findings.specs.Tables.{members_in}
-use Rattle.prop_unary.specs.Tables.{as_list}
+use Rattle.findings.specs.code.Reads.{reads_cell, is_paired}
+use Rattle.prop_unary.specs.code.Tasks.{sequence_in, sequence_at, reads_pair, reads_triple, pairs_of, watching, is_bound, is_bound_of}
+use Rattle.findings.specs.code.Tables.{members_in}
+use Rattle.prop_unary.specs.code.Tables.{as_list}
 use Rattle.prop_unary.specs.laws.Pairs.{named_member, named_sequence}
 
 -- what a pair of a constraint or a sequence names

@@ -10,9 +10,9 @@ ghost use Rattle.findings.specs.Found.{IsFinding};
 ghost use Rattle.refute_seq.specs.declared.witness.SeqWitness.TheVariants as witness;
 ghost use Rattle.refute_seq.specs.Standing.{precedes};
 ghost use Rattle.refute_seq.specs.OnSequence.{refutes};
-ghost use Rattle.prop_unary.specs.Tasks.{IsSilent, quiet};
-ghost use Rattle.prop_unary.specs.Rows.{has_place, may_stand, member_at, IsRow, AreRows};
-ghost use Rattle.prop_unary.specs.Circles.{EachOf, IsMet, SilentBehind, SilentAround, SilentAt};
+ghost use Rattle.prop_unary.specs.code.Tasks.{IsSilent, quiet};
+ghost use Rattle.prop_unary.specs.code.Rows.{has_place, may_stand, member_at, IsRow, AreRows};
+ghost use Rattle.prop_unary.specs.code.Circles.{EachOf, IsMet, SilentBehind, SilentAround, SilentAt};
 
 use crate::places::Places;
 use findings::Finding;

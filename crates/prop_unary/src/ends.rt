@@ -1,6 +1,6 @@
 //! The numbers of the members of a sequence.
 ghost use Rattle.std.specs.Prelude.{◌≡◌, ◌≤◌, length};
-ghost use Rattle.prop_unary.specs.Silence.{AreEnds};
+ghost use Rattle.prop_unary.specs.code.Silence.{AreEnds};
 
 use findings::{Ends, ends_at};
 use region::Look;

@@ -1,6 +1,6 @@
 //! The sequence of each propagator.
 ghost use Rattle.std.specs.Prelude.{◌≡◌, ◌<◌, ◌^◌, Some, length, slice_get};
-ghost use Rattle.prop_unary.specs.Tasks.{size_of, sequence_in, sequence_at};
+ghost use Rattle.prop_unary.specs.code.Tasks.{size_of, sequence_in, sequence_at};
 
 use sched_base::Seq;
 use sched_model::{Constraint, Model};

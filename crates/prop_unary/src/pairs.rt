@@ -5,12 +5,12 @@ ghost use Rattle.region.specs.Cells.{bounds_of};
 ghost use Rattle.sched_model.specs.Data.{members_of};
 ghost use Rattle.region.specs.Looks.{IsRegionOf};
 ghost use Rattle.findings.specs.Found.{IsFinding};
-ghost use Rattle.findings.specs.Numbers.{ends_of};
+ghost use Rattle.findings.specs.code.Numbers.{ends_of};
 ghost use Rattle.refute_seq.specs.declared.witness.SeqWitness.TheVariants as witness;
 ghost use Rattle.refute_seq.specs.OnSequence.{refutes};
-ghost use Rattle.prop_unary.specs.Tasks.{IsSilent, quiet};
-ghost use Rattle.prop_unary.specs.Silence.{IsDisjunctive, AreSilent, AreSilentWhere, SilentRow, AreEnds};
-ghost use Rattle.prop_unary.specs.Circles.{EachOf, EachBetween};
+ghost use Rattle.prop_unary.specs.code.Tasks.{IsSilent, quiet};
+ghost use Rattle.prop_unary.specs.code.Silence.{IsDisjunctive, AreSilent, AreSilentWhere, SilentRow, AreEnds};
+ghost use Rattle.prop_unary.specs.code.Circles.{EachOf, EachBetween};
 
 use crate::disjunctive::Disjunctive;
 use crate::ends::note_ends;

@@ -1,6 +1,6 @@
 //! Sets of places among the members of a sequence, a bit for each.
 ghost use Rattle.std.specs.Prelude.{◌≡◌, ◌<◌, ◌≤◌, ℕ, true, false, ◌||◌, ◌&&◌, length, nat_eq, nat_lt};
-ghost use Rattle.prop_unary.specs.Rows.{has_place, has_word};
+ghost use Rattle.prop_unary.specs.code.Rows.{has_place, has_word};
 
 const WORDS: usize = 8;
 

@@ -4,8 +4,8 @@ ghost use Rattle.std.specs.Int.{int_max};
 ghost use Rattle.region.specs.declared.types.OrderCell.TheVariants as order;
 ghost use Rattle.region.specs.Cells.{says_present, says_absent, bounds_of};
 ghost use Rattle.region.specs.Looks.{IsRegionOf};
-ghost use Rattle.findings.specs.Numbers.{ends_of};
-ghost use Rattle.prop_unary.specs.Silence.{are_in_time, are_silent_ends, is_silent_two, reach};
+ghost use Rattle.findings.specs.code.Numbers.{ends_of};
+ghost use Rattle.prop_unary.specs.code.Silence.{are_in_time, are_silent_ends, is_silent_two, reach};
 
 use crate::disjunctive::Disjunctive;
 use findings::Ends;

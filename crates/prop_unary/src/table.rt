@@ -8,10 +8,10 @@ ghost use Rattle.region.specs.declared.types.CellName.{CellName as CellNames};
 ghost use Rattle.region.specs.declared.types.CellName.TheVariants as cell;
 ghost use Rattle.region.specs.Looks.{IsRegionOf};
 ghost use Rattle.findings.specs.Found.{IsFinding};
-ghost use Rattle.findings.specs.Tables.{AreLists, members_in};
+ghost use Rattle.findings.specs.code.Tables.{AreLists, members_in};
 ghost use Rattle.refute_seq.specs.OnSequence.{refutes};
-ghost use Rattle.prop_unary.specs.Tasks.{size_of, sequence_in, quiet, watching, watching_best, is_bound, is_bound_of};
-ghost use Rattle.prop_unary.specs.Tables.{IsFor, members_at, sequences_at, as_list};
+ghost use Rattle.prop_unary.specs.code.Tasks.{size_of, sequence_in, quiet, watching, watching_best, is_bound, is_bound_of};
+ghost use Rattle.prop_unary.specs.code.Tables.{IsFor, members_at, sequences_at, as_list};
 
 use crate::circles::ask_circles;
 use crate::disjunctive::Disjunctive;
@@ -47,7 +47,7 @@ const MOST: usize = 500;
 
 impl std::marker::Model for PropUnary {
     ghost use Rattle.std.specs.Prelude.{◌≡◌, ◌<◌, ◌^◌, length};
-    ghost use Rattle.prop_unary.specs.Tables.{Table};
+    ghost use Rattle.prop_unary.specs.code.Tables.{Table};
 
     ghost Value = { Table };
 

@@ -4,13 +4,13 @@ use Rattle.std.proofs.Common.{arith}
 use Rattle.sched_model.specs.Data.{Data}
 use Rattle.sched_model.specs.Valid.{IsValid}
 use Rattle.sched_model.specs.laws.Limits.{limits_of}
-use Rattle.prop_basic.specs.Tasks.{size_of}
-use Rattle.prop_temporal.specs.Tasks.{size_of as size_of_temporal}
-use Rattle.prop_hier.specs.Tasks.{size_of as size_of_hier}
-use Rattle.prop_unary.specs.Tasks.{size_of as size_of_unary}
-use Rattle.prop_sets.specs.Tasks.{size_of as size_of_sets}
-use Rattle.prop_cumul.specs.Tasks.{size_of as size_of_cumul}
-use Rattle.prop_state.specs.Tasks.{size_of as size_of_state}
+use Rattle.prop_basic.specs.code.Tasks.{size_of}
+use Rattle.prop_temporal.specs.code.Tasks.{size_of as size_of_temporal}
+use Rattle.prop_hier.specs.code.Tasks.{size_of as size_of_hier}
+use Rattle.prop_unary.specs.code.Tasks.{size_of as size_of_unary}
+use Rattle.prop_sets.specs.code.Tasks.{size_of as size_of_sets}
+use Rattle.prop_cumul.specs.code.Tasks.{size_of as size_of_cumul}
+use Rattle.prop_state.specs.code.Tasks.{size_of as size_of_state}
 
 pub not_too_many : (m : Data) → IsValid m → (n : ℕ) → n ≤ size_of m + (size_of_temporal m + (size_of_hier m + (size_of_unary m + (size_of_sets m + (size_of_cumul m + size_of_state m))))) → (2 ^ 32) ≤ n → ⊥
 not_too_many m valid n all many =

@@ -7,16 +7,16 @@ use Rattle.sched_base.specs.declared.ids.Seq.{Seq}
 use Rattle.sched_model.specs.Data.{Data, has}
 use Rattle.region.specs.declared.types.CellName.{CellName}
 use Rattle.region.specs.declared.types.CellName.TheVariants as cell
-use Rattle.findings.specs.Reads.{reads_cell}
+use Rattle.findings.specs.code.Reads.{reads_cell}
 use Rattle.refute_basic.specs.declared.witness.BasicWitness.TheVariants.{Size, Expr}
-use Rattle.prop_basic.specs.Tasks.{reads_of, watching, is_cell_of}
-use Rattle.prop_temporal.specs.Tasks.{watching as watching_walks, is_bound, has_sequence}
-use Rattle.prop_hier.specs.Tasks.{watching as watching_hier, is_bound as is_bound_hier, is_cell_of as is_cell_of_hier}
-use Rattle.prop_unary.specs.Tasks.{watching as watching_unary, is_bound as is_bound_unary, is_bound_of}
-use Rattle.prop_cumul.specs.Tasks.{watching as watching_cumul, is_cell_of as is_cell_of_cumul}
-use Rattle.prop_state.specs.Tasks.{watching as watching_state, is_bound as is_bound_state, is_bound_of as is_bound_of_state}
-use Rattle.prop_sets.specs.Tasks.{watching as watching_sets, is_bound as is_bound_sets, is_bound_of as is_bound_of_sets}
-use Rattle.engine.specs.Watched.{names_presence, names_bound, names_order}
+use Rattle.prop_basic.specs.code.Tasks.{reads_of, watching, is_cell_of}
+use Rattle.prop_temporal.specs.code.Tasks.{watching as watching_walks, is_bound, has_sequence}
+use Rattle.prop_hier.specs.code.Tasks.{watching as watching_hier, is_bound as is_bound_hier, is_cell_of as is_cell_of_hier}
+use Rattle.prop_unary.specs.code.Tasks.{watching as watching_unary, is_bound as is_bound_unary, is_bound_of}
+use Rattle.prop_cumul.specs.code.Tasks.{watching as watching_cumul, is_cell_of as is_cell_of_cumul}
+use Rattle.prop_state.specs.code.Tasks.{watching as watching_state, is_bound as is_bound_state, is_bound_of as is_bound_of_state}
+use Rattle.prop_sets.specs.code.Tasks.{watching as watching_sets, is_bound as is_bound_sets, is_bound_of as is_bound_of_sets}
+use Rattle.engine.specs.code.Watched.{names_presence, names_bound, names_order}
 use Rattle.base_laws.specs.laws.Truth.{alone}
 
 pub presence_named : (xs : List Itv) (c : CellName) → IsTrue (is_cell_of xs c) → names_presence xs c

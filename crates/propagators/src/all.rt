@@ -3,7 +3,7 @@ ghost use Rattle.sched_model.specs.Data.{Data};
 ghost use Rattle.sched_model.specs.Valid.{IsValid};
 ghost use Rattle.region.specs.Cells.{Region};
 ghost use Rattle.region.specs.Looks.{IsRegionOf};
-ghost use Rattle.engine.specs.Engines.{IsFor, AreQuiet, AreAwake};
+ghost use Rattle.engine.specs.code.Engines.{IsFor, AreQuiet, AreAwake};
 ghost use Rattle.propagators.specs.Quiet.{IsQuietRegion};
 
 use crate::basic::FromBasic;

@@ -11,8 +11,8 @@ use sched_model::Model;
 pub struct FromBasic(pub PropBasic);
 
 impl Propagator for FromBasic {
-    ghost use Rattle.prop_basic.specs.Tables.{IsFor};
-    ghost use Rattle.prop_basic.specs.Tasks.{size_of, quiet, watching, watching_best};
+    ghost use Rattle.prop_basic.specs.code.Tables.{IsFor};
+    ghost use Rattle.prop_basic.specs.code.Tasks.{size_of, quiet, watching, watching_best};
     ghost use Rattle.prop_basic.specs.laws.Unwatched.{unwatched};
 
     ghost is_of = { λ p m. IsFor p.0 m };

@@ -11,8 +11,8 @@ use sched_model::Model;
 pub struct FromCumul(pub PropCumul);
 
 impl Propagator for FromCumul {
-    ghost use Rattle.prop_cumul.specs.Tables.{IsFor};
-    ghost use Rattle.prop_cumul.specs.Tasks.{size_of, quiet, watching, watching_best};
+    ghost use Rattle.prop_cumul.specs.code.Tables.{IsFor};
+    ghost use Rattle.prop_cumul.specs.code.Tasks.{size_of, quiet, watching, watching_best};
     ghost use Rattle.prop_cumul.specs.laws.Unwatched.{unwatched};
 
     ghost is_of = { λ p m. IsFor p.0 m };

@@ -12,8 +12,8 @@ use sched_model::Model;
 pub struct FromHier(pub PropHier);
 
 impl Propagator for FromHier {
-    ghost use Rattle.prop_hier.specs.Tables.{IsFor};
-    ghost use Rattle.prop_hier.specs.Tasks.{size_of, quiet, watching, watching_best};
+    ghost use Rattle.prop_hier.specs.code.Tables.{IsFor};
+    ghost use Rattle.prop_hier.specs.code.Tasks.{size_of, quiet, watching, watching_best};
     ghost use Rattle.prop_hier.specs.laws.Unwatched.{unwatched};
 
     ghost is_of = { λ p m. IsFor p.0 m };

@@ -12,8 +12,8 @@ use sched_model::Model;
 pub struct FromSets(pub PropSets);
 
 impl Propagator for FromSets {
-    ghost use Rattle.prop_sets.specs.Tables.{IsFor};
-    ghost use Rattle.prop_sets.specs.Tasks.{size_of, quiet, watching, watching_best};
+    ghost use Rattle.prop_sets.specs.code.Tables.{IsFor};
+    ghost use Rattle.prop_sets.specs.code.Tasks.{size_of, quiet, watching, watching_best};
     ghost use Rattle.prop_sets.specs.laws.Unwatched.{unwatched};
 
     ghost is_of = { λ p m. IsFor p.0 m };

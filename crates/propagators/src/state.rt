@@ -11,8 +11,8 @@ use sched_model::Model;
 pub struct FromState(pub PropState);
 
 impl Propagator for FromState {
-    ghost use Rattle.prop_state.specs.Tables.{IsFor};
-    ghost use Rattle.prop_state.specs.Tasks.{size_of, quiet, watching, watching_best};
+    ghost use Rattle.prop_state.specs.code.Tables.{IsFor};
+    ghost use Rattle.prop_state.specs.code.Tasks.{size_of, quiet, watching, watching_best};
     ghost use Rattle.prop_state.specs.laws.Unwatched.{unwatched};
 
     ghost is_of = { λ p m. IsFor p.0 m };

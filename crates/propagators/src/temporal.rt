@@ -11,8 +11,8 @@ use sched_model::Model;
 pub struct FromTemporal(pub PropTemporal);
 
 impl Propagator for FromTemporal {
-    ghost use Rattle.prop_temporal.specs.Tables.{IsFor};
-    ghost use Rattle.prop_temporal.specs.Tasks.{size_of, quiet, watching, watching_best};
+    ghost use Rattle.prop_temporal.specs.code.Tables.{IsFor};
+    ghost use Rattle.prop_temporal.specs.code.Tasks.{size_of, quiet, watching, watching_best};
     ghost use Rattle.prop_temporal.specs.laws.Unwatched.{unwatched};
 
     ghost is_of = { λ p m. IsFor p.0 m };

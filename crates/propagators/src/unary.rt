@@ -12,8 +12,8 @@ use sched_model::Model;
 pub struct FromUnary(pub PropUnary);
 
 impl Propagator for FromUnary {
-    ghost use Rattle.prop_unary.specs.Tables.{IsFor};
-    ghost use Rattle.prop_unary.specs.Tasks.{size_of, quiet, watching, watching_best};
+    ghost use Rattle.prop_unary.specs.code.Tables.{IsFor};
+    ghost use Rattle.prop_unary.specs.code.Tasks.{size_of, quiet, watching, watching_best};
     ghost use Rattle.prop_unary.specs.laws.Unwatched.{unwatched};
 
     ghost is_of = { λ p m. IsFor p.0 m };

@@ -1,4 +1,1 @@
-pub mod Trees
-pub mod Written
-pub mod Says
-pub mod Laws
+pub mod code

@@ -1,4 +1,2 @@
 pub mod Schedules
-pub mod Rows
-pub mod Reads
-pub mod Promises
+pub mod code

@@ -3,7 +3,7 @@ ghost use Rattle.sched_model.specs.Domain.{are_segments, fits_def, is_in_domain,
 ghost use Rattle.sched_model.specs.Value.{is_present, present_of};
 ghost use Rattle.sched_model.specs.Valid.{IsValid};
 ghost use Rattle.sched_model.specs.Words.{placewise};
-ghost use Rattle.read_schedule.specs.Reads.{Exchanged, HasSlots, Tested, sequence_at, state_at};
+ghost use Rattle.read_schedule.specs.code.Reads.{Exchanged, HasSlots, Tested, sequence_at, state_at};
 
 use sched_base::{Itv, List, NoMemory};
 use sched_model::{Assignment, Model, Segment, SequenceDef, Slot, Slots, in_domain};

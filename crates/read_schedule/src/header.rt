@@ -1,7 +1,7 @@
 ghost use Rattle.std.specs.Prelude.{◌≡◌, ◌∷◌, [], ℤ, true};
 ghost use Rattle.textline.specs.Lines.{words_of};
 ghost use Rattle.read_schedule.specs.Schedules.{IsCount, IsVerdict};
-ghost use Rattle.read_schedule.specs.Reads.{Decides, IsNumberAlone, IsCountAlone, TakesHeader};
+ghost use Rattle.read_schedule.specs.code.Reads.{Decides, IsNumberAlone, IsCountAlone, TakesHeader};
 
 use crate::lines::Lines;
 use crate::words::take_number;

@@ -2,7 +2,7 @@ ghost use Rattle.std.specs.Prelude.{◌≡◌, ◌≤◌, [], ◌∷◌, ◌++�
 ghost use Rattle.std.specs.Str.{bytes_eq};
 ghost use Rattle.std.specs.Map.{lookup};
 ghost use Rattle.sched_model.specs.Words.{pairwise};
-ghost use Rattle.read_schedule.specs.Reads.{differ, names_in, numbered};
+ghost use Rattle.read_schedule.specs.code.Reads.{differ, names_in, numbered};
 
 use indexmap::IndexMap;
 use sched_base::{Itv, NoMemory};

@@ -1,6 +1,6 @@
 ghost use Rattle.std.specs.Prelude.{◌≡◌};
 ghost use Rattle.std.specs.Option.{option_copied};
-ghost use Rattle.read_schedule.specs.Reads.{FindsFeed, TakesLine};
+ghost use Rattle.read_schedule.specs.code.Reads.{FindsFeed, TakesLine};
 
 use memchr::memchr;
 use std::marker::Model;

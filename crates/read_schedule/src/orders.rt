@@ -4,8 +4,8 @@ ghost use Rattle.sched_model.specs.Valid.{IsValid};
 ghost use Rattle.sched_text.specs.Answers.{label};
 ghost use Rattle.sched_text.specs.Pieces.{interval_names};
 ghost use Rattle.textline.specs.Lines.{words_of};
-ghost use Rattle.read_schedule.specs.Reads.{ReadsBeside, TriesAll, TriesRow, are_all_itvs, numbered, sequence_at};
-ghost use Rattle.read_schedule.specs.Rows.{order_row};
+ghost use Rattle.read_schedule.specs.code.Reads.{ReadsBeside, TriesAll, TriesRow, are_all_itvs, numbered, sequence_at};
+ghost use Rattle.read_schedule.specs.code.Rows.{order_row};
 
 use crate::assignment::try_order;
 use crate::index::Index;

@@ -1,6 +1,6 @@
 ghost use Rattle.std.specs.Prelude.{◌≡◌, ◌↔◌, [], true, IsTrue};
 ghost use Rattle.sched_model.specs.Valid.{IsValid};
-ghost use Rattle.read_schedule.specs.Reads.{EachCanStand, ReadsBody, TakesEnd};
+ghost use Rattle.read_schedule.specs.code.Reads.{EachCanStand, ReadsBody, TakesEnd};
 ghost use Rattle.read_schedule.specs.Schedules.{Reads};
 
 use crate::assignment::some_assignment;

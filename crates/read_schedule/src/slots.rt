@@ -7,8 +7,8 @@ ghost use Rattle.sched_model.specs.Valid.{IsValid, is_interval_def};
 ghost use Rattle.sched_model.specs.Words.{is_between};
 ghost use Rattle.sched_model.specs.declared.types.Slot.TheVariants.{Present};
 ghost use Rattle.sched_text.specs.Answers.{slot_words};
-ghost use Rattle.read_schedule.specs.Reads.{CanStand, EachCanStand, ReadsAll, ReadsRows, TakesRow, can_reach, is_spelled};
-ghost use Rattle.read_schedule.specs.Rows.{slot_row};
+ghost use Rattle.read_schedule.specs.code.Reads.{CanStand, EachCanStand, ReadsAll, ReadsRows, TakesRow, can_reach, is_spelled};
+ghost use Rattle.read_schedule.specs.code.Rows.{slot_row};
 
 use crate::lines::Lines;
 use crate::stop::Stop;

@@ -5,8 +5,8 @@ ghost use Rattle.sched_text.specs.Answers.{segment_words};
 ghost use Rattle.sched_text.specs.laws.Lines.{is_spelled_segment};
 ghost use Rattle.std.specs.List.{list_all};
 ghost use Rattle.textline.specs.Lines.{words_of};
-ghost use Rattle.read_schedule.specs.Reads.{ReadsBeside, TakesSegment, TriesAll, TriesRow, are_spelled, state_at};
-ghost use Rattle.read_schedule.specs.Rows.{state_row};
+ghost use Rattle.read_schedule.specs.code.Reads.{ReadsBeside, TakesSegment, TriesAll, TriesRow, are_spelled, state_at};
+ghost use Rattle.read_schedule.specs.code.Rows.{state_row};
 
 use crate::assignment::try_segments;
 use crate::lines::Lines;

@@ -1,5 +1,5 @@
 ghost use Rattle.std.specs.Prelude.{◌≡◌};
-ghost use Rattle.read_schedule.specs.Reads.{TakesNumber};
+ghost use Rattle.read_schedule.specs.code.Reads.{TakesNumber};
 
 use sched_model::is_small;
 use textline::{Words, read_number};

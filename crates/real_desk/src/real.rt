@@ -73,7 +73,7 @@ fn read_from<F: Read>(file: &mut Option<F>, into: &mut [u8]) -> Result<usize, Fa
 
 impl<R: Files + Drop, O: Write + Drop, E: Write + Drop> RealDesk<R, O, E> {
     ghost use Rattle.std.specs.Prelude.{◌≡◌, false, is_some};
-    ghost use Rattle.real_desk.specs.Real.{real_state};
+    ghost use Rattle.real_desk.specs.code.Real.{real_state};
 
     /// A desk over these files, or over none, and over the two writers as standard output and error.
     /// Nothing is opened, no log is created, and no fault is counted.
@@ -95,7 +95,7 @@ impl<R: Files + Drop, O: Write + Drop, E: Write + Drop> RealDesk<R, O, E> {
 
 impl<R: Files + Drop, O: Write + Drop, E: Write + Drop> Desk for RealDesk<R, O, E> {
     ghost use Rattle.std.specs.Prelude.{is_some};
-    ghost use Rattle.real_desk.specs.Real.{real_state};
+    ghost use Rattle.real_desk.specs.code.Real.{real_state};
 
     ghost state = { λ d. real_state (is_some d.model) (is_some d.log) (is_some d.schedule) (is_some d.logged) d.faults };
 

@@ -7,7 +7,7 @@ use Rattle.sched_model.specs.declared.types.Shape.{Shape}
 use Rattle.sched_model.specs.declared.types.Shape.TheVariants.{Step, PulseOf, StepAtStart, StepAtEnd}
 use Rattle.region.specs.declared.types.Bounds.{Bounds}
 use Rattle.region.specs.Cells.{Region}
-use Rattle.refute_cumul.specs.Loads.{start_in, end_in, pulse_in, standing, is_over}
+use Rattle.refute_cumul.specs.code.Loads.{start_in, end_in, pulse_in, standing, is_over}
 use Rattle.refute_cumul.specs.Point.{leaves}
 use Rattle.refute_cumul.specs.laws.Loads.{leaves_is}
 

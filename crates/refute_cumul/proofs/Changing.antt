@@ -19,9 +19,9 @@ use Rattle.sched_model.specs.Cumulative.{between, from_on, signed}
 use Rattle.region.specs.Cells.{Region}
 use Rattle.sched_model.specs.declared.changes.Change.{Change}
 use Rattle.refute_cumul.specs.declared.profile.Level.{Level}
-use Rattle.refute_cumul.specs.Loads.{bounded, height_at, load_of, load}
+use Rattle.refute_cumul.specs.code.Loads.{bounded, height_at, load_of, load}
 use Rattle.sched_model.specs.Changes.{IsInOrder, rise, sum_until}
-use Rattle.refute_cumul.specs.Profiles.{IsRising, shape_changes, part_changes, load_changes, level_from, level_in}
+use Rattle.refute_cumul.specs.code.Profiles.{IsRising, shape_changes, part_changes, load_changes, level_from, level_in}
 use Rattle.sched_model.specs.laws.Sums.{pulse_until, step_until, until_append, until_permuted, first_least, order_tail, until_later, summed, not_at, is_next}
 
 zero_signed : (minus : Bool) → pos 0 ≡ signed minus (pos 0)

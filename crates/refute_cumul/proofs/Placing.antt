@@ -9,7 +9,7 @@ use Rattle.std.proofs.lemmas.List.{get_or_default}
 use Rattle.base_laws.specs.laws.Numbers.{below_or_last, below_or_past}
 use Rattle.refute_cumul.specs.declared.profile.Level.{Level}
 use Rattle.refute_cumul.specs.declared.reach.Reach.{Reach}
-use Rattle.refute_cumul.specs.Profiles.{IsRising, level_from, level_in, IsBelow, Reaches, IsPlaceOf, level_before, IsAbove, IsNeverAbove, IsFirstAbove, StaysBelow}
+use Rattle.refute_cumul.specs.code.Profiles.{IsRising, level_from, level_in, IsBelow, Reaches, IsPlaceOf, level_before, IsAbove, IsNeverAbove, IsFirstAbove, StaysBelow}
 
 abbrev no_level : Level
 no_level = record { t = pos 0; level = pos 0 }

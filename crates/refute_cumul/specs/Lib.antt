@@ -1,9 +1,7 @@
 pub mod Witness
 pub mod Levels
-pub mod Loads
-pub mod Profiles
-pub mod Sides
 pub mod Point
 pub mod OnCumul
 pub mod Listed
 pub mod laws
+pub mod code

@@ -1,9 +1,9 @@
 //! The changes of a load: where the parts of a function go up and down.
 ghost use Rattle.std.specs.Prelude.{◌≡◌, ◌+◌, ◌*◌, ◌≤◌, ◌<◌, ◌++◌, ◌∷◌, [], ℤ, length, vec_len, vec_capacity};
 ghost use Rattle.std.specs.List.Sorted.{IsPermutation};
-ghost use Rattle.refute_cumul.specs.Loads.{bounded, load};
+ghost use Rattle.refute_cumul.specs.code.Loads.{bounded, load};
 ghost use Rattle.sched_model.specs.Changes.{IsInOrder, pulse_changes, sum_until};
-ghost use Rattle.refute_cumul.specs.Profiles.{part_changes, shape_changes, load_changes};
+ghost use Rattle.refute_cumul.specs.code.Profiles.{part_changes, shape_changes, load_changes};
 
 use crate::levels::bounded;
 use region::Look;

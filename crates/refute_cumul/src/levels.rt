@@ -4,7 +4,7 @@ ghost use Rattle.sched_model.specs.declared.types.Shape.TheVariants.{Step};
 ghost use Rattle.sched_model.specs.Cumulative.{signed};
 ghost use Rattle.region.specs.Cells.{bounds_of};
 ghost use Rattle.region.specs.Looks.{HasMoments, lst_in, ect_in};
-ghost use Rattle.refute_cumul.specs.Loads.{counts, start_in, until_in, end_in, pulse_in, standing, bounded_of, height_at, bounded_shape, bounded, load_of, load, limit_of, is_from, window_of};
+ghost use Rattle.refute_cumul.specs.code.Loads.{counts, start_in, until_in, end_in, pulse_in, standing, bounded_of, height_at, bounded_shape, bounded, load_of, load, limit_of, is_from, window_of};
 
 use region::{Bounds, Look, Presence, earliest_end, latest_start};
 use sched_base::{H, Itv};

@@ -1,7 +1,7 @@
 ghost use Rattle.std.specs.Prelude.{◌≡◌};
 ghost use Rattle.sched_model.specs.Data.{parts_of};
 ghost use Rattle.refute_cumul.specs.Levels.{is_surely_in};
-ghost use Rattle.refute_cumul.specs.Loads.{is_over};
+ghost use Rattle.refute_cumul.specs.code.Loads.{is_over};
 ghost use Rattle.refute_cumul.specs.Point.{leaves, point_row};
 
 use crate::levels::{is_from, limit_of, load, window_of};

@@ -2,7 +2,7 @@
 ghost use Rattle.std.specs.Prelude.{◌≡◌, ◌*◌, ◌≤◌, ◌≤ℤ◌, ◌+ℤ◌, ◌-ℤ◌, ◌^◌, ℤ, neg_ℤ, pos, length, vec_capacity, slice_get, int_le, IfOk, IfSome, IfNone};
 ghost use Rattle.std.specs.Ordering.{int_eq};
 ghost use Rattle.sched_model.specs.Words.{passes};
-ghost use Rattle.refute_cumul.specs.Profiles.{IsRising, IsProfileOf, AreReaches, IsPlaceOf, IsAbove, IsNeverAbove, IsFirstAbove, StaysBelow, level_before, level_in};
+ghost use Rattle.refute_cumul.specs.code.Profiles.{IsRising, IsProfileOf, AreReaches, IsPlaceOf, IsAbove, IsNeverAbove, IsFirstAbove, StaysBelow, level_before, level_in};
 ghost use Rattle.sched_model.specs.Changes.{IsInOrder, rise, sum_until};
 
 use crate::changes::gather_sorted;
@@ -32,7 +32,7 @@ pub struct Profile {
 
 impl std::marker::Model for Profile {
     ghost use Rattle.std.specs.Prelude.{◌≤◌, ◌*◌, vec_capacity};
-    ghost use Rattle.refute_cumul.specs.Profiles.{Profile as Profiled, IsRising, AreReaches};
+    ghost use Rattle.refute_cumul.specs.code.Profiles.{Profile as Profiled, IsRising, AreReaches};
 
     ghost Value = { Profiled };
 

@@ -1,6 +1,6 @@
 //! How far a search may step over the places of a profile.
 ghost use Rattle.std.specs.Prelude.{◌≡◌, ◌+◌, ◌≤◌, ◌<◌, length, vec_len, vec_capacity, slice_index_or};
-ghost use Rattle.refute_cumul.specs.Profiles.{IsBelow, Reaches, AreReaches};
+ghost use Rattle.refute_cumul.specs.code.Profiles.{IsBelow, Reaches, AreReaches};
 
 use crate::profile::Level;
 

@@ -1,5 +1,5 @@
 //! How much room a profile needs.
-ghost use Rattle.refute_cumul.specs.Sides.{HasRoom};
+ghost use Rattle.refute_cumul.specs.code.Sides.{HasRoom};
 
 use sched_model::Model;
 

@@ -11,7 +11,7 @@ use Rattle.sched_model.specs.Words.{passes}
 use Rattle.region.specs.Cells.{Region}
 use Rattle.refute_hier.specs.declared.parts.Role.TheVariants.{IsThere}
 use Rattle.refute_hier.specs.Parts.{plays_in, at_part}
-use Rattle.refute_hier.specs.Rows.{two_parts, AreTwo}
+use Rattle.refute_hier.specs.code.Rows.{two_parts, AreTwo}
 
 abbrev first_id : Itv
 first_id = record { 0 = 0 }

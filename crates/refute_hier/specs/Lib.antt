@@ -6,5 +6,5 @@ pub mod Sync
 pub mod SeqRel
 pub mod Hier
 pub mod Listed
-pub mod Rows
 pub mod laws
+pub mod code

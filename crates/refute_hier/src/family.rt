@@ -1,5 +1,5 @@
 ghost use Rattle.std.specs.Prelude.{◌≡◌, false, IfSome, IfNone};
-ghost use Rattle.refute_hier.specs.Rows.{as_constraint, is_family};
+ghost use Rattle.refute_hier.specs.code.Rows.{as_constraint, is_family};
 
 use sched_base::Itv;
 use sched_model::Constraint;

@@ -2,7 +2,7 @@
 ghost use Rattle.std.specs.Prelude.{◌≡◌};
 ghost use Rattle.region.specs.declared.types.Presence.TheVariants as presence;
 ghost use Rattle.region.specs.Cells.{bounds_of};
-ghost use Rattle.refute_hier.specs.Rows.{two_parts, some_case, some_refutes};
+ghost use Rattle.refute_hier.specs.code.Rows.{two_parts, some_case, some_refutes};
 ghost use Rattle.refute_hier.specs.declared.family.Kind.TheVariants as kind;
 
 use crate::family::{Family, Kind};

@@ -2,7 +2,7 @@
 ghost use Rattle.std.specs.Prelude.{◌≡◌, ◌<◌, ◌^◌, false, IsTrue, IfSome, IfNone, length};
 ghost use Rattle.region.specs.declared.types.Presence.TheVariants as presence;
 ghost use Rattle.refute_hier.specs.Parts.{is_away, at_part, some_part};
-ghost use Rattle.refute_hier.specs.Rows.{two_parts, some_case, some_refutes, IsWitness, AreTwo};
+ghost use Rattle.refute_hier.specs.code.Rows.{two_parts, some_case, some_refutes, IsWitness, AreTwo};
 ghost use Rattle.refute_hier.specs.declared.family.Kind.TheVariants as kind;
 
 use crate::family::{Family, Kind};

@@ -12,7 +12,7 @@ use Rattle.region.specs.Cells.{Region, cells_of, is_there}
 use Rattle.region.specs.Looks.{IsRegionOf}
 use Rattle.region.specs.laws.Narrowing.{members_are}
 use Rattle.refute_seq.specs.Standing.{precedes}
-use Rattle.refute_seq.specs.Order.{placed, ordered_from, settled_order}
+use Rattle.refute_seq.specs.code.Order.{placed, ordered_from, settled_order}
 
 placed_later : (b : Itv → Itv → Bool) (x y : Itv) (ys : List Itv) → b x y ≡ false → placed b x (y ∷ ys) ≡ y ∷ placed b x ys
 placed_later b x y ys is = ap (λ t. if t then x ∷ y ∷ ys else y ∷ placed b x ys) is

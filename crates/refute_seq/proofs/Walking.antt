@@ -11,7 +11,7 @@ use Rattle.sched_model.specs.Words.{adjacent, total, is_empty, passes}
 use Rattle.region.specs.Looks.{is_shifted}
 use Rattle.region.specs.laws.Lists.{both_true}
 use Rattle.task_sets.specs.Times.{Times, has}
-use Rattle.task_sets.specs.Sums.{above_all, has_cases, has_later}
+use Rattle.task_sets.specs.laws.Sums.{above_all, has_cases, has_later}
 use Rattle.base_laws.specs.laws.Numbers.{regroup}
 
 pub rises_end : (xs : List ℕ) (i : ℕ) → length xs ≤ i + 1 → adjacent nat_lt (drop i xs) ≡ true

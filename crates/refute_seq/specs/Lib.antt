@@ -5,5 +5,5 @@ pub mod Triple
 pub mod Sets
 pub mod OnSequence
 pub mod Listed
-pub mod Order
 pub mod laws
+pub mod code

@@ -4,7 +4,7 @@ ghost use Rattle.std.specs.List.{insert};
 ghost use Rattle.region.specs.Cells.{cells_of};
 ghost use Rattle.region.specs.Looks.{IsRegionOf};
 ghost use Rattle.refute_seq.specs.Standing.{precedes};
-ghost use Rattle.refute_seq.specs.Order.{placed, settled_order};
+ghost use Rattle.refute_seq.specs.code.Order.{placed, settled_order};
 
 use refute_basic::{is_there, members_of, precedes};
 use region::Look;

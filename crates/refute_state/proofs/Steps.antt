@@ -7,7 +7,7 @@ use Rattle.std.proofs.Common.{append_assoc}
 use Rattle.std.proofs.Math.Seq.{drop-length}
 use Rattle.refute_state.specs.declared.stretch.Stretch.{Stretch}
 use Rattle.sched_model.specs.declared.types.Segment.{Segment}
-use Rattle.refute_state.specs.Groups.{is_linked, both, is_first_of, placed, with_demand, groups_from, runs_from}
+use Rattle.refute_state.specs.code.Groups.{is_linked, both, is_first_of, placed, with_demand, groups_from, runs_from}
 
 abbrev pub taking : Stretch → Stretch → List Stretch → Stretch
 taking d w gs = fold both w (filter (is_linked d) gs)

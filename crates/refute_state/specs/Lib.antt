@@ -5,7 +5,5 @@ pub mod State
 pub mod State3
 pub mod OnState
 pub mod Listed
-pub mod Groups
-pub mod Gathered
-pub mod Canonical
 pub mod laws
+pub mod code

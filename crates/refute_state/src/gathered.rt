@@ -1,6 +1,6 @@
 //! The demands of a state function.
 ghost use Rattle.std.specs.Prelude.{◌≡◌, IfOk};
-ghost use Rattle.refute_state.specs.Gathered.{demands_at, demands_of};
+ghost use Rattle.refute_state.specs.code.Gathered.{demands_at, demands_of};
 
 use crate::demand::demand_at;
 use sched_base::NoMemory;

@@ -1,6 +1,6 @@
 ghost use Rattle.std.specs.Prelude.{◌≡◌, IfOk, OnOk, ◌∷◌, [], ◌||◌, ◌≤◌, length, if◌then◌else◌};
 ghost use Rattle.std.specs.List.{insert};
-ghost use Rattle.refute_state.specs.Groups.{meets, is_linked, both, is_first_of, absorbed, others, placed, with_demand, groups_of};
+ghost use Rattle.refute_state.specs.code.Groups.{meets, is_linked, both, is_first_of, absorbed, others, placed, with_demand, groups_of};
 
 use crate::stretch::Stretch;
 use sched_base::NoMemory;

@@ -1,5 +1,5 @@
 ghost use Rattle.std.specs.Prelude.{◌≡◌, IfOk, OnOk, ◌∷◌, ◌++◌, [], List, ℤ, ◌+ℤ◌, Bool};
-ghost use Rattle.refute_state.specs.Groups.{meets, are_joined, segment_of, extended, runs_from, runs, canonical_of};
+ghost use Rattle.refute_state.specs.code.Groups.{meets, are_joined, segment_of, extended, runs_from, runs, canonical_of};
 ghost use Rattle.refute_state.specs.laws.Lists.{Each};
 ghost use Rattle.refute_state.specs.laws.Facts.{Proper, Serves};
 ghost use Rattle.refute_state.specs.laws.Running.{IsDistance};

@@ -6,7 +6,7 @@ ghost use Rattle.sched_model.specs.Value.{slot_of, start_of, end_of};
 ghost use Rattle.sched_model.specs.States.{demands};
 ghost use Rattle.sched_model.specs.Domain.{is_in_domain};
 ghost use Rattle.sched_model.specs.Valid.{IsValid};
-ghost use Rattle.refute_state.specs.Canonical.{at_slots, stretch_of, empty_of, canonical_for, canonical};
+ghost use Rattle.refute_state.specs.code.Canonical.{at_slots, stretch_of, empty_of, canonical_for, canonical};
 
 use crate::runs::segments_of;
 use crate::stretch::Stretch;

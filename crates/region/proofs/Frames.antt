@@ -12,7 +12,7 @@ use Rattle.sched_model.specs.Valid.{pair_count}
 use Rattle.sched_model.specs.Data.{same}
 use Rattle.region.specs.declared.frame.Row.{Row}
 use Rattle.region.specs.Orders.{place_of}
-use Rattle.region.specs.Flat.{IsRow, AreRows, pairs_before, pairs_in}
+use Rattle.region.specs.code.Flat.{IsRow, AreRows, pairs_before, pairs_in}
 use Rattle.region.proofs.Places.{pairs_more}
 use Rattle.region.specs.laws.OneSequence.{same_is}
 

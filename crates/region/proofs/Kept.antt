@@ -7,14 +7,14 @@ use Rattle.std.proofs.lemmas.Bool.Decides.{nat_tests}
 use Rattle.sched_base.specs.declared.ids.Itv.{Itv}
 use Rattle.sched_model.specs.Data.{Data}
 use Rattle.sched_model.specs.Valid.{is_moment, pair_count}
-use Rattle.trail.specs.Trail.{Trail}
+use Rattle.trail.specs.code.Trail.{Trail}
 use Rattle.region.specs.declared.types.Topic.{Topic}
 use Rattle.region.specs.declared.types.Topic.TheVariants.{One, Two}
 use Rattle.region.specs.Cells.{Region, no_sequence}
 use Rattle.region.specs.Guesses.{assumed, refused, assumed_cell, refused_cell, admits_topic, is_ready}
 use Rattle.region.specs.Looks.{IsRegionOf, has_pairs}
-use Rattle.region.specs.Held.{Held, IsHeldOf}
-use Rattle.region.specs.Flat.{Form, AreCells, IsKept, region_from, orders_from, order_from, pairs_from, pairs_in, number_place, assumed_number, refused_number}
+use Rattle.region.specs.code.Held.{Held, IsHeldOf}
+use Rattle.region.specs.code.Flat.{Form, AreCells, IsKept, region_from, orders_from, order_from, pairs_from, pairs_in, number_place, assumed_number, refused_number}
 use Rattle.region.specs.laws.Lists.{both_true, true_both, all-at}
 use Rattle.region.specs.laws.Pairs.{paired}
 use Rattle.region.specs.laws.Narrowing.{HasPairs}

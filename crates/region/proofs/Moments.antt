@@ -16,7 +16,7 @@ use Rattle.region.specs.Cells.{unknown, bounds_of, says_absent}
 use Rattle.region.specs.Claims.{is_open_at, guessed, as_present}
 use Rattle.region.specs.Guesses.{topic, admits, admits_topic}
 use Rattle.region.specs.Looks.{HasMoments}
-use Rattle.region.specs.Flat.{Form, AreCells, is_range_of_moments, number_at, bounds_from, region_from, claim_number, denial_number, order_number, assumed_number, refused_number, bounds_under, members_at, IsLook}
+use Rattle.region.specs.code.Flat.{Form, AreCells, is_range_of_moments, number_at, bounds_from, region_from, claim_number, denial_number, order_number, assumed_number, refused_number, bounds_under, members_at, IsLook}
 use Rattle.region.specs.Orders.{place_of}
 use Rattle.region.specs.laws.Lists.{both_true, true_both, all-at}
 use Rattle.region.specs.laws.OneInterval.{ends}

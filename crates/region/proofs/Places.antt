@@ -25,7 +25,7 @@ use Rattle.region.specs.Orders.{SequenceCells, order_place, told_order, pair_pla
 use Rattle.region.specs.Cells.{Region, unknown, no_sequence, bounds_of, cells_of, is_there}
 use Rattle.region.specs.Claims.{guessed, denied, as_present, as_absent, is_ready_at, claim_cell, denial_cell}
 use Rattle.region.specs.Guesses.{assumed, refused, assumed_cell, refused_cell, admits_topic, is_ready, topic, looked_at, with_bounds, with_order, with_cell, told_before, changed_at}
-use Rattle.region.specs.Flat.{Form, presence_from, order_from, pairs_from, orders_from, pairs_in, pairs_before, number_at, first_bounds, bounds_from, region_from, members_at, number_place, claim_number, denial_number, order_number, assumed_number, refused_number, IsNamed, AreCells, bounds_under, order_under}
+use Rattle.region.specs.code.Flat.{Form, presence_from, order_from, pairs_from, orders_from, pairs_in, pairs_before, number_at, first_bounds, bounds_from, region_from, members_at, number_place, claim_number, denial_number, order_number, assumed_number, refused_number, IsNamed, AreCells, bounds_under, order_under}
 use Rattle.region.specs.laws.Lists.{both_true, changed_at-same, length-changed_at, get_or-changed_at, get_or-changed_other, map-changed_at}
 use Rattle.region.specs.laws.OneSequence.{row_above, place_within, places_apart, lower, higher, below_is, open_turned, order_told}
 use Rattle.region.specs.laws.Intervals.{ready_present}

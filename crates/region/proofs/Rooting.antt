@@ -12,10 +12,10 @@ use Rattle.sched_model.specs.Valid.{IsValid, is_moment, is_itv, are_parts, is_in
 use Rattle.region.specs.declared.types.Presence.TheVariants.{Present, Maybe}
 use Rattle.region.specs.declared.types.OrderCell.TheVariants.{Unknown}
 use Rattle.region.specs.declared.types.SizeRange.{SizeRange}
-use Rattle.trail.specs.Trail.{Trail}
-use Rattle.region.specs.Held.{Held}
+use Rattle.trail.specs.code.Trail.{Trail}
+use Rattle.region.specs.code.Held.{Held}
 use Rattle.region.specs.Cells.{root_bounds, root_cells, root}
-use Rattle.region.specs.Flat.{Form, presence_from, pairs_from, orders_from, pairs_in, bounds_from, region_from, size_range, first_numbers, form_of, root_numbers, fits_frame, is_range_of_moments, AreCells, IsKept}
+use Rattle.region.specs.code.Flat.{Form, presence_from, pairs_from, orders_from, pairs_in, bounds_from, region_from, size_range, first_numbers, form_of, root_numbers, fits_frame, is_range_of_moments, AreCells, IsKept}
 use Rattle.region.specs.laws.Lists.{both_true, true_both}
 use Rattle.region.proofs.Places.{pairs_more, region_is}
 use Rattle.region.proofs.Kept.{held_from}

@@ -18,7 +18,7 @@ use Rattle.region.specs.Cells.{unknown, cell_count, cells_of}
 use Rattle.sched_model.specs.Words.{passes_if_any}
 use Rattle.region.specs.Guesses.{topic, admits, looked_at}
 use Rattle.region.specs.Looks.{HasMoments}
-use Rattle.region.specs.Flat.{Form, AreCells, IsLook, bounds_from, orders_from, order_from, pairs_from, pairs_in, pairs_before, members_at, number_at, region_from, bounds_under, order_under}
+use Rattle.region.specs.code.Flat.{Form, AreCells, IsLook, bounds_from, orders_from, order_from, pairs_from, pairs_in, pairs_before, members_at, number_at, region_from, bounds_under, order_under}
 use Rattle.region.specs.laws.OneSequence.{lower, higher, row_above, place_within, within_has}
 use Rattle.region.proofs.Places.{length-bounds_from, looked_some, pairs_more, pairs_room, members_of, length-pairs, pair_read, number_from, order_below, order_above, order_itself, order_beyond, look_members, order_is}
 use Rattle.region.proofs.Moments.{bounds_moments, shown_moments}

@@ -6,8 +6,6 @@ pub mod Topics
 pub mod Looks
 pub mod Tight
 pub mod Points
-pub mod Held
 pub mod Narrows
-pub mod Flat
 pub mod laws
-pub mod Spelled
+pub mod code

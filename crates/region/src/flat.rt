@@ -10,7 +10,7 @@ ghost use Rattle.region.specs.Claims.{claim_cell, denial_cell};
 ghost use Rattle.region.specs.Orders.{order_in, reversed};
 ghost use Rattle.region.specs.Looks.{HasMoments};
 ghost use Rattle.region.specs.Guesses.{assumed_cell, refused_cell};
-ghost use Rattle.region.specs.Flat.{Form, number_at, pairs_in, AreCells, IsNamed, bounds_from, region_from, presence_from, order_from, number_place, claim_number, denial_number, assumed_number, refused_number, order_number, size_range, first_numbers, form_of, root_numbers, bounds_under, order_under};
+ghost use Rattle.region.specs.code.Flat.{Form, number_at, pairs_in, AreCells, IsNamed, bounds_from, region_from, presence_from, order_from, number_place, claim_number, denial_number, assumed_number, refused_number, order_number, size_range, first_numbers, form_of, root_numbers, bounds_under, order_under};
 
 use crate::claims::{as_present, claim_cell, denial_cell, guessed};
 use crate::frame::{Frame, order_place};

@@ -2,7 +2,7 @@ ghost use Rattle.std.specs.Prelude.{◌≡◌, ◌+◌, ◌*◌, ◌≤◌, ◌<
 ghost use Rattle.std.specs.List.{list_all};
 ghost use Rattle.sched_model.specs.Valid.{pair_count};
 ghost use Rattle.region.specs.Orders.{order_place, place_of};
-ghost use Rattle.region.specs.Flat.{AreRows, IsRow, fits_frame, members_at, pairs_before, pairs_in};
+ghost use Rattle.region.specs.code.Flat.{AreRows, IsRow, fits_frame, members_at, pairs_before, pairs_in};
 
 use crate::types::SizeRange;
 use sched_base::{Itv, List, NoMemory, Seq};
@@ -30,7 +30,7 @@ pub struct Frame {
 
 impl Model for Frame {
     ghost use Rattle.std.specs.Prelude.{◌*◌, length, map};
-    ghost use Rattle.region.specs.Flat.{Form, IsFrame};
+    ghost use Rattle.region.specs.code.Flat.{Form, IsFrame};
 
     ghost Value = { Form };
 

@@ -6,7 +6,7 @@ ghost use Rattle.region.specs.Cells.{bounds_of, cells_of, is_settled, is_ordered
 ghost use Rattle.region.specs.Orders.{is_before, order_in};
 ghost use Rattle.region.specs.Guesses.{looked_at};
 ghost use Rattle.region.specs.Looks.{HasMoments, is_shifted, est_of, lst_of, ect_of, lct_of};
-ghost use Rattle.region.specs.Flat.{IsLook, region_from};
+ghost use Rattle.region.specs.code.Flat.{IsLook, region_from};
 
 use crate::claims::{earliest_end, is_fixed, is_forward, is_unknown, latest_start};
 use crate::flat::{
@@ -31,7 +31,7 @@ pub struct Look<'a> {
 impl<'a> Model for Look<'a> {
     ghost use Rattle.region.specs.Guesses.{looked_at};
     ghost use Rattle.region.specs.Looks.{Seen};
-    ghost use Rattle.region.specs.Flat.{IsLook, region_from};
+    ghost use Rattle.region.specs.code.Flat.{IsLook, region_from};
 
     ghost Value = { Seen };
 

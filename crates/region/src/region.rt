@@ -9,7 +9,7 @@ ghost use Rattle.region.specs.declared.types.Topic.TheVariants.{Two};
 ghost use Rattle.region.specs.Cells.{Allows, root, is_settled, cell_count, cells_of, settled_slots};
 ghost use Rattle.region.specs.Guesses.{admits, admits_topic, splits, is_ready, is_open_between, may_be_there, assumed, refused, assumed_cell, refused_cell, with_guess, with_fact, looked_at, guess_holds, guess_cell, fact_cell, topic};
 ghost use Rattle.region.specs.Looks.{IsRegionOf};
-ghost use Rattle.region.specs.Held.{Regains, IsHeldOf};
+ghost use Rattle.region.specs.code.Held.{Regains, IsHeldOf};
 ghost use Rattle.region.specs.laws.Narrowing.{HasPairs};
 ghost use Rattle.region.specs.Narrows.{Leaves, Narrows, Splits, HasPoint};
 
@@ -33,8 +33,8 @@ pub struct Region {
 
 impl std::marker::Model for Region {
     ghost use Rattle.std.specs.Prelude.{map};
-    ghost use Rattle.region.specs.Held.{Held};
-    ghost use Rattle.region.specs.Flat.{IsKept, region_from};
+    ghost use Rattle.region.specs.code.Held.{Held};
+    ghost use Rattle.region.specs.code.Flat.{IsKept, region_from};
 
     ghost Value = { Held };
 

@@ -13,9 +13,6 @@ pub mod Solution
 pub mod Ranges
 pub mod Hull
 pub mod Valid
-pub mod Saturated
-pub mod Names
-pub mod Sweep
-pub mod Whole
 pub mod laws
 pub mod Changes
+pub mod code

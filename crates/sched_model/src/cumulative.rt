@@ -6,9 +6,9 @@ ghost use Rattle.sched_model.specs.Changes.{end_of_window, keep_inside, window_s
 ghost use Rattle.sched_model.specs.Cumulative.{begin_of, between, corners, from_on, is_in_window, is_level_at, level_at, shape_at, signed};
 
 use crate::changes::{Changes, Span, fill_sorted, keep_each};
+use crate::model::Model;
 use crate::slots::{end_of, is_present, start_of};
 use crate::types::{Assignment, Part, Shape, Window};
-use crate::whole::Model;
 use sched_base::{Cum, H};
 
 fn from_on(u: i64, h: i64, t: i64) -> i64

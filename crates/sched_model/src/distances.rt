@@ -3,9 +3,9 @@ ghost use Rattle.std.specs.List.{position_or_len};
 ghost use Rattle.std.specs.Option.{option_copied};
 ghost use Rattle.sched_model.specs.Data.{distance, matrix_of, members_of, same, type_of, types_of};
 
+use crate::model::Model;
 use crate::slots::same;
 use crate::types::MatrixDef;
-use crate::whole::Model;
 use sched_base::{Itv, Mat, Seq, at};
 
 pub fn matrix_of(model: &Model, matrix: Option<Mat>) -> Option<&MatrixDef>
@@ -24,7 +24,7 @@ fn place(size: u32, i: u64, j: u64) -> u64
     u64::from(size).saturating_mul(i).saturating_add(j)
 }
 
-#[tactic(auto, using(crate::proofs::Cells::cell_by_place))]
+#[tactic(auto, using(crate::proofs::walks::Cells::cell_by_place))]
 fn cell(matrix: &MatrixDef, i: u64, j: u64) -> i64
     ensures { result ≡ slice_index_or matrix.now.cells (matrix.now.size * i + j) (pos 0) }
 {

@@ -5,14 +5,14 @@ ghost use Rattle.sched_model.specs.Domain.{are_segments, fits_def, is_in_domain,
 ghost use Rattle.sched_model.specs.Bounds.{is_amount, is_moment};
 ghost use Rattle.sched_model.specs.Words.{pairwise, placewise, is_between, ◌implies◌};
 ghost use Rattle.sched_model.specs.Data.{same, has, matrix_of};
-ghost use Rattle.sched_model.specs.Sweep.{begins_after, end_with, keeps_from, later_end};
+ghost use Rattle.sched_model.specs.code.Sweep.{begins_after, end_with, keeps_from, later_end};
 ghost use Rattle.sched_model.specs.Value.{is_present};
 
 use crate::bounds::{is_amount, is_between, is_moment};
 use crate::distances::{distance, fits_between, matrix_of};
+use crate::model::Model;
 use crate::slots::{is_present, same};
 use crate::types::{Assignment, IntervalDef, Segment, SequenceDef, Slot, StateDef};
-use crate::whole::Model;
 use sched_base::{Itv, List, Mat};
 
 fn starts_in(d: &IntervalDef, s: i64) -> bool

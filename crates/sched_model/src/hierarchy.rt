@@ -61,7 +61,7 @@ fn each_ends_by(a: &Assignment, z: i64, parts: &[Itv]) -> bool
         .all(|b| !is_present(a, *b) || end_of(a, *b) <= z)
 }
 
-#[tactic(auto, using(crate::proofs::Present::least_fails, crate::proofs::Present::least_decides))]
+#[tactic(auto, using(crate::proofs::rows::Present::least_fails, crate::proofs::rows::Present::least_decides))]
 fn is_least_start(a: &Assignment, z: i64, parts: &[Itv]) -> bool
     ensures { result ≡ is_least z (map (start_of a.now) (present_of a.now parts.now)) }
 {
@@ -71,7 +71,7 @@ fn is_least_start(a: &Assignment, z: i64, parts: &[Itv]) -> bool
     each_starts_from(a, z, parts)
 }
 
-#[tactic(auto, using(crate::proofs::Present::greatest_fails, crate::proofs::Present::greatest_decides))]
+#[tactic(auto, using(crate::proofs::rows::Present::greatest_fails, crate::proofs::rows::Present::greatest_decides))]
 fn is_greatest_end(a: &Assignment, z: i64, parts: &[Itv]) -> bool
     ensures { result ≡ is_greatest z (map (end_of a.now) (present_of a.now parts.now)) }
 {
@@ -82,7 +82,7 @@ fn is_greatest_end(a: &Assignment, z: i64, parts: &[Itv]) -> bool
 }
 
 /// Whether an interval spans its parts.
-#[tactic(auto, using(crate::proofs::Present::spans_absent))]
+#[tactic(auto, using(crate::proofs::rows::Present::spans_absent))]
 pub fn spans(a: &Assignment, x: Itv, parts: &[Itv]) -> bool
     ensures { result ≡ spans a.now x (present_of a.now parts.now) }
 {
@@ -96,7 +96,7 @@ pub fn spans(a: &Assignment, x: Itv, parts: &[Itv]) -> bool
 }
 
 /// Whether the one part that is present stands as the interval does, and none is present without it.
-#[tactic(auto, using(crate::proofs::Present::alternative_absent))]
+#[tactic(auto, using(crate::proofs::rows::Present::alternative_absent))]
 pub fn is_alternative(a: &Assignment, x: Itv, parts: &[Itv]) -> bool
     ensures { result ≡ is_alternative a.now x (present_of a.now parts.now) }
 {
@@ -116,7 +116,7 @@ pub fn is_alternative(a: &Assignment, x: Itv, parts: &[Itv]) -> bool
 }
 
 /// Whether each part that is present stands as the interval does, where it is present.
-#[tactic(auto, using(crate::proofs::Present::synchronized_decides))]
+#[tactic(auto, using(crate::proofs::rows::Present::synchronized_decides))]
 pub fn is_synchronized(a: &Assignment, x: Itv, parts: &[Itv]) -> bool
     ensures { result ≡ is_synchronized a.now x (present_of a.now parts.now) }
 {

@@ -9,6 +9,7 @@ mod distances;
 mod domain;
 mod hierarchy;
 mod hulls;
+mod model;
 pub mod ranges;
 mod sentences;
 mod sequence;
@@ -17,13 +18,13 @@ mod states;
 mod temporal;
 mod types;
 mod values;
-mod whole;
 
 pub use bounds::{is_between, is_moment, is_small};
 pub use changes::{Change, sort_changes};
 pub use distances::distance;
 pub use domain::in_domain;
 pub use hulls::hull;
+pub use model::{Model, Parts};
 pub use sched_base::{Boxed, Con, Cum, H, Itv, List, Mat, NUMBER_LIMIT, NoMemory, Seq, Stf};
 pub use sentences::{beats, holds, is_solution, value};
 pub use slots::Slots;
@@ -33,4 +34,3 @@ pub use types::{
     Objective, Part, Segment, Sense, SequenceDef, Shape, Slot, Solved, StateDef, Window,
 };
 pub use values::value_in;
-pub use whole::{Model, Parts};

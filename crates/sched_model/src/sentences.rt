@@ -12,13 +12,13 @@ ghost use Rattle.sched_model.specs.Value.{is_present, is_true, value_of};
 use crate::cumulative::{Bound, is_bounded};
 use crate::domain::in_domain;
 use crate::hierarchy::{is_alternative, is_synchronized, spans};
+use crate::model::Model;
 use crate::sequence::{has_no_overlap, is_first, is_last, stands_before, stands_next};
 use crate::slots::{is_present, order_of};
 use crate::states::{has_no_state, has_state};
 use crate::temporal::is_precedence;
 use crate::types::{Assignment, Constraint, Expr, Sense};
 use crate::values::value_in;
-use crate::whole::Model;
 use sched_base::{Con, Itv, at};
 
 fn is_logic_true(model: &Model, a: &Assignment, e: &Expr) -> bool
@@ -86,7 +86,7 @@ fn holds_in(model: &Model, c: &Constraint, a: &Assignment) -> bool
     }
 }
 
-#[tactic(auto, using(crate::proofs::Elements::valid_there, crate::specs::laws::Domain::slots_fit))]
+#[tactic(auto, using(crate::proofs::walks::Elements::valid_there, crate::specs::laws::Domain::slots_fit))]
 fn holds_there(model: &Model, c: Con, a: &Assignment) -> bool
     requires { is_in_domain model.now a.now ≡ true }
     ensures { result ≡ holds_at model.now c a.now }
@@ -109,7 +109,7 @@ pub fn holds(model: &Model, c: Con, a: &Assignment) -> bool
 }
 
 /// The value of the objective; none exactly where the model has no objective.
-#[tactic(auto, using(crate::proofs::Elements::objective_hull, crate::specs::laws::Domain::slots_fit))]
+#[tactic(auto, using(crate::proofs::walks::Elements::objective_hull, crate::specs::laws::Domain::slots_fit))]
 pub fn value(model: &Model, a: &Assignment) -> Option<i64>
     requires { is_in_domain model.now a.now ≡ true }
     ensures { result ≡ objective_of model.now a.now }

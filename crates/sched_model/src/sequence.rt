@@ -5,9 +5,9 @@ ghost use Rattle.sched_model.specs.Data.{distance, gap, has, same, type_of};
 ghost use Rattle.sched_model.specs.Sequence.{AreTypes, RunsForward, has_no_overlap, is_apart, is_first, is_last, stands_before, stands_next};
 
 use crate::distances::{distance, fits_between, matrix_of, type_of};
+use crate::model::Model;
 use crate::slots::{end_of, is_present, same, start_of};
 use crate::types::Assignment;
-use crate::whole::Model;
 use sched_base::{Itv, Mat, Seq};
 
 pub fn has(xs: &[Itv], x: Itv) -> bool
@@ -228,7 +228,7 @@ pub fn stands_next(xs: &[Itv], x: Itv, y: Itv) -> bool
     false
 }
 
-#[tactic(auto, using(crate::proofs::Orders::none_before_first))]
+#[tactic(auto, using(crate::proofs::walks::Orders::none_before_first))]
 fn none_before(xs: &[Itv], x: Itv) -> bool
     ensures { result ≡ list_all (λ y. not (stands_before xs.now y x)) xs.now }
 {
@@ -238,7 +238,7 @@ fn none_before(xs: &[Itv], x: Itv) -> bool
     }
 }
 
-#[tactic(auto, using(crate::proofs::Orders::none_behind_last))]
+#[tactic(auto, using(crate::proofs::walks::Orders::none_behind_last))]
 fn none_behind(xs: &[Itv], x: Itv) -> bool
     ensures { result ≡ list_all (λ y. not (stands_before xs.now x y)) xs.now }
 {

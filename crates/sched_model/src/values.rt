@@ -6,12 +6,12 @@ ghost use Rattle.sched_model.specs.Words.{greatest, least, placewise, total};
 ghost use Rattle.sched_model.specs.Domain.{fits_def};
 ghost use Rattle.sched_model.specs.Hull.{hull_of};
 ghost use Rattle.sched_model.specs.Value.{compared, end_or, is_true, start_or, truth, value_of};
-ghost use Rattle.sched_model.specs.Saturated.{saturated_product, saturated_size, saturated_value};
+ghost use Rattle.sched_model.specs.code.Saturated.{saturated_product, saturated_size, saturated_value};
 
+use crate::model::Model;
 use crate::ranges::{nearest, scaled};
 use crate::slots::{Slots, is_here};
 use crate::types::{CompareOp, Expr, Slot};
-use crate::whole::Model;
 
 fn start_or(slot: Slot, d: i64) -> i64
     ensures { result ≡ start_or d slot }

@@ -4,7 +4,7 @@ use Rattle.sched_base.specs.State.{State}
 use Rattle.textline.specs.Lines.{Bytes}
 use Rattle.sched_text.specs.declared.page.Page.{Page}
 use Rattle.sched_text.specs.Pieces.{commas, call}
-use Rattle.sched_text.specs.Printing.{Prints}
+use Rattle.sched_text.specs.code.Printing.{Prints}
 use Rattle.sched_text.proofs.Printing.{both, «as»}
 
 -- a word, a bracket and some arguments were printed

@@ -5,7 +5,7 @@ use Rattle.textline.specs.Lines.{Bytes}
 use Rattle.sched_text.specs.declared.page.Page.{Page}
 use Rattle.sched_text.specs.Pieces.{commas, call}
 use Rattle.sched_text.specs.Canonical.{optional_items}
-use Rattle.sched_text.specs.Printing.{Prints}
+use Rattle.sched_text.specs.code.Printing.{Prints}
 use Rattle.sched_text.proofs.Printing.{both, «as»}
 
 -- a word before the items, if there is one

@@ -5,7 +5,7 @@ use Rattle.sched_base.specs.State.{State}
 use Rattle.textline.specs.Lines.{Bytes, line, spaced}
 use Rattle.textline.specs.laws.Spaced.{spaced_append, line_is}
 use Rattle.sched_text.specs.declared.page.Page.{Page}
-use Rattle.sched_text.specs.Printing.{Prints}
+use Rattle.sched_text.specs.code.Printing.{Prints}
 use Rattle.sched_text.proofs.Printing.{both, «as»}
 
 spaced_map : {A : Type 0} (f : A → Bytes) (xs : List A) → flat_map (λ x. 32 ∷ f x) xs ≡ spaced (map f xs)

@@ -8,7 +8,7 @@ use Rattle.sched_text.specs.Pieces.{between, listed}
 use Rattle.sched_base.specs.State.{State}
 use Rattle.sched_text.specs.declared.page.Page.{Page}
 use Rattle.sched_text.specs.Canonical.{rows}
-use Rattle.sched_text.specs.Printing.{Leaves, Prints}
+use Rattle.sched_text.specs.code.Printing.{Leaves, Prints}
 use Rattle.sched_text.proofs.Printing.{all_done, goes_on}
 
 -- the items from here on: whether the next is the first of all, and the sign

@@ -10,7 +10,7 @@ use Rattle.sched_base.specs.Calls.{Rose, Writes, appended}
 use Rattle.sched_base.specs.laws.Appended.{appended_nothing, appended_twice}
 use Rattle.textline.specs.Lines.{Bytes}
 use Rattle.sched_text.specs.declared.page.Page.{Page}
-use Rattle.sched_text.specs.Printing.{IsPrinted, Leaves, Prints}
+use Rattle.sched_text.specs.code.Printing.{IsPrinted, Leaves, Prints}
 
 -- the text stands behind what waited
 pub holds : {text : Bytes} {old new : Page} {s : State} → new.waiting.items ≡ old.waiting.items ++ text → new.failed ≡ old.failed → Prints text old new s s

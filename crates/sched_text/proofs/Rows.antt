@@ -6,7 +6,7 @@ use Rattle.textline.specs.Lines.{Bytes}
 use Rattle.sched_base.specs.State.{State}
 use Rattle.sched_text.specs.declared.page.Page.{Page}
 use Rattle.sched_text.specs.Pieces.{at_places}
-use Rattle.sched_text.specs.Printing.{Leaves, Prints}
+use Rattle.sched_text.specs.code.Printing.{Leaves, Prints}
 use Rattle.sched_text.proofs.Printing.{all_done, goes_on}
 
 pub text_more : {A : Type 0} (f : A → Bytes) (xs : List A) (i : ℕ) (x d : A) {text : Bytes} {old mid new : Page} {r t u : State} → i < length xs → x ≡ get_or xs i d

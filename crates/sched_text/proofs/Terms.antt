@@ -6,7 +6,7 @@ use Rattle.textline.specs.Lines.{Bytes}
 use Rattle.sched_base.specs.State.{State}
 use Rattle.sched_text.specs.declared.page.Page.{Page}
 use Rattle.sched_text.specs.Pieces.{call, listed}
-use Rattle.sched_text.specs.Printing.{Leaves, Prints}
+use Rattle.sched_text.specs.code.Printing.{Leaves, Prints}
 use Rattle.sched_text.proofs.Printing.{all_done, goes_on}
 use Rattle.sched_text.specs.Shown.{Shown, as_operand, wholes, operands, terms, summed}
 

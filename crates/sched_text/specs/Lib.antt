@@ -2,6 +2,5 @@ pub mod Pieces
 pub mod Answers
 pub mod Shown
 pub mod Canonical
-pub mod Printing
-pub mod Told
 pub mod laws
+pub mod code

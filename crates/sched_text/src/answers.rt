@@ -4,7 +4,7 @@ ghost use Rattle.sched_base.specs.Calls.{Writes};
 ghost use Rattle.textline.specs.Lines.{line, spaced};
 ghost use Rattle.sched_text.specs.Answers.{slot_words, slot_line, label, order_line, segment_words, segments_line, schedule_lines, unfinished_words, verdict_words, shown_schedule, answer_text, summary_text};
 ghost use Rattle.sched_text.specs.Pieces.{at_places, interval_name};
-ghost use Rattle.sched_text.specs.Printing.{Prints};
+ghost use Rattle.sched_text.specs.code.Printing.{Prints};
 
 use crate::page::{Page, finish, new_page, put_text};
 use crate::pieces::{put_count, put_interval, put_number};

@@ -2,7 +2,7 @@
 ghost use Rattle.std.specs.Prelude.{◌≡◌, ◌++◌, ◌∷◌, [], codes, flat_map};
 ghost use Rattle.sched_base.specs.Calls.{Writes};
 ghost use Rattle.sched_text.specs.Canonical.{statement, interval_text, matrix_text, named_sequence_text, named_cumul_text, state_text, constraint_text, sense_word, objective_text, canonical_text};
-ghost use Rattle.sched_text.specs.Printing.{Prints};
+ghost use Rattle.sched_text.specs.code.Printing.{Prints};
 
 use crate::constraints::put_constraint;
 use crate::definitions::{

@@ -3,7 +3,7 @@ ghost use Rattle.std.specs.Prelude.{◌≡◌, ◌++◌, ◌∷◌, [], codes, S
 ghost use Rattle.std.specs.Fmt.{signed_decimal};
 ghost use Rattle.sched_text.specs.Pieces.{call, interval_name, state_name};
 ghost use Rattle.sched_text.specs.Canonical.{flag, temporal_word, list_text, use_text, over_text, distance_text, bounded_text, within_text, function_text, constraint_text};
-ghost use Rattle.sched_text.specs.Printing.{Prints};
+ghost use Rattle.sched_text.specs.code.Printing.{Prints};
 
 use crate::cumulative::put_function;
 use crate::expressions::put_whole;

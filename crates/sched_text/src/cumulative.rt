@@ -3,7 +3,7 @@ ghost use Rattle.std.specs.Prelude.{◌≡◌, ◌++◌, ◌∷◌, [], codes, f
 ghost use Rattle.std.specs.Fmt.{signed_decimal};
 ghost use Rattle.sched_text.specs.Pieces.{call, interval_name};
 ghost use Rattle.sched_text.specs.Canonical.{shape_text, later_part, parts_text, cumul_text, function_text};
-ghost use Rattle.sched_text.specs.Printing.{Prints};
+ghost use Rattle.sched_text.specs.code.Printing.{Prints};
 
 use crate::page::{Page, put_text};
 use crate::pieces::{put_interval, put_next_number, put_number, put_open};

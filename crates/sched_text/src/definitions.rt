@@ -3,7 +3,7 @@ ghost use Rattle.std.specs.Prelude.{◌≡◌, ◌++◌, ◌∷◌, [], codes, m
 ghost use Rattle.std.specs.Fmt.{decimal, signed_decimal};
 ghost use Rattle.sched_text.specs.Pieces.{call, commas, listed, range_text};
 ghost use Rattle.sched_text.specs.Canonical.{given, interval_text, list_text, matrix_text, named_cumul_text, named_sequence_text, optional_items, range_items, rows, state_items, state_text, types_text};
-ghost use Rattle.sched_text.specs.Printing.{Prints};
+ghost use Rattle.sched_text.specs.code.Printing.{Prints};
 
 use crate::cumulative::put_parts;
 use crate::page::{Page, put_text};

@@ -4,7 +4,7 @@ ghost use Rattle.std.specs.Fmt.{signed_decimal};
 ghost use Rattle.sched_text.specs.Pieces.{between, call, commas, interval_name, listed};
 ghost use Rattle.sched_text.specs.Shown.{as_operand, comparison_sign, operands, shown, summed, terms, wholes};
 ghost use Rattle.sched_model.specs.Data.{Data};
-ghost use Rattle.sched_text.specs.Printing.{Prints};
+ghost use Rattle.sched_text.specs.code.Printing.{Prints};
 
 use crate::page::{Page, put_text};
 use crate::pieces::{put_comma, put_interval, put_next_number, put_number, put_open};

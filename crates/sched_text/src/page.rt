@@ -2,7 +2,7 @@ ghost use Rattle.std.specs.Prelude.{◌≡◌, ◌++◌, [], false, if◌then◌
 ghost use Rattle.sched_base.specs.State.{State};
 ghost use Rattle.sched_base.specs.Calls.{Writes};
 ghost use Rattle.textline.specs.Lines.{Bytes};
-ghost use Rattle.sched_text.specs.Printing.{IsPrinted, Prints};
+ghost use Rattle.sched_text.specs.code.Printing.{IsPrinted, Prints};
 
 use arrayvec::ArrayVec;
 use sched_base::{Desk, Failed, Port};

@@ -1,7 +1,7 @@
 ghost use Rattle.std.specs.Prelude.{◌≡◌, ◌++◌, ◌∷◌, [], codes, map, if◌then◌else◌};
 ghost use Rattle.std.specs.Fmt.{decimal, signed_decimal};
 ghost use Rattle.sched_text.specs.Pieces.{range_text, interval_name, matrix_name, state_name, interval_names, commas, listed};
-ghost use Rattle.sched_text.specs.Printing.{Prints};
+ghost use Rattle.sched_text.specs.code.Printing.{Prints};
 
 use crate::page::{Page, put_text};
 use itoa::Buffer;

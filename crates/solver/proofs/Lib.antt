@@ -1,14 +1,3 @@
-pub mod Branching
-pub mod OpenOrders
-pub mod Segments
-pub mod Fitting
-pub mod Answering
-pub mod Assigned
-pub mod Sifting
-pub mod Fixing
-pub mod Marking
-pub mod Closing
-pub mod Deriving
-pub mod Keeping
-pub mod Ending
-pub mod Whole
+pub mod logged
+pub mod cutting
+pub mod kept

@@ -1,11 +1,5 @@
 pub mod Answers
 pub mod Cuts
-pub mod Leaves
-pub mod OpenIntervals
 pub mod Splits
-pub mod Marks
-pub mod Putting
-pub mod Faults
-pub mod Solving
-pub mod Searching
 pub mod laws
+pub mod code

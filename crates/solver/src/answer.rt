@@ -1,5 +1,5 @@
 ghost use Rattle.std.specs.Prelude.{◌≡◌};
-ghost use Rattle.solver.specs.Searching.{valued, best_answer, closed_answer, answer_from};
+ghost use Rattle.solver.specs.code.Searching.{valued, best_answer, closed_answer, answer_from};
 
 use kernel::Found;
 use sched_model::{Answer, Assignment};

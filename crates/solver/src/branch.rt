@@ -4,7 +4,7 @@ ghost use Rattle.region.specs.declared.types.Presence.TheVariants as presence;
 ghost use Rattle.region.specs.Cells.{is_fixed};
 ghost use Rattle.region.specs.Looks.{HasMoments};
 ghost use Rattle.solver.specs.Cuts.{IsMiddle};
-ghost use Rattle.solver.specs.Searching.{Cuts, is_ordered};
+ghost use Rattle.solver.specs.code.Searching.{Cuts, is_ordered};
 
 use region::{Bounds, Guess, Presence};
 use sched_base::Itv;

@@ -35,7 +35,7 @@ impl From<NoMemory> for SolveFault {
 
 impl From<EngineFault> for SolveFault {
     ghost use Rattle.std.specs.Prelude.{◌≡◌};
-    ghost use Rattle.solver.specs.Faults.{passed_on};
+    ghost use Rattle.solver.specs.code.Faults.{passed_on};
 
     ghost from_gives = { λ e f. f ≡ passed_on e };
 

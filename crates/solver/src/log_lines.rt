@@ -1,7 +1,7 @@
 ghost use Rattle.std.specs.Prelude.{◌≡◌, true};
 ghost use Rattle.std.proofs.Common.{refl, ◌∙◌};
 ghost use Rattle.logtext.specs.Logs.{plain_text, plain_lines};
-ghost use Rattle.solver.specs.Putting.{PutsNamed, BreaksNamed};
+ghost use Rattle.solver.specs.code.Putting.{PutsNamed, BreaksNamed};
 ghost use Rattle.solver.specs.laws.Putting.{named_none, named_more, named_breaks, named_ready, named_calm, named_faults};
 
 use engine::Lines;

@@ -2,8 +2,8 @@ ghost use Rattle.std.specs.Prelude.{◌≡◌, ◌⊎◌, ◌≤◌, ◌<◌, �
 ghost use Rattle.std.specs.List.{list_all, range_with_len};
 ghost use Rattle.region.specs.Cells.{is_fixed, root};
 ghost use Rattle.region.specs.Looks.{IsRegionOf};
-ghost use Rattle.solver.specs.OpenIntervals.{IsOpenList, Sifts, Leaves};
-ghost use Rattle.solver.specs.Searching.{CutsRegion};
+ghost use Rattle.solver.specs.code.OpenIntervals.{IsOpenList, Sifts, Leaves};
+ghost use Rattle.solver.specs.code.Searching.{CutsRegion};
 
 use crate::branch::cut;
 use crate::guide::Guide;
@@ -51,7 +51,7 @@ fn has_profiles(model: &Model) -> bool {
 }
 
 impl std::marker::Model for OpenIntervals {
-    ghost use Rattle.solver.specs.OpenIntervals.{OpenList};
+    ghost use Rattle.solver.specs.code.OpenIntervals.{OpenList};
 
     ghost Value = { OpenList };
 
@@ -72,7 +72,7 @@ fn numbers(alloc: Global, model: &Model) -> Result<Vec<u32>, NoMemory>
 
 impl OpenIntervals {
     /// All intervals of the model. There may be many pairs in sequences without overlap.
-    #[tactic(auto, using(crate::proofs::Sifting::all_intervals))]
+    #[tactic(auto, using(crate::proofs::cutting::Sifting::all_intervals))]
     pub fn new(
         alloc: Global,
         model: &Model,
@@ -93,7 +93,7 @@ impl OpenIntervals {
     }
 
     /// All intervals of the model again.
-    #[tactic(auto, using(crate::proofs::Sifting::all_intervals))]
+    #[tactic(auto, using(crate::proofs::cutting::Sifting::all_intervals))]
     pub fn reopen(&mut self, alloc: Global, model: &Model) -> Result<(), NoMemory>
         ensures { OnOk result (IsOpenList (root model.now) self.new) }
     {

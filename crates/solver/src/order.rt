@@ -3,7 +3,7 @@ ghost use Rattle.std.specs.List.{list_all};
 ghost use Rattle.region.specs.Orders.{says_unknown};
 ghost use Rattle.region.specs.Cells.{cells_of, is_there, is_known_order, is_ordered};
 ghost use Rattle.region.specs.Looks.{IsRegionOf};
-ghost use Rattle.solver.specs.Searching.{CutsRegion, IsLater, AreMembers};
+ghost use Rattle.solver.specs.code.Searching.{CutsRegion, IsLater, AreMembers};
 
 use region::{Guess, Look, OrderCell, Presence};
 use sched_base::{Itv, Seq};

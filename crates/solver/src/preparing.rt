@@ -1,7 +1,7 @@
 ghost use Rattle.std.specs.Prelude.{ℤ, Option};
 ghost use Rattle.region.specs.Cells.{Region as Cells};
 ghost use Rattle.region.specs.Looks.{IsRegionOf};
-ghost use Rattle.engine.specs.Engines.{AreAwake, AreQuiet, IsFor};
+ghost use Rattle.engine.specs.code.Engines.{AreAwake, AreQuiet, IsFor};
 ghost use Rattle.propagators.specs.Quiet.{IsQuietRegion};
 
 use crate::hints::Hints;

@@ -4,10 +4,10 @@ ghost use Rattle.sched_model.specs.Solution.{objective_of};
 ghost use Rattle.region.specs.Cells.{Region as Cells, is_settled};
 ghost use Rattle.region.specs.Looks.{IsRegionOf};
 ghost use Rattle.kernel.specs.Steps.{best_of};
-ghost use Rattle.engine.specs.Engines.{AreQuiet, AreAwake, IsFor};
+ghost use Rattle.engine.specs.code.Engines.{AreQuiet, AreAwake, IsFor};
 ghost use Rattle.engine.specs.Runs.{Ends};
 ghost use Rattle.propagators.specs.Quiet.{IsQuietRegion};
-ghost use Rattle.solver.specs.Searching.{IsReady, QuietUnlessFailed};
+ghost use Rattle.solver.specs.code.Searching.{IsReady, QuietUnlessFailed};
 
 use crate::hints::Hints;
 use crate::search::is_capped;

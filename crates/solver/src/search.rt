@@ -9,11 +9,11 @@ ghost use Rattle.region.specs.Guesses.{splits, with_guess, with_fact};
 ghost use Rattle.region.specs.Looks.{IsRegionOf};
 ghost use Rattle.kernel.specs.declared.types.Line.TheVariants as line_is;
 ghost use Rattle.kernel.specs.Steps.{best_of, step_at, left_after, found_in, opening};
-ghost use Rattle.engine.specs.Engines.{AreQuiet, AreAwake, IsCalm, IsFor};
+ghost use Rattle.engine.specs.code.Engines.{AreQuiet, AreAwake, IsCalm, IsFor};
 ghost use Rattle.engine.specs.Plain.{refutes_plain};
 ghost use Rattle.engine.specs.Runs.{Ends};
 ghost use Rattle.propagators.specs.Quiet.{IsQuietRegion};
-ghost use Rattle.solver.specs.Searching.{HasValue, IsHolding, IsReady, Closes, RefutesIf, Derived, GoesOn, IsLogged, QuietUnlessFailed, is_failed, is_capped, behind_in, left_in, state_in, node_in, CutsRegion};
+ghost use Rattle.solver.specs.code.Searching.{HasValue, IsHolding, IsReady, Closes, RefutesIf, Derived, GoesOn, IsLogged, QuietUnlessFailed, is_failed, is_capped, behind_in, left_in, state_in, node_in, CutsRegion};
 
 use crate::fault::SolveFault;
 use crate::guide::Guide;

@@ -2,8 +2,8 @@
 ghost use Rattle.std.specs.Prelude.{◌≡◌, ◌<◌, ◌^◌, length, ◌++◌, IfOk, OnOk};
 ghost use Rattle.region.specs.Cells.{settled_slots};
 ghost use Rattle.region.specs.Looks.{IsRegionOf};
-ghost use Rattle.refute_seq.specs.Order.{settled_orders};
-ghost use Rattle.solver.specs.Leaves.{settled_assignment};
+ghost use Rattle.refute_seq.specs.code.Order.{settled_orders};
+ghost use Rattle.solver.specs.code.Leaves.{settled_assignment};
 
 use refute_basic::settled_slot;
 use refute_seq::settled_order;

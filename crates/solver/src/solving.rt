@@ -1,9 +1,9 @@
 ghost use Rattle.std.specs.Prelude.{◌≡◌, ◌<◌, ◌≤◌, ◌^◌, ℤ, Option, true, IsTrue};
 ghost use Rattle.region.specs.Cells.{Region as Cells};
 ghost use Rattle.region.specs.Looks.{IsRegionOf};
-ghost use Rattle.engine.specs.Engines.{AreQuiet, AreAwake, IsFor};
+ghost use Rattle.engine.specs.code.Engines.{AreQuiet, AreAwake, IsFor};
 ghost use Rattle.propagators.specs.Quiet.{IsQuietRegion};
-ghost use Rattle.solver.specs.Solving.{Gives};
+ghost use Rattle.solver.specs.code.Solving.{Gives};
 
 use crate::answer::answer_from;
 use crate::fault::SolveFault;

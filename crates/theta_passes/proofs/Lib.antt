@@ -1,13 +1,3 @@
-pub mod Between
-pub mod Cuts
-pub mod Dropping
-pub mod Falling
-pub mod Filling
-pub mod Scanning
-pub mod Painting
-pub mod Tops
-pub mod Reached
-pub mod Showing
-pub mod Scanned
-pub mod Edging
-pub mod CutScans
+pub mod trees
+pub mod scans
+pub mod shown

@@ -1,7 +1,7 @@
 ghost use Rattle.std.specs.Prelude.{◌≡◌, ℕ, ℤ, ◌<◌, ◌+◌, ◌≤◌, ◌≤ℤ◌, ◌&&◌, int_lt, int_le, length};
 ghost use Rattle.task_sets.specs.Times.{IsSized, IsEct};
-ghost use Rattle.theta_passes.specs.Edge.{IsLevel, LateOrNone, IsStart, NoOverload, cut_of, PassOrNone, IsMember, IsFallen, IsOrder, FoundOrNone};
-ghost use Rattle.theta_passes.specs.Rows.{says_absent, times_at, Fits, IsBounded, is_between};
+ghost use Rattle.theta_passes.specs.code.Edge.{IsLevel, LateOrNone, IsStart, NoOverload, cut_of, PassOrNone, IsMember, IsFallen, IsOrder, FoundOrNone};
+ghost use Rattle.theta_passes.specs.code.Rows.{says_absent, times_at, Fits, IsBounded, is_between};
 
 use crate::leaves::paint;
 use crate::{Presence, Row};
@@ -43,7 +43,7 @@ pub fn falls_between(row: Row, above: i64, level: i64) -> bool
     is_within(row.lct, above, level)
 }
 
-#[tactic(auto, using(crate::proofs::Falling::fallen_painted, crate::proofs::Falling::fallen_kept))]
+#[tactic(auto, using(crate::proofs::trees::Falling::fallen_painted, crate::proofs::trees::Falling::fallen_kept))]
 fn lower_at(tree: &mut ThetaTree, rows: &[Row], k: u32, above: i64, level: i64)
     requires fits { Fits tree.old rows.now }
     requires within { k < length rows.now }
@@ -58,7 +58,7 @@ fn lower_at(tree: &mut ThetaTree, rows: &[Row], k: u32, above: i64, level: i64)
 }
 
 /// From the cut at one moment to that at an earlier one.
-#[tactic(auto, using(crate::proofs::Falling::fallen_start, crate::proofs::Falling::fallen_end))]
+#[tactic(auto, using(crate::proofs::trees::Falling::fallen_start, crate::proofs::trees::Falling::fallen_end))]
 fn lower(tree: &mut ThetaTree, rows: &[Row], above: i64, level: i64)
     requires few { length rows.now ≤ 500 }
     requires fits { Fits tree.old rows.now }

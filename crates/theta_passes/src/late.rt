@@ -1,8 +1,8 @@
 ghost use Rattle.std.specs.Prelude.{◌≡◌, ◌≢◌, ℕ, ℤ, ◌<◌, ◌+◌, ◌≤◌, ◌≤ℤ◌, length};
 ghost use Rattle.task_sets.specs.Times.{IsSized};
-ghost use Rattle.thetatree.specs.Leaves.{colour_at};
-ghost use Rattle.theta_passes.specs.Rows.{row_at, times_at, Fits};
-ghost use Rattle.theta_passes.specs.Late.{IsFilled, IsFilling, IsRising, IsLow, LatePass, LateAt, GivesLate, starts_before, is_above};
+ghost use Rattle.thetatree.specs.code.Leaves.{colour_at};
+ghost use Rattle.theta_passes.specs.code.Rows.{row_at, times_at, Fits};
+ghost use Rattle.theta_passes.specs.code.Late.{IsFilled, IsFilling, IsRising, IsLow, LatePass, LateAt, GivesLate, starts_before, is_above};
 ghost use Rattle.thetatree.specs.declared.leaves.Colour.TheVariants as colour;
 
 use crate::leaves::paint;
@@ -27,7 +27,7 @@ fn is_above(bar: i64, ect: Option<i64>) -> bool
     }
 }
 
-#[tactic(auto, using(crate::proofs::Filling::filling_painted, crate::proofs::Filling::filling_kept))]
+#[tactic(auto, using(crate::proofs::trees::Filling::filling_painted, crate::proofs::trees::Filling::filling_kept))]
 fn fill_at(tree: &mut ThetaTree, rows: &[Row], k: u32, from: i64, key: i64)
     requires fits { Fits tree.old rows.now }
     requires within { k < length rows.now }
@@ -42,7 +42,7 @@ fn fill_at(tree: &mut ThetaTree, rows: &[Row], k: u32, from: i64, key: i64)
 }
 
 /// Paints white the members that must start before a moment.
-#[tactic(auto, using(crate::proofs::Filling::filling_start, crate::proofs::Filling::filling_end))]
+#[tactic(auto, using(crate::proofs::trees::Filling::filling_start, crate::proofs::trees::Filling::filling_end))]
 fn fill(tree: &mut ThetaTree, rows: &[Row], from: i64, key: i64)
     requires few { length rows.now ≤ 500 }
     requires fits { Fits tree.old rows.now }

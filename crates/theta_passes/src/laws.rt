@@ -1,4 +1,4 @@
-ghost use Rattle.theta_passes.specs.Quiet.{QuietEdges, FoundEdge, QuietDetects, FoundDetect};
+ghost use Rattle.theta_passes.specs.code.Quiet.{QuietEdges, FoundEdge, QuietDetects, FoundDetect};
 
 /// What the passes answer is what the rows say under every guess that is asked about.
 pub fn passes_decide() -> bool

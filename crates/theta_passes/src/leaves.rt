@@ -1,9 +1,9 @@
 ghost use Rattle.std.specs.Prelude.{◌≡◌, ◌≢◌, ℕ, ◌<◌, ◌≤◌, length, map, slice_set, IfOk};
 ghost use Rattle.sched_base.specs.declared.ids.TheConstants.{H};
-ghost use Rattle.thetatree.specs.Leaves.{colour_at};
-ghost use Rattle.theta_passes.specs.Rows.{row_at, task_of, colour_by, IsNearRow, IsByEst, IsBounded, Fits};
-ghost use Rattle.theta_passes.specs.Edge.{IsStart};
-ghost use Rattle.theta_passes.specs.Over.{IsFull};
+ghost use Rattle.thetatree.specs.code.Leaves.{colour_at};
+ghost use Rattle.theta_passes.specs.code.Rows.{row_at, task_of, colour_by, IsNearRow, IsByEst, IsBounded, Fits};
+ghost use Rattle.theta_passes.specs.code.Edge.{IsStart};
+ghost use Rattle.theta_passes.specs.code.Over.{IsFull};
 ghost use Rattle.thetatree.specs.declared.leaves.Colour.TheVariants as colour;
 
 use crate::{Presence, Row};
@@ -26,7 +26,7 @@ fn tasks_of(alloc: Global, rows: &[Row]) -> Result<Vec<Task>, NoMemory>
 
 /// The tree over members in the order of their earliest starts. It serves for any number of passes:
 /// `start_over`, `start_edge` and `start_late` paint it for the next one, whatever its colours are.
-#[tactic(auto, using(crate::proofs::Painting::are_tasks, crate::proofs::Painting::tree_fits))]
+#[tactic(auto, using(crate::proofs::trees::Painting::are_tasks, crate::proofs::trees::Painting::tree_fits))]
 pub fn tree_of(alloc: Global, rows: &[Row]) -> Result<ThetaTree, NoMemory>
     requires few { length rows.now ≤ 500 }
     requires near { (k : ℕ) → IsNearRow (row_at rows.now k) }
@@ -60,7 +60,7 @@ fn colour_by(presence: Presence, present: Colour, maybe: Colour) -> Colour
 }
 
 /// Paints each leaf by the presence of its member.
-#[tactic(auto, using(crate::proofs::Painting::all_painted))]
+#[tactic(auto, using(crate::proofs::trees::Painting::all_painted))]
 fn paint_all(tree: &mut ThetaTree, rows: &[Row], present: Colour, maybe: Colour)
     requires few { length rows.now ≤ 500 }
     requires fits { Fits tree.old rows.now }
@@ -74,7 +74,7 @@ fn paint_all(tree: &mut ThetaTree, rows: &[Row], present: Colour, maybe: Colour)
 }
 
 /// The colours that `over_pass` starts from: present members white, optional ones gray.
-#[tactic(auto, using(crate::proofs::Painting::over_started))]
+#[tactic(auto, using(crate::proofs::trees::Painting::over_started))]
 pub fn start_over(tree: &mut ThetaTree, rows: &[Row])
     requires few { length rows.now ≤ 500 }
     requires bounded { IsBounded rows.now }
@@ -86,7 +86,7 @@ pub fn start_over(tree: &mut ThetaTree, rows: &[Row])
 }
 
 /// The colours that `edge_pass` starts from: present members white, the others out.
-#[tactic(auto, using(crate::proofs::Painting::edge_started))]
+#[tactic(auto, using(crate::proofs::trees::Painting::edge_started))]
 pub fn start_edge(tree: &mut ThetaTree, rows: &[Row])
     requires few { length rows.now ≤ 500 }
     requires fits { Fits tree.old rows.now }
@@ -97,7 +97,7 @@ pub fn start_edge(tree: &mut ThetaTree, rows: &[Row])
 }
 
 /// The colours that `late_pass` starts from: all out.
-#[tactic(auto, using(crate::proofs::Painting::late_started))]
+#[tactic(auto, using(crate::proofs::trees::Painting::late_started))]
 pub fn start_late(tree: &mut ThetaTree, rows: &[Row])
     requires few { length rows.now ≤ 500 }
     requires fits { Fits tree.old rows.now }

@@ -1,8 +1,8 @@
 ghost use Rattle.std.specs.Prelude.{◌≡◌, ℕ, ℤ, ◌<◌, ◌+◌, ◌≤◌, ◌≤ℤ◌, length};
 ghost use Rattle.sched_base.specs.declared.ids.TheConstants.{H};
 ghost use Rattle.task_sets.specs.Times.{IsSized};
-ghost use Rattle.theta_passes.specs.Rows.{times_at, Fits, IsBounded};
-ghost use Rattle.theta_passes.specs.Over.{IsFull, IsFullFalling, IsFalling, OverAt, OverPass, over_level};
+ghost use Rattle.theta_passes.specs.code.Rows.{times_at, Fits, IsBounded};
+ghost use Rattle.theta_passes.specs.code.Over.{IsFull, IsFullFalling, IsFalling, OverAt, OverPass, over_level};
 
 use crate::Row;
 use crate::edge::falls_between;
@@ -10,7 +10,7 @@ use crate::leaves::paint;
 use sched_base::H;
 use thetatree::{Colour, ThetaTree};
 
-#[tactic(auto, using(crate::proofs::Dropping::full_painted, crate::proofs::Dropping::full_left))]
+#[tactic(auto, using(crate::proofs::trees::Dropping::full_painted, crate::proofs::trees::Dropping::full_left))]
 fn drop_at(tree: &mut ThetaTree, rows: &[Row], k: u32, above: i64, level: i64)
     requires fits { Fits tree.old rows.now }
     requires within { k < length rows.now }
@@ -25,7 +25,7 @@ fn drop_at(tree: &mut ThetaTree, rows: &[Row], k: u32, above: i64, level: i64)
 }
 
 /// Paints out those who may end after a moment.
-#[tactic(auto, using(crate::proofs::Dropping::full_start, crate::proofs::Dropping::full_end))]
+#[tactic(auto, using(crate::proofs::trees::Dropping::full_start, crate::proofs::trees::Dropping::full_end))]
 fn drop_late(tree: &mut ThetaTree, rows: &[Row], above: i64, level: i64)
     requires few { length rows.now ≤ 500 }
     requires fits { Fits tree.old rows.now }

@@ -1,7 +1,7 @@
 ghost use Rattle.std.specs.Prelude.{◌≡◌, ℕ, ◌<◌, ◌≤◌, ◌+◌, ◌-◌, ◌||◌, ◌&&◌, not, nat_eq, int_lt, length, IfOk, ℤ, pos, ◌+ℤ◌, ◌≤ℤ◌, neg_ℤ, ◌^◌};
-ghost use Rattle.task_sets.specs.Ects.{keep, up_from};
-ghost use Rattle.theta_passes.specs.Rows.{row_at, is_present, says_present, IsNearRow};
-ghost use Rattle.theta_passes.specs.Parts.{members_with, part_has, cut_has, GivesTop, IsScanned, better_top, scan_with};
+ghost use Rattle.task_sets.specs.laws.Ects.{keep, up_from};
+ghost use Rattle.theta_passes.specs.code.Rows.{row_at, is_present, says_present, IsNearRow};
+ghost use Rattle.theta_passes.specs.code.Parts.{members_with, part_has, cut_has, GivesTop, IsScanned, better_top, scan_with};
 
 use crate::{Presence, Row};
 use sched_base::NoMemory;
@@ -144,7 +144,7 @@ fn scan_at(rows: &[Row], part: Part, k: usize, scan: Scan) -> Scan
 
 /// Where the set of a part begins that has the latest of the earliest completions; with it go all of
 /// the part that start no earlier.
-#[tactic(auto, using(crate::proofs::Tops::scan_start))]
+#[tactic(auto, using(crate::proofs::scans::Tops::scan_start))]
 pub fn top_of(rows: &[Row], part: Part) -> Option<Top>
     requires few { length rows.now ≤ 500 }
     requires near { (k : ℕ) → IsNearRow (row_at rows.now k) }
@@ -160,7 +160,7 @@ pub fn top_of(rows: &[Row], part: Part) -> Option<Top>
 }
 
 /// The places of a part from one on.
-#[tactic(auto, using(crate::proofs::Scanning::keep_pushed, crate::proofs::Scanning::keep_passed, crate::proofs::Scanning::keep_end))]
+#[tactic(auto, using(crate::proofs::scans::Scanning::keep_pushed, crate::proofs::scans::Scanning::keep_passed, crate::proofs::scans::Scanning::keep_end))]
 pub fn set_from(alloc: Global, rows: &[Row], part: Part, first: usize) -> Result<Vec<u32>, NoMemory>
     requires few { length rows.now ≤ 500 }
     requires within { first ≤ length rows.now }

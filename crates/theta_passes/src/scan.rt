@@ -1,9 +1,9 @@
 ghost use Rattle.std.specs.Prelude.{◌≡◌, ℕ, ◌<◌, ◌≤◌, None, length};
-ghost use Rattle.theta_passes.specs.Rows.{row_at, is_candidate, IsNearRow, IsByEst};
-ghost use Rattle.theta_passes.specs.Parts.{part_has, GivesTop};
-ghost use Rattle.theta_passes.specs.Late.{LateAt, LateCandidate, LatePass, late_by};
+ghost use Rattle.theta_passes.specs.code.Rows.{row_at, is_candidate, IsNearRow, IsByEst};
+ghost use Rattle.theta_passes.specs.code.Parts.{part_has, GivesTop};
+ghost use Rattle.theta_passes.specs.code.Late.{LateAt, LateCandidate, LatePass, late_by};
 ghost use Rattle.theta_passes.specs.declared.parts.Part.TheVariants.{Before, Cut};
-ghost use Rattle.theta_passes.specs.Edge.{is_pushed, FoundBy, FoundOrNone, IsMember, IsOrder, PassOrNone};
+ghost use Rattle.theta_passes.specs.code.Edge.{is_pushed, FoundBy, FoundOrNone, IsMember, IsOrder, PassOrNone};
 
 use crate::parts::{Part, Top, top_of};
 use crate::{Presence, Row};
@@ -27,7 +27,7 @@ fn is_late_by(bar: i64, top: Option<Top>) -> bool
     }
 }
 
-#[tactic(auto, using(crate::proofs::Scanned::late_scanned))]
+#[tactic(auto, using(crate::proofs::scans::Scanned::late_scanned))]
 fn is_late(rows: &[Row], i: u32) -> bool
     requires few { length rows.now ≤ 500 }
     requires near { (k : ℕ) → IsNearRow (row_at rows.now k) }
@@ -45,7 +45,7 @@ fn is_candidate(rows: &[Row], i: u32) -> bool
     rows[i as usize].presence != Presence::Absent
 }
 
-#[tactic(auto, using(crate::proofs::Scanned::no_candidate, crate::proofs::Scanned::candidate_late))]
+#[tactic(auto, using(crate::proofs::scans::Scanned::no_candidate, crate::proofs::scans::Scanned::candidate_late))]
 fn is_found(rows: &[Row], i: u32) -> bool
     requires few { length rows.now ≤ 500 }
     requires near { (k : ℕ) → IsNearRow (row_at rows.now k) }
@@ -60,7 +60,7 @@ fn is_found(rows: &[Row], i: u32) -> bool
 }
 
 /// What `late_pass` finds, without a tree: of few members it is the sooner one.
-#[tactic(auto, using(crate::proofs::Scanned::none_scanned, crate::proofs::Scanned::more_scanned, crate::proofs::Scanned::all_scanned, crate::proofs::Scanned::scan_found))]
+#[tactic(auto, using(crate::proofs::scans::Scanned::none_scanned, crate::proofs::scans::Scanned::more_scanned, crate::proofs::scans::Scanned::all_scanned, crate::proofs::scans::Scanned::scan_found))]
 pub fn late_scan(rows: &[Row]) -> Option<u32>
     requires few { length rows.now ≤ 500 }
     requires near { (k : ℕ) → IsNearRow (row_at rows.now k) }
@@ -86,7 +86,7 @@ fn is_pushed(row: Row, level: i64, pushing: Option<Top>) -> bool
     level < row.lct && row.lst < top.value
 }
 
-#[tactic(auto, using(crate::proofs::CutScans::no_candidate_found))]
+#[tactic(auto, using(crate::proofs::scans::CutScans::no_candidate_found))]
 fn finds(rows: &[Row], i: u32, level: i64, pushing: Option<Top>) -> bool
     requires few { length rows.now ≤ 500 }
     requires near { (k : ℕ) → IsNearRow (row_at rows.now k) }
@@ -106,7 +106,7 @@ fn finds(rows: &[Row], i: u32, level: i64, pushing: Option<Top>) -> bool
 }
 
 /// A member that the cut at a moment finds.
-#[tactic(auto, using(crate::proofs::CutScans::none_tried, crate::proofs::CutScans::one_tried))]
+#[tactic(auto, using(crate::proofs::scans::CutScans::none_tried, crate::proofs::scans::CutScans::one_tried))]
 fn found_at(rows: &[Row], level: i64) -> Option<u32>
     requires few { length rows.now ≤ 500 }
     requires near { (k : ℕ) → IsNearRow (row_at rows.now k) }
@@ -125,7 +125,7 @@ fn found_at(rows: &[Row], level: i64) -> Option<u32>
 }
 
 /// What `edge_pass` finds, without a tree: of few members it is the sooner one.
-#[tactic(auto, using(crate::proofs::CutScans::no_cut, crate::proofs::CutScans::cut_passed, crate::proofs::CutScans::is_member))]
+#[tactic(auto, using(crate::proofs::scans::CutScans::no_cut, crate::proofs::scans::CutScans::cut_passed, crate::proofs::scans::CutScans::is_member))]
 pub fn edge_scan(rows: &[Row], order: &[u32]) -> Option<u32>
     requires few { length rows.now ≤ 500 }
     requires near { (k : ℕ) → IsNearRow (row_at rows.now k) }

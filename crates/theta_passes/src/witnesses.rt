@@ -1,11 +1,11 @@
 ghost use Rattle.std.specs.Prelude.{◌≡◌, ℕ, ◌<◌, ◌≤◌, ℤ, length, true, IfOk};
 ghost use Rattle.task_sets.specs.Times.{overload_row};
-ghost use Rattle.task_sets.specs.Cuts.{IsBelow};
-ghost use Rattle.theta_passes.specs.Rows.{row_at, is_candidate, is_present, times_at, IsNearRow, IsByEst};
-ghost use Rattle.theta_passes.specs.Over.{Overfull, NoOverloads, OverPass};
-ghost use Rattle.theta_passes.specs.Late.{IsLateRow};
-ghost use Rattle.theta_passes.specs.Edge.{IsFound, IsOrder};
-ghost use Rattle.theta_passes.specs.Witnesses.{members_of, full_by, FullAt, FullCut, IsLateSet, IsEdgeSets, edge_by, EdgeAt, EdgeCut};
+ghost use Rattle.task_sets.specs.laws.Cuts.{IsBelow};
+ghost use Rattle.theta_passes.specs.code.Rows.{row_at, is_candidate, is_present, times_at, IsNearRow, IsByEst};
+ghost use Rattle.theta_passes.specs.code.Over.{Overfull, NoOverloads, OverPass};
+ghost use Rattle.theta_passes.specs.code.Late.{IsLateRow};
+ghost use Rattle.theta_passes.specs.code.Edge.{IsFound, IsOrder};
+ghost use Rattle.theta_passes.specs.code.Witnesses.{members_of, full_by, FullAt, FullCut, IsLateSet, IsEdgeSets, edge_by, EdgeAt, EdgeCut};
 
 use crate::Row;
 use crate::parts::{Part, Top, set_from, top_of};
@@ -22,7 +22,7 @@ fn full_by(end: i64, top: Option<Top>) -> Option<usize>
 }
 
 /// Where a set of the cut at a moment begins that overloads.
-#[tactic(auto, using(crate::proofs::Showing::full_is))]
+#[tactic(auto, using(crate::proofs::shown::Showing::full_is))]
 fn full_at(rows: &[Row], with: Option<u32>, end: i64) -> Option<usize>
     requires few { length rows.now ≤ 500 }
     requires near { (k : ℕ) → IsNearRow (row_at rows.now k) }
@@ -51,7 +51,7 @@ fn full_cut(rows: &[Row], with: Option<u32>) -> Option<(i64, usize)>
 
 /// What `over_pass` finds where nobody is optional, without a tree: of few members it is the sooner
 /// one.
-#[tactic(auto, using(crate::proofs::CutScans::over_none, crate::proofs::CutScans::over_some))]
+#[tactic(auto, using(crate::proofs::scans::CutScans::over_none, crate::proofs::scans::CutScans::over_some))]
 pub fn over_scan(rows: &[Row]) -> Option<Option<u32>>
     requires few { length rows.now ≤ 500 }
     requires near { (k : ℕ) → IsNearRow (row_at rows.now k) }

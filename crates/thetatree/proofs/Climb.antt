@@ -8,9 +8,9 @@ use Rattle.thetatree.specs.declared.leaves.Task.{Task}
 use Rattle.thetatree.specs.declared.leaves.Colour.{Colour}
 use Rattle.thetatree.specs.declared.leaves.Colour.TheVariants.{Out, White, Gray}
 use Rattle.thetatree.specs.declared.node.Node.{Node}
-use Rattle.thetatree.specs.Leaves.{Leaves, task_in, task_at, colour_at, AreTasks}
-use Rattle.thetatree.specs.Nodes.{leaf_node}
-use Rattle.thetatree.specs.Trees.{node_at, IsTree}
+use Rattle.thetatree.specs.code.Leaves.{Leaves, task_in, task_at, colour_at, AreTasks}
+use Rattle.thetatree.specs.code.Nodes.{leaf_node}
+use Rattle.thetatree.specs.code.Trees.{node_at, IsTree}
 use Rattle.thetatree.proofs.Parts.{weight, white_sum, extra, Begins, Within, end_from, HoldsPart}
 use Rattle.thetatree.proofs.Joins.{joined_holds}
 

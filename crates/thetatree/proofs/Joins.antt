@@ -6,8 +6,8 @@ use Rattle.std.proofs.lemmas.Bool.{cases_lt}
 use Rattle.std.proofs.lemmas.Int.{ints}
 use Rattle.thetatree.specs.declared.node.Best.{Best}
 use Rattle.thetatree.specs.declared.node.Node.{Node}
-use Rattle.thetatree.specs.Leaves.{Leaves, task_at}
-use Rattle.thetatree.specs.Nodes.{greater_of, later, better, best_of, joined}
+use Rattle.thetatree.specs.code.Leaves.{Leaves, task_at}
+use Rattle.thetatree.specs.code.Nodes.{greater_of, later, better, best_of, joined}
 use Rattle.thetatree.proofs.Rooms.{greater_in, better_in, best_in}
 use Rattle.thetatree.proofs.Parts.{IsAtMost, white_sum, extra, Begins, Within, end_from, Reaches, AtMostBest, HoldsPart}
 

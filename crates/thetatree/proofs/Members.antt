@@ -4,7 +4,7 @@ use Rattle.std.specs.Prelude.{nat_eq, ◌||◌}
 use Rattle.std.specs.Int.{int_min}
 use Rattle.std.proofs.lemmas.Bool.{cases_eq, cases_lt}
 use Rattle.std.proofs.lemmas.Int.{ints, int_min_is}
-use Rattle.thetatree.specs.Leaves.{Leaves, task_at, has, IsOnce, least_est, sum_of}
+use Rattle.thetatree.specs.code.Leaves.{Leaves, task_at, has, IsOnce, least_est, sum_of}
 use Rattle.thetatree.proofs.Parts.{sum_below}
 use Rattle.thetatree.proofs.Weights.{eq_true, eq_from, replaced, replaced_same, replaced_other, replaced_low, replaced_high, rises}
 

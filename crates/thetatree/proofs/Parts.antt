@@ -5,7 +5,7 @@ use Rattle.thetatree.specs.declared.leaves.Colour.{Colour}
 use Rattle.thetatree.specs.declared.leaves.Colour.TheVariants.{Out, White, Gray}
 use Rattle.thetatree.specs.declared.node.Best.{Best}
 use Rattle.thetatree.specs.declared.node.Node.{Node}
-use Rattle.thetatree.specs.Leaves.{Leaves, task_at, colour_at}
+use Rattle.thetatree.specs.code.Leaves.{Leaves, task_at, colour_at}
 
 abbrev pub IsAtMost : ℤ → Option ℤ → Type 0
 IsAtMost z None = ⊥

@@ -10,7 +10,7 @@ use Rattle.thetatree.specs.declared.leaves.Colour.{Colour}
 use Rattle.thetatree.specs.declared.leaves.Colour.TheVariants.{Out, White, Gray}
 use Rattle.thetatree.specs.declared.node.Best.{Best}
 use Rattle.thetatree.specs.declared.node.Node.{Node}
-use Rattle.thetatree.specs.Nodes.{greater_of, later, better, best_of, no_node, leaf_node, joined, IsNear, IsSmall}
+use Rattle.thetatree.specs.code.Nodes.{greater_of, later, better, best_of, no_node, leaf_node, joined, IsNear, IsSmall}
 
 -- half of a product
 halve : (a b j c : ℕ) → a * (2 * j) ≤ c → b * (2 * j + 1) ≤ c → (a + b) * j ≤ c

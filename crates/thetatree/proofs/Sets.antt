@@ -6,7 +6,7 @@ use Rattle.std.proofs.lemmas.List.{get_or_past}
 use Rattle.std.proofs.lemmas.Int.{ints}
 use Rattle.thetatree.specs.declared.leaves.Colour.{Colour}
 use Rattle.thetatree.specs.declared.leaves.Colour.TheVariants.{Out, White, Gray}
-use Rattle.thetatree.specs.Leaves.{Leaves, task_at, colour_at, AreTasks, has, IsOnce, sum_of, end_of, IsChosen}
+use Rattle.thetatree.specs.code.Leaves.{Leaves, task_at, colour_at, AreTasks, has, IsOnce, sum_of, end_of, IsChosen}
 use Rattle.thetatree.proofs.Parts.{weight, white_at, white_sum, Begins, end_from, Reaches}
 use Rattle.thetatree.proofs.Weights.{replaced, replaced_same, replaced_other, replaced_low, replaced_high, eq_from}
 use Rattle.thetatree.proofs.Members.{has_cases, has_first, has_later, first_of, least_below, least_is, covered}

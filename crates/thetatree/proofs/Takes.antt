@@ -3,7 +3,7 @@ use Rattle.std.proofs.Common.{ℕ, ◌+◌, ◌-◌, ◌<◌, ◌≤◌, ◌≤�
 use Rattle.std.proofs.lemmas.Bool.{cases_eq}
 use Rattle.std.proofs.lemmas.Int.{ints}
 use Rattle.thetatree.specs.declared.leaves.Task.{Task}
-use Rattle.thetatree.specs.Leaves.{task_in, IsSmallTask, AreTasks}
+use Rattle.thetatree.specs.code.Leaves.{task_in, IsSmallTask, AreTasks}
 
 -- what is known once the tasks before i were tried
 pub record Tried (ts : List Task) (i : ℕ) : Type 0 where

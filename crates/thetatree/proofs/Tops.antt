@@ -7,9 +7,9 @@ use Rattle.thetatree.specs.declared.leaves.Colour.{Colour}
 use Rattle.thetatree.specs.declared.leaves.Colour.TheVariants.{Out, White, Gray}
 use Rattle.thetatree.specs.declared.node.Best.{Best}
 use Rattle.thetatree.specs.declared.node.Node.{Node}
-use Rattle.thetatree.specs.Leaves.{Leaves, colour_at, end_of, GivesEct, GivesEctGray}
-use Rattle.thetatree.specs.Nodes.{no_node}
-use Rattle.thetatree.specs.Trees.{node_at, IsTree}
+use Rattle.thetatree.specs.code.Leaves.{Leaves, colour_at, end_of, GivesEct, GivesEctGray}
+use Rattle.thetatree.specs.code.Nodes.{no_node}
+use Rattle.thetatree.specs.code.Trees.{node_at, IsTree}
 use Rattle.thetatree.proofs.Parts.{IsAtMost, Begins, end_from, Reaches, AtMostBest, HoldsPart}
 use Rattle.thetatree.proofs.Climb.{size_from, count_is, count_some, top_holds}
 use Rattle.thetatree.proofs.Sets.{IsWide, EndsBy, white_there, gray_there, set_ends, row_ends}

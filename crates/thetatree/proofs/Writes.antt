@@ -9,11 +9,11 @@ use Rattle.thetatree.specs.declared.leaves.Task.{Task}
 use Rattle.thetatree.specs.declared.leaves.Colour.{Colour}
 use Rattle.thetatree.specs.declared.leaves.Colour.TheVariants.{Out}
 use Rattle.thetatree.specs.declared.node.Node.{Node}
-use Rattle.thetatree.specs.Leaves.{Leaves, task_at, colour_at}
+use Rattle.thetatree.specs.code.Leaves.{Leaves, task_at, colour_at}
 use Rattle.std.specs.Prelude.{pos}
 use Rattle.std.proofs.lemmas.Int.{ints}
-use Rattle.thetatree.specs.Nodes.{no_node, leaf_node, joined, IsSmall}
-use Rattle.thetatree.specs.Trees.{node_at, whole_room, IsJoin, AreSmall, IsTree}
+use Rattle.thetatree.specs.code.Nodes.{no_node, leaf_node, joined, IsSmall}
+use Rattle.thetatree.specs.code.Trees.{node_at, whole_room, IsJoin, AreSmall, IsTree}
 use Rattle.thetatree.proofs.Rooms.{rooms, joined_small, leaf_small}
 
 pub same_node : (ns : List Node) (i j : ℕ) (x : Node) → j ≡ i → i < length ns → node_at (slice_set ns i x) j ≡ x

@@ -1,3 +1,1 @@
-pub mod Leaves
-pub mod Nodes
-pub mod Trees
+pub mod code

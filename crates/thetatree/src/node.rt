@@ -1,6 +1,6 @@
 ghost use Rattle.std.specs.Prelude.{◌≡◌, ◌^◌, ◌+ℤ◌, ◌≤ℤ◌, neg_ℤ, pos, cond, int_lt};
 ghost use Rattle.std.specs.Option.{option_map};
-ghost use Rattle.thetatree.specs.Nodes.{greater_of, later, better, best_of, no_node, leaf_node, joined, IsNear, IsSmall};
+ghost use Rattle.thetatree.specs.code.Nodes.{greater_of, later, better, best_of, no_node, leaf_node, joined, IsNear, IsSmall};
 
 use crate::leaves::{Colour, Task};
 use sched_base::H;

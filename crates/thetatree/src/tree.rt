@@ -1,6 +1,6 @@
 ghost use Rattle.std.specs.Prelude.{◌≡◌, ◌≢◌, ℕ, ◌+◌, ◌-◌, ◌*◌, ◌/◌, ◌<◌, ◌≤◌, ◌≤ℤ◌, length, slice_set, replicate, IsTrue, ◌↔◌, IfOk};
-ghost use Rattle.thetatree.specs.Leaves.{Leaves, task_in, colour_at, IsSmallTask, AreTasks, GivesEct, GivesEctGray};
-ghost use Rattle.thetatree.specs.Trees.{node_at, IsJoin, AreSmall};
+ghost use Rattle.thetatree.specs.code.Leaves.{Leaves, task_in, colour_at, IsSmallTask, AreTasks, GivesEct, GivesEctGray};
+ghost use Rattle.thetatree.specs.code.Trees.{node_at, IsJoin, AreSmall};
 
 use crate::leaves::{Colour, MAX_TASKS, Task};
 use crate::node::{EMPTY, Node, join, leaf};
@@ -23,8 +23,8 @@ pub struct ThetaTree {
 }
 
 impl Model for ThetaTree {
-    ghost use Rattle.thetatree.specs.Leaves.{Leaves};
-    ghost use Rattle.thetatree.specs.Trees.{IsTree};
+    ghost use Rattle.thetatree.specs.code.Leaves.{Leaves};
+    ghost use Rattle.thetatree.specs.code.Trees.{IsTree};
 
     ghost Value = { Leaves };
 

@@ -1,5 +1,5 @@
 ghost use Rattle.std.specs.Prelude.{◌≡◌, ◌+◌, ◌≤◌, ◌<◌, ◌++◌, ◌∷◌, [], length, IfOk, IsOk, OnOk, OnErr, slice_set, slice_index_or, ℤ};
-ghost use Rattle.trail.specs.Trail.{Regains};
+ghost use Rattle.trail.specs.code.Trail.{Regains};
 
 use crate::entry::Entry;
 use crate::log::Log;
@@ -21,8 +21,8 @@ pub struct Cells {
 
 impl Model for Cells {
     ghost use Rattle.std.specs.Prelude.{◌≡◌, ◌-◌, length};
-    ghost use Rattle.trail.specs.Trail.{Trail};
-    ghost use Rattle.trail.specs.Entries.{IsLog, promises, saved_lists};
+    ghost use Rattle.trail.specs.code.Trail.{Trail};
+    ghost use Rattle.trail.specs.code.Entries.{IsLog, promises, saved_lists};
 
     ghost Value = { Trail };
 

@@ -2,9 +2,9 @@
 use Rattle.std.proofs.Common.{◌≡◌, ◌⊎◌, inl, inr, ℕ, zero, suc, ◌+◌, ◌<◌, Bool, true, false, ◌||◌, List, [], ◌∷◌, length, take, get_or, refl, sym, subst, arith, ◌∙◌}
 use Rattle.std.specs.Prelude.{nat_eq}
 use Rattle.std.proofs.lemmas.Bool.Decides.{nat_tests}
-use Rattle.iqueue.specs.Queue.{is_in}
-use Rattle.wake_levels.specs.Waking.{Waking, is_awake, is_in_any, woken_on}
-use Rattle.wake_levels.specs.Calm.{WakesEach}
+use Rattle.iqueue.specs.code.Queue.{is_in}
+use Rattle.wake_levels.specs.code.Waking.{Waking, is_awake, is_in_any, woken_on}
+use Rattle.wake_levels.specs.code.Calm.{WakesEach}
 use Rattle.wake_levels.specs.laws.Turning.{kept_on, has_on, count_on}
 use Rattle.base_laws.specs.laws.Numbers.{below_or_last}
 

@@ -1,9 +1,9 @@
 -- The lists of queues of which one is changed.
 use Rattle.std.proofs.Common.{◌≡◌, ℕ, zero, suc, ◌+◌, ◌<◌, List, [], ◌∷◌, length, set, replicate, get_or, slice_get, map, Some, None, refl, sym, ap, arith, ◌∙◌}
-use Rattle.iqueue.specs.Queue.{Queue, without, woken, AreDistinctBelow}
+use Rattle.iqueue.specs.code.Queue.{Queue, without, woken, AreDistinctBelow}
 use Rattle.wake_levels.specs.declared.levels.Turn.{Turn}
-use Rattle.wake_levels.specs.Waking.{Waking, next_level, first_turn, without_on_all, woken_on}
-use Rattle.wake_levels.specs.Queues.{lists_of, AreBelow, queue_without}
+use Rattle.wake_levels.specs.code.Waking.{Waking, next_level, first_turn, without_on_all, woken_on}
+use Rattle.wake_levels.specs.code.Queues.{lists_of, AreBelow, queue_without}
 
 abbrev pub waking : ℕ → List (List ℕ) → Waking
 waking n kss = record { below = n; levels = kss }

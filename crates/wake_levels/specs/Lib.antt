@@ -1,4 +1,2 @@
-pub mod Waking
-pub mod Queues
-pub mod Calm
 pub mod laws
+pub mod code

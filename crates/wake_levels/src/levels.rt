@@ -1,7 +1,7 @@
 ghost use Rattle.std.specs.Prelude.{◌≡◌, ◌<◌, [], ◌∷◌, ℕ, length, map, replicate, All, IsTrue, IfOk, IfSome};
-ghost use Rattle.wake_levels.specs.Queues.{AreBelow, queue_without};
-ghost use Rattle.wake_levels.specs.Waking.{is_awake, first_turn, without_on_all, woken_on};
-ghost use Rattle.wake_levels.specs.Calm.{WakesEach};
+ghost use Rattle.wake_levels.specs.code.Queues.{AreBelow, queue_without};
+ghost use Rattle.wake_levels.specs.code.Waking.{is_awake, first_turn, without_on_all, woken_on};
+ghost use Rattle.wake_levels.specs.code.Calm.{WakesEach};
 
 use iqueue::WakeQueue;
 use sched_base::NoMemory;
@@ -19,8 +19,8 @@ pub struct WakeLevels {
 
 impl Model for WakeLevels {
     ghost use Rattle.std.specs.Prelude.{◌<◌, length};
-    ghost use Rattle.wake_levels.specs.Waking.{Waking};
-    ghost use Rattle.wake_levels.specs.Queues.{lists_of, AreBelow};
+    ghost use Rattle.wake_levels.specs.code.Waking.{Waking};
+    ghost use Rattle.wake_levels.specs.code.Queues.{lists_of, AreBelow};
 
     ghost Value = { Waking };
 

@@ -6,7 +6,7 @@ use Rattle.base_laws.specs.laws.Items.{all_append}
 use Rattle.base_laws.specs.laws.Kept.{filter_yes, filter_no, count_yes, count_no, all_filter}
 use Rattle.base_laws.specs.laws.Places.{at_left, at_right}
 use Rattle.sched_model.specs.Words.{passes, passes_if_any}
-use Rattle.cpo_elab.specs.Numbered.{parted, new_place}
+use Rattle.cpo_elab.specs.NamedFirst.{parted, new_place}
 
 kept_more : {X : Type 0} (p : X → Bool) (x : X) (xs : List X) (i : ℕ) (b : Bool) → p x ≡ b → slice_get (filter p xs) (count_by p (take i xs)) ≡ slice_get xs i
     → slice_get (filter p (x ∷ xs)) (count_by p (x ∷ take i xs)) ≡ slice_get xs i

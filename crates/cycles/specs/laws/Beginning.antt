@@ -5,8 +5,8 @@ use Rattle.std.proofs.lemmas.Int.{ints}
 use Rattle.std.proofs.lemmas.List.{get_or_append_left, get_or_push, length_push}
 use Rattle.refute_basic.specs.declared.edge.Arc.{Arc}
 use Rattle.cycles.specs.declared.node.Node.{Node}
-use Rattle.cycles.specs.Search.{node_at, no_node, bound, IsSearch, IsShort}
-use Rattle.cycles.specs.Begun.{IsBegun}
+use Rattle.cycles.specs.code.Search.{node_at, no_node, bound, IsSearch, IsShort}
+use Rattle.cycles.specs.code.Begun.{IsBegun}
 use Rattle.base_laws.specs.laws.Numbers.{below_or_last}
 
 pub begun_more : (nodes : List Node) (last : List ℕ) (n : ℕ) (x : Node) → x.point ≡ n → x.len ≡ 0 → neg_ℤ (pos (2 ^ 63)) ≤ℤ x.value → x.value ≤ℤ pos (2 ^ 63)

@@ -5,9 +5,9 @@ use Rattle.std.proofs.lemmas.Int.{ints}
 use Rattle.std.proofs.lemmas.Bool.{true≢false}
 use Rattle.refute_basic.specs.declared.edge.Arc.{Arc}
 use Rattle.cycles.specs.declared.node.Node.{Node}
-use Rattle.cycles.specs.Walks.{arc_at, HasHeights, HasNoGain}
-use Rattle.cycles.specs.Search.{Search, node_at, last_of, height, stage, is_late, IsSearch, IsShort, AreOn, turn_of, IsBehind, IsStill}
-use Rattle.cycles.specs.Pushes.{pushed, node_by}
+use Rattle.cycles.specs.code.Walks.{arc_at, HasHeights, HasNoGain}
+use Rattle.cycles.specs.code.Search.{Search, node_at, last_of, height, stage, is_late, IsSearch, IsShort, AreOn, turn_of, IsBehind, IsStill}
+use Rattle.cycles.specs.code.Pushes.{pushed, node_by}
 use Rattle.cycles.specs.laws.Walking.{no_gain}
 use Rattle.cycles.specs.laws.Pushed.{same_or_not, last_node_same, last_node_new, rises}
 

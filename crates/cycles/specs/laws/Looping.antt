@@ -5,9 +5,9 @@ use Rattle.std.proofs.lemmas.Int.{ints}
 use Rattle.std.proofs.lemmas.Bool.Decides.{nat_tests}
 use Rattle.std.proofs.lemmas.List.{length_push}
 use Rattle.refute_basic.specs.declared.edge.Arc.{Arc}
-use Rattle.cycles.specs.Walks.{arc_at, picked, leads, is_closed, total, IsGain}
-use Rattle.cycles.specs.Search.{Search, node_at, IsSearch}
-use Rattle.cycles.specs.Ways.{Reach, Reach.there, Reach.further, IsLoop, IsRead, IsReading}
+use Rattle.cycles.specs.code.Walks.{arc_at, picked, leads, is_closed, total, IsGain}
+use Rattle.cycles.specs.code.Search.{Search, node_at, IsSearch}
+use Rattle.cycles.specs.code.Ways.{Reach, Reach.there, Reach.further, IsLoop, IsRead, IsReading}
 use Rattle.cycles.specs.laws.Walking.{same_nat, leads_more, total_more, picked_more, places_more}
 use Rattle.std.proofs.lemmas.Bool.{and_parts}
 

@@ -7,8 +7,8 @@ use Rattle.std.proofs.lemmas.List.{get_or-set_same, get_or-set_other, length-set
 use Rattle.std.proofs.lemmas.Map.Steps.{length-le_from_distinct_below}
 use Rattle.refute_basic.specs.declared.edge.Arc.{Arc}
 use Rattle.cycles.specs.declared.node.Node.{Node}
-use Rattle.cycles.specs.Search.{Search, node_at, IsSearch}
-use Rattle.cycles.specs.Ways.{Reach, Reach.there, Reach.further, IsLoop, is_in, AreDistinct, IsMark, IsMarked}
+use Rattle.cycles.specs.code.Search.{Search, node_at, IsSearch}
+use Rattle.cycles.specs.code.Ways.{Reach, Reach.there, Reach.further, IsLoop, is_in, AreDistinct, IsMark, IsMarked}
 use Rattle.cycles.specs.laws.Pushed.{same_or_not}
 use Rattle.std.proofs.lemmas.Bool.{or_parts}
 

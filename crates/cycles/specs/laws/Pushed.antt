@@ -6,9 +6,9 @@ use Rattle.std.proofs.lemmas.Bool.Decides.{nat_tests}
 use Rattle.std.proofs.lemmas.List.{get_or_append_left, get_or_push, length_push, get_or-set_same, get_or-set_other, length-set}
 use Rattle.refute_basic.specs.declared.edge.Arc.{Arc}
 use Rattle.cycles.specs.declared.node.Node.{Node}
-use Rattle.cycles.specs.Walks.{arc_at}
-use Rattle.cycles.specs.Search.{Search, node_at, no_node, last_of, height, stage, is_late, IsLink, bound, IsSearch, IsShort, IsOn}
-use Rattle.cycles.specs.Pushes.{pushed, node_by}
+use Rattle.cycles.specs.code.Walks.{arc_at}
+use Rattle.cycles.specs.code.Search.{Search, node_at, no_node, last_of, height, stage, is_late, IsLink, bound, IsSearch, IsShort, IsOn}
+use Rattle.cycles.specs.code.Pushes.{pushed, node_by}
 use Rattle.base_laws.specs.laws.Numbers.{below_or_last}
 
 pub same_or_not : (i j : ℕ) → (i ≡ j) ⊎ (i ≡ j → ⊥)

@@ -3,7 +3,7 @@ use Rattle.std.specs.Prelude.{ℕ, ◌+◌, ◌^◌, ◌<◌, ℤ, pos, neg_ℤ,
 use Rattle.std.proofs.Common.{arith}
 use Rattle.std.proofs.lemmas.Int.{ints}
 use Rattle.refute_basic.specs.declared.edge.Arc.{Arc}
-use Rattle.cycles.specs.Search.{Search, node_at, last_of, height, bound, IsSearch, IsShort}
+use Rattle.cycles.specs.code.Search.{Search, node_at, last_of, height, bound, IsSearch, IsShort}
 
 pub low_enough : (arcs : List Arc) (n : ℕ) (s : Search) (v : ℕ) → IsSearch arcs n s → IsShort n s → v < n → length s.last < 2 ^ 63 → neg_ℤ (pos (2 ^ 126)) ≤ℤ height s v
 low_enough arcs n s v is short less size = at (node_at s.nodes (last_of s v)).len (height s v) (omega (arith, size, is.count, short v less)) (is.lower (last_of s v) (is.last v less))

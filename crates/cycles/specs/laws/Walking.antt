@@ -4,7 +4,7 @@ use Rattle.std.proofs.Common.{refl, ap, ◌∙◌, arith}
 use Rattle.std.proofs.lemmas.Int.{ints}
 use Rattle.std.proofs.lemmas.Bool.Decides.{nat_tests}
 use Rattle.refute_basic.specs.declared.edge.Arc.{Arc}
-use Rattle.cycles.specs.Walks.{arc_at, picked, leads, is_closed, total, are_places, HasNoGain}
+use Rattle.cycles.specs.code.Walks.{arc_at, picked, leads, is_closed, total, are_places, HasNoGain}
 use Rattle.std.proofs.lemmas.Bool.{and_parts}
 
 pub same_nat : (i j : ℕ) → nat_eq i j ≡ true → i ≡ j

@@ -2,7 +2,7 @@
 use Rattle.std.specs.Prelude.{◌≡◌, ℕ, ◌+◌, ◌-◌, ◌<◌, true, false, nat_lt}
 use Rattle.std.proofs.Common.{subst, arith}
 use Rattle.std.proofs.lemmas.Bool.Decides.{nat_tests}
-use Rattle.engine.specs.Pairs.{chosen}
+use Rattle.engine.specs.code.Pairs.{chosen}
 
 lower : (k n : ℕ) → k < n → nat_lt k n ≡ true
 lower k n h = grind (arith, nat_tests)

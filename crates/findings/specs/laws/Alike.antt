@@ -30,7 +30,7 @@ use Rattle.region.specs.laws.Pairs.{IsPaired, paired, pairs_at, cells_there, cel
 use Rattle.region.specs.laws.Narrowing.{as_many, members_are, as_many_bounds}
 use Rattle.region.specs.laws.Standing.{SameFive, same_bounds}
 use Rattle.findings.specs.Ends.{is_end_at, is_end, is_open_end}
-use Rattle.findings.specs.Reads.{Reads, AreAlike, reads_cell, is_among, is_paired}
+use Rattle.findings.specs.code.Reads.{Reads, AreAlike, reads_cell, is_among, is_paired}
 use Rattle.findings.specs.laws.Members.{first_paired, second_paired}
 
 -- what is made of an element by one function, where it depends on one thing of the element

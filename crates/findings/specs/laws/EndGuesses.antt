@@ -11,7 +11,7 @@ use Rattle.region.specs.Cells.{Region, bounds_of}
 use Rattle.region.specs.Guesses.{topic}
 use Rattle.region.specs.laws.OneSequence.{same_is, same_self}
 use Rattle.findings.specs.Ends.{is_end}
-use Rattle.findings.specs.Search.{is_on}
+use Rattle.findings.specs.code.Search.{is_on}
 
 -- the guesses at the ends of an interval, in the order in which they are tried
 abbrev pub end_guesses : Bounds → Itv → List Guess

@@ -15,7 +15,7 @@ use Rattle.region.specs.laws.Lists.{both_true, true_both}
 use Rattle.region.specs.laws.Intervals.{bounds_elsewhere}
 use Rattle.region.specs.laws.Narrowing.{guess_stays}
 use Rattle.findings.specs.Ends.{is_open_end, is_asked}
-use Rattle.findings.specs.Reads.{Reads, AreAlike, LooksOnlyAt, IsUnrefuted, is_among, is_paired}
+use Rattle.findings.specs.code.Reads.{Reads, AreAlike, LooksOnlyAt, IsUnrefuted, is_among, is_paired}
 use Rattle.findings.specs.laws.Kept.{asked_admits}
 
 -- guesses on intervals, whichever they are of

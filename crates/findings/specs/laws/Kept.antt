@@ -12,7 +12,7 @@ use Rattle.region.specs.laws.Lists.{both_true, true_both}
 use Rattle.region.specs.laws.Narrowing.{looked_stays}
 use Rattle.findings.specs.Ends.{is_end, is_open_end, is_asked}
 use Rattle.findings.specs.Found.{IsQuiet}
-use Rattle.findings.specs.Reads.{Reads, AreAlike, LooksOnlyAt, IsUnrefuted, is_among, reads_cell}
+use Rattle.findings.specs.code.Reads.{Reads, AreAlike, LooksOnlyAt, IsUnrefuted, is_among, reads_cell}
 use Rattle.findings.specs.laws.Alike.{alike_under, open_end_alike, alike_from_cells}
 
 -- an open end guess is admitted

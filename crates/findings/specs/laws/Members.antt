@@ -13,7 +13,7 @@ use Rattle.region.specs.Topics.{asks_each}
 use Rattle.region.specs.laws.Lists.{both_true, true_both}
 use Rattle.region.specs.laws.OneSequence.{same_is, has_cases}
 use Rattle.findings.specs.declared.finding.Pair.{Pair}
-use Rattle.findings.specs.Reads.{is_pair, has_pair, is_paired, is_among}
+use Rattle.findings.specs.code.Reads.{is_pair, has_pair, is_paired, is_among}
 use Rattle.base_laws.specs.laws.Items.{any_weaker}
 
 -- an element of the front of a list is the last of it, or one of those before

@@ -8,7 +8,7 @@ use Rattle.region.specs.declared.types.Claim.TheVariants as claim
 use Rattle.region.specs.Claims.{guessed}
 use Rattle.region.specs.Looks.{ect_in, lst_in}
 use Rattle.findings.specs.Ends.{is_end_at}
-use Rattle.findings.specs.Numbers.{highest_end, lowest_start}
+use Rattle.findings.specs.code.Numbers.{highest_end, lowest_start}
 
 -- under a claim at its end
 pub least_start : (k : Claim) (c : Bounds) → is_end_at k c ≡ true → lowest_start c ≤ℤ lst_in (guessed k c)

@@ -3,7 +3,7 @@ use Rattle.std.specs.Prelude.{◌≡◌, ℕ, ◌+◌, List, [], ◌∷◌, ◌+
 use Rattle.std.proofs.Common.{refl, ap, subst, ◌∙◌, arith}
 use Rattle.std.proofs.lemmas.List.{length_push}
 use Rattle.base_laws.specs.laws.Places.{each_pushed}
-use Rattle.findings.specs.Tables.{AreLists}
+use Rattle.findings.specs.code.Tables.{AreLists}
 
 pub no_lists : {X : Type 0} (wanted : ℕ → List X) → AreLists wanted 0 []
 no_lists wanted = record { size = refl; each = λ k below. absurd (omega (arith, below)) }

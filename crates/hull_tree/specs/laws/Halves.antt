@@ -12,9 +12,9 @@ use Rattle.sched_model.specs.Ranges.{Ends, lows, highs, total_range}
 use Rattle.look_hull.specs.LookHull.{truth_range, surely_true, surely_false, and_range, or_range}
 use Rattle.hull_tree.specs.declared.nodes.Op.{Op}
 use Rattle.hull_tree.specs.declared.nodes.Op.TheVariants.{Neg, Add, Times, Greater, Lesser, Compare, Not, Both, Either, Implies}
-use Rattle.look_hull.specs.Saturated.{saturated}
+use Rattle.look_hull.specs.code.Saturated.{saturated}
 use Rattle.look_hull.specs.laws.Saturation.{pair_kept}
-use Rattle.hull_tree.specs.Nodes.{added, combined, joined_truth, whole, is_joining, is_limited}
+use Rattle.hull_tree.specs.code.Nodes.{added, combined, joined_truth, whole, is_joining, is_limited}
 
 -- lists of ends
 lows_joined : (xs ys : List Ends) → lows (xs ++ ys) ≡ lows xs ++ lows ys

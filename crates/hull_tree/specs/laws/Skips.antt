@@ -14,8 +14,8 @@ use Rattle.hull_tree.specs.declared.nodes.Op.{Op}
 use Rattle.hull_tree.specs.declared.nodes.Node.{Node}
 use Rattle.hull_tree.specs.declared.nodes.Span.{Span}
 use Rattle.hull_tree.specs.declared.nodes.Node.TheVariants as node
-use Rattle.hull_tree.specs.Nodes.{interval_of, named, leaf_ends, combined, ends_at, node_at, span_at, node_ends, AreEnds, IsPlaced, AreNodes, AreSameBut, DifferAt, IsEndsOf}
-use Rattle.hull_tree.specs.Atoms.{AreAtoms, IsClear}
+use Rattle.hull_tree.specs.code.Nodes.{interval_of, named, leaf_ends, combined, ends_at, node_at, span_at, node_ends, AreEnds, IsPlaced, AreNodes, AreSameBut, DifferAt, IsEndsOf}
+use Rattle.hull_tree.specs.code.Atoms.{AreAtoms, IsClear}
 
 -- a leaf tells the same where its interval is the same
 leaf_same : (m : Data) (r q : Region) (l : Leaf) → ((z : Itv) → interval_of l ≡ Some z → bounds_of r z ≡ bounds_of q z) → leaf_ends m r l ≡ leaf_ends m q l

@@ -3,7 +3,7 @@ use Rattle.std.specs.Prelude.{◌≡◌, ℕ, Bool, true, false, ◌||◌, List,
 use Rattle.std.proofs.Common.{refl, arith}
 use Rattle.std.proofs.lemmas.Bool.{or_left, or_right}
 use Rattle.std.proofs.lemmas.Bool.Decides.{nat_tests}
-use Rattle.iqueue.specs.Queue.{is_in}
+use Rattle.iqueue.specs.code.Queue.{is_in}
 
 -- it has that number
 pub in_end : (k : ℕ) (ks : List ℕ) → is_in k (ks ++ k ∷ []) ≡ true

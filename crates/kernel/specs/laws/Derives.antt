@@ -11,7 +11,7 @@ use Rattle.kernel.specs.declared.types.Line.{Line}
 use Rattle.kernel.specs.declared.types.Line.TheVariants.{Derive}
 use Rattle.kernel.specs.declared.types.Found.{Found}
 use Rattle.region.specs.Looks.{Refuting}
-use Rattle.kernel.specs.Faults.{derive_fault}
+use Rattle.kernel.specs.code.Faults.{derive_fault}
 use Rattle.kernel.specs.Steps.{LogState, Steps, done, more, step, best_of}
 use Rattle.kernel.specs.Derives.{IsDerived, Derives, stays, learns}
 

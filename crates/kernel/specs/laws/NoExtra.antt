@@ -3,7 +3,7 @@ use Rattle.std.specs.Prelude.{◌≡◌, ◌<◌, ◌^◌, length, IsTrue}
 use Rattle.sched_model.specs.Data.{Data}
 use Rattle.sched_model.specs.Valid.{IsValid}
 use Rattle.region.specs.Looks.{Seen, IsRegionOf, HasNone}
-use Rattle.region.specs.Spelled.{AreSmall}
+use Rattle.region.specs.code.Spelled.{AreSmall}
 use Rattle.kernel.specs.declared.no_extra.NoWitness.{NoWitness}
 use Rattle.kernel.specs.NoExtra.{numbers_of, is_valid, refutes_none}
 

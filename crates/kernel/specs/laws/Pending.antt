@@ -5,8 +5,8 @@ use Rattle.std.proofs.lemmas.List.Elements.{All-nil}
 use Rattle.region.specs.declared.types.Guess.{Guess}
 use Rattle.region.specs.Cells.{Region}
 use Rattle.region.specs.Guesses.{with_fact}
-use Rattle.region.specs.Held.{Held}
-use Rattle.kernel.specs.Pending.{ArePending, AreOpen, after_saved}
+use Rattle.region.specs.code.Held.{Held}
+use Rattle.kernel.specs.code.Pending.{ArePending, AreOpen, after_saved}
 
 -- whoever narrows the region and spends its room, but keeps its saves, keeps what waits
 pub pending_kept : (old new : Held) (gs : List Guess) → new.saved ≡ old.saved → new.promised ≡ old.promised → ArePending old gs → ArePending new gs

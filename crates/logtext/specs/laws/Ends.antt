@@ -8,7 +8,7 @@ use Rattle.textline.specs.Words.{is_plain, is_word, are_words}
 use Rattle.textline.specs.laws.Lines.{both_true, true_both}
 use Rattle.logtext.specs.declared.entry.Entry.{Entry}
 use Rattle.logtext.specs.Entries.{entry_text, is_fit_entry}
-use Rattle.logtext.specs.Promises.{EndsOnce}
+use Rattle.logtext.specs.code.Promises.{EndsOnce}
 use Rattle.logtext.specs.laws.Entries.{AreTold, entry_plain, has_words}
 
 word_clean : (w : Bytes) → is_word w ≡ true → list_all (λ b. not (b == 10)) w ≡ true

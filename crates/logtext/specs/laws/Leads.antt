@@ -3,7 +3,7 @@ use Rattle.std.specs.Prelude.{◌≡◌, ℕ, ◌+◌, ◌*◌, ◌<◌, Bool, t
 use Rattle.std.proofs.Common.{refl, sym, ◌∙◌, append_assoc, arith, subst}
 use Rattle.std.specs.List.{list_all, flat_map}
 use Rattle.textline.specs.Lines.{Bytes}
-use Rattle.logtext.specs.Reads.{NoneStands}
+use Rattle.logtext.specs.code.Reads.{NoneStands}
 use Rattle.textline.specs.laws.Lines.{both_true}
 use Rattle.base_laws.specs.laws.Lists.{same_lists}
 

@@ -21,7 +21,7 @@ use Rattle.kernel.specs.Fit.{is_count, is_id, is_fit_guess, is_fit_slot, is_fit_
 use Rattle.textline.specs.Lines.{Bytes}
 use Rattle.textline.specs.laws.Lines.{both_true}
 use Rattle.logtext.specs.Spelling.{guess_words, slot_words, member_word, order_words, segment_words, segments_words, assignment_words}
-use Rattle.logtext.specs.Reads.{BeginsWith, BeginsSlot, counted_ids, counted_segments}
+use Rattle.logtext.specs.code.Reads.{BeginsWith, BeginsSlot, counted_ids, counted_segments}
 use Rattle.logtext.specs.laws.Leads.{Tells, tag, behind, head_is, counted_told, open_told}
 use Rattle.base_laws.specs.laws.Truth.{three_true}
 

@@ -21,7 +21,7 @@ use Rattle.sched_model.specs.laws.Products.{ranges_same}
 use Rattle.region.specs.Cells.{Region}
 use Rattle.region.specs.Looks.{IsRegionOf}
 use Rattle.look_hull.specs.LookHull.{compare_range, not_range, and_range, or_range, implies_range, look_step, look_hull}
-use Rattle.look_hull.specs.Saturated.{saturated, saturated_negation, saturated_product, saturated_step, saturated_look}
+use Rattle.look_hull.specs.code.Saturated.{saturated, saturated_negation, saturated_product, saturated_step, saturated_look}
 use Rattle.look_hull.specs.laws.Hulls.{Kept, look_kept}
 
 -- 64 bits hold both ends within the limits

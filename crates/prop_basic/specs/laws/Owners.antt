@@ -13,7 +13,7 @@ use Rattle.refute_basic.specs.Size.{size_row}
 use Rattle.refute_basic.specs.Expr.{is_never_true, expr_row}
 use Rattle.refute_basic.specs.Basic.{refutes}
 use Rattle.refute_basic.specs.laws.Size.{none_past}
-use Rattle.prop_basic.specs.Tasks.{size_of, is_own, looks_after, witness_at, quiet, IsSilent}
+use Rattle.prop_basic.specs.code.Tasks.{size_of, is_own, looks_after, witness_at, quiet, IsSilent}
 use Rattle.base_laws.specs.laws.Truth.{never_both}
 use Rattle.sched_model.specs.laws.Words.{none_past as nothing_past}
 use Rattle.sched_model.specs.Bounds.{is_number}

@@ -18,7 +18,7 @@ use Rattle.region.specs.laws.Intervals.{bounds_there}
 use Rattle.region.specs.laws.Lists.{true_both, length-changed_at}
 use Rattle.region.specs.laws.OneSequence.{same_is, same_self}
 use Rattle.findings.specs.Ends.{is_open_end}
-use Rattle.findings.specs.Reads.{Reads, LooksOnlyAt, IsUnrefuted, is_among, is_paired, reads_cell}
+use Rattle.findings.specs.code.Reads.{Reads, LooksOnlyAt, IsUnrefuted, is_among, is_paired, reads_cell}
 use Rattle.findings.specs.laws.Alike.{alike_from_cells}
 use Rattle.findings.specs.laws.Kept.{unrefuted_kept, asked_more}
 use Rattle.findings.specs.laws.Everywhere.{unrefuted_everywhere}
@@ -29,7 +29,7 @@ use Rattle.refute_basic.specs.Basic.{refutes}
 use Rattle.refute_basic.specs.Listed.{asks_size, is_on_one, lists}
 use Rattle.refute_basic.specs.laws.Size.{none_past, size_alike}
 use Rattle.refute_basic.specs.laws.Hulls.{logic_names, objective_names, expr_alike, obj_alike}
-use Rattle.prop_basic.specs.Tasks.{is_own, reads_of, IsSilent}
+use Rattle.prop_basic.specs.code.Tasks.{is_own, reads_of, IsSilent}
 use Rattle.base_laws.specs.laws.Truth.{alone, never_both}
 use Rattle.sched_model.specs.Bounds.{is_number}
 

@@ -7,7 +7,7 @@ use Rattle.region.specs.Cells.{Region}
 use Rattle.region.specs.Guesses.{SameCell}
 use Rattle.region.specs.Looks.{IsRegionOf}
 use Rattle.refute_basic.specs.declared.witness.BasicWitness.TheVariants.{Size, Expr}
-use Rattle.prop_basic.specs.Tasks.{reads_of, witness_at, watching, watching_best, quiet, IsSilent}
+use Rattle.prop_basic.specs.code.Tasks.{reads_of, witness_at, watching, watching_best, quiet, IsSilent}
 use Rattle.prop_basic.specs.laws.Owners.{owned, owns}
 use Rattle.prop_basic.specs.laws.Silent.{silent_kept}
 

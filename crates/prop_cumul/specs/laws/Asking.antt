@@ -27,7 +27,7 @@ use Rattle.region.specs.laws.Narrowing.{looked_stays}
 use Rattle.region.specs.laws.OneSequence.{same_is, same_self, has_cases}
 use Rattle.findings.specs.Ends.{is_end, is_open_end, is_asked}
 use Rattle.findings.specs.Found.{IsFinding}
-use Rattle.findings.specs.Search.{is_on}
+use Rattle.findings.specs.code.Search.{is_on}
 use Rattle.findings.specs.laws.EndGuesses.{end_guesses, place, IsAnEnd}
 use Rattle.refute_cumul.specs.declared.bound.Bound.{Bound}
 use Rattle.refute_cumul.specs.declared.witness.CumulWitness.{CumulWitness}
@@ -35,18 +35,18 @@ use Rattle.refute_cumul.specs.declared.witness.CumulWitness.TheVariants.{Point}
 use Rattle.refute_cumul.specs.Witness.{constraint_of, is_valid}
 use Rattle.refute_cumul.specs.Point.{point_of, point_row}
 use Rattle.refute_cumul.specs.Levels.{is_surely_in}
-use Rattle.refute_cumul.specs.Loads.{load, limit_of, is_over, is_from, window_of}
+use Rattle.refute_cumul.specs.code.Loads.{load, limit_of, is_over, is_from, window_of}
 use Rattle.refute_cumul.specs.OnCumul.{refutes}
 use Rattle.refute_cumul.specs.Listed.{names_of, lists}
-use Rattle.refute_cumul.specs.Profiles.{Profile, level_in}
-use Rattle.refute_cumul.specs.Sides.{is_high, IsBoundOf, HasRoom, as_constraint}
+use Rattle.refute_cumul.specs.code.Profiles.{Profile, level_in}
+use Rattle.refute_cumul.specs.code.Sides.{is_high, IsBoundOf, HasRoom, as_constraint}
 use Rattle.refute_cumul.specs.laws.Loads.{window_is, side}
 use Rattle.refute_cumul.specs.laws.Sides.{high_refutes, both_silent, few_parts, has_room}
 use Rattle.prop_cumul.specs.declared.task.Task.{Task}
-use Rattle.prop_cumul.specs.Tables.{is_of, is_cumul, IsTaskOf}
-use Rattle.prop_cumul.specs.Tasks.{looks_after, quiet}
-use Rattle.prop_cumul.specs.Extra.{extra, IsRaisedAbove, StaysLow}
-use Rattle.prop_cumul.specs.Asking.{NeverHigh, IsQuietUnder, IsQuietOn, AreQuietOn, IsSideQuiet, IsBusy}
+use Rattle.prop_cumul.specs.code.Tables.{is_of, is_cumul, IsTaskOf}
+use Rattle.prop_cumul.specs.code.Tasks.{looks_after, quiet}
+use Rattle.prop_cumul.specs.code.Extra.{extra, IsRaisedAbove, StaysLow}
+use Rattle.prop_cumul.specs.code.Asking.{NeverHigh, IsQuietUnder, IsQuietOn, AreQuietOn, IsSideQuiet, IsBusy}
 use Rattle.prop_cumul.specs.laws.Extra.{extra_alone, guess_elsewhere}
 use Rattle.prop_cumul.specs.laws.Owners.{owned}
 

@@ -17,11 +17,11 @@ use Rattle.region.specs.Cells.{Region, bounds_of}
 use Rattle.region.specs.Claims.{guessed}
 use Rattle.region.specs.Guesses.{topic, assumed, with_guess}
 use Rattle.region.specs.laws.Intervals.{bounds_elsewhere}
-use Rattle.findings.specs.Search.{is_on}
-use Rattle.refute_cumul.specs.Loads.{bounded_of, bounded_shape, is_minus, bounded, load_of, load}
+use Rattle.findings.specs.code.Search.{is_on}
+use Rattle.refute_cumul.specs.code.Loads.{bounded_of, bounded_shape, is_minus, bounded, load_of, load}
 use Rattle.refute_cumul.specs.Listed.{shape_names}
-use Rattle.prop_cumul.specs.Tables.{is_of}
-use Rattle.prop_cumul.specs.Extra.{extra}
+use Rattle.prop_cumul.specs.code.Tables.{is_of}
+use Rattle.prop_cumul.specs.code.Extra.{extra}
 use Rattle.sched_model.specs.laws.Members.{same_not}
 
 -- the same is known of each other interval

@@ -10,7 +10,7 @@ use Rattle.refute_cumul.specs.Witness.{constraint_of}
 use Rattle.refute_cumul.specs.OnCumul.{refutes}
 use Rattle.refute_cumul.specs.Listed.{is_derived}
 use Rattle.refute_cumul.specs.laws.Past.{names_nothing}
-use Rattle.prop_cumul.specs.Tasks.{size_of, looks_after}
+use Rattle.prop_cumul.specs.code.Tasks.{size_of, looks_after}
 
 pub owned : (m : Data) (k : ℕ) (w : CumulWitness) → looks_after m k w ≡ true → k ≡ constraint_of w
 owned m k w h = same_number k (constraint_of w) h

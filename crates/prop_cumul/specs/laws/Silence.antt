@@ -16,10 +16,10 @@ use Rattle.region.specs.Guesses.{with_guess}
 use Rattle.region.specs.laws.Lists.{both_true}
 use Rattle.refute_cumul.specs.declared.bound.Bound.{Bound}
 use Rattle.refute_cumul.specs.Levels.{is_surely_in}
-use Rattle.refute_cumul.specs.Loads.{nothing, counts, standing, bounded_shape, is_minus, bounded, height_at, load_of, load, limit_of, is_over}
+use Rattle.refute_cumul.specs.code.Loads.{nothing, counts, standing, bounded_shape, is_minus, bounded, height_at, load_of, load, limit_of, is_over}
 use Rattle.refute_cumul.specs.laws.Levels.{valid_parts}
-use Rattle.prop_cumul.specs.Asking.{NeverHigh, IsSideQuiet}
-use Rattle.prop_cumul.specs.Silence.{is_out_of_reach}
+use Rattle.prop_cumul.specs.code.Asking.{NeverHigh, IsSideQuiet}
+use Rattle.prop_cumul.specs.code.Silence.{is_out_of_reach}
 
 -- a height that is at most a million, and at least 0
 abbrev IsLow : ℤ → Type 0

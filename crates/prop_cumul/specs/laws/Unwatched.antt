@@ -7,7 +7,7 @@ use Rattle.region.specs.declared.types.Guess.{Guess}
 use Rattle.region.specs.Cells.{Region}
 use Rattle.region.specs.Guesses.{SameCell, topic}
 use Rattle.region.specs.Looks.{IsRegionOf}
-use Rattle.findings.specs.Reads.{reads_cell, LooksOnlyAt, is_among}
+use Rattle.findings.specs.code.Reads.{reads_cell, LooksOnlyAt, is_among}
 use Rattle.findings.specs.laws.Kept.{quiet_kept}
 use Rattle.findings.specs.laws.Members.{each_among}
 use Rattle.refute_cumul.specs.declared.witness.CumulWitness.{CumulWitness}
@@ -16,7 +16,7 @@ use Rattle.refute_cumul.specs.Witness.{is_valid, constraint_of}
 use Rattle.refute_cumul.specs.OnCumul.{refutes}
 use Rattle.refute_cumul.specs.Listed.{names_of, lists}
 use Rattle.refute_cumul.specs.laws.Alike.{point_alike}
-use Rattle.prop_cumul.specs.Tasks.{looks_after, reads_of, watching, watching_best, quiet}
+use Rattle.prop_cumul.specs.code.Tasks.{looks_after, reads_of, watching, watching_best, quiet}
 use Rattle.prop_cumul.specs.laws.Owners.{owned}
 
 pub looks : (m : Data) (w : CumulWitness) → LooksOnlyAt refutes m w (reads_of m (constraint_of w))

@@ -10,7 +10,7 @@ use Rattle.refute_hier.specs.Witness.{constraint_of}
 use Rattle.refute_hier.specs.Hier.{refutes}
 use Rattle.refute_hier.specs.Listed.{is_derived}
 use Rattle.refute_hier.specs.laws.Past.{names_nothing}
-use Rattle.prop_hier.specs.Tasks.{size_of, looks_after}
+use Rattle.prop_hier.specs.code.Tasks.{size_of, looks_after}
 
 pub owned : (m : Data) (k : ℕ) (w : HierWitness) → looks_after m k w ≡ true → k ≡ constraint_of w
 owned m k w h = same_number k (constraint_of w) h

@@ -32,8 +32,8 @@ use Rattle.refute_basic.specs.Standing.{stand}
 use Rattle.refute_hier.specs.SeqRel.{seqrel_of}
 use Rattle.refute_hier.specs.Hier.{refutes}
 use Rattle.refute_hier.specs.laws.Standing.{standing}
-use Rattle.prop_hier.specs.Related.{pairs_of, asks_pairs, IsSilent}
-use Rattle.prop_hier.specs.Possible.{may_stand, may_break}
+use Rattle.prop_hier.specs.code.Related.{pairs_of, asks_pairs, IsSilent}
+use Rattle.prop_hier.specs.code.Possible.{may_stand, may_break}
 use Rattle.prop_hier.specs.laws.Related.{none_related}
 
 abbrev numbered : ℕ → Itv

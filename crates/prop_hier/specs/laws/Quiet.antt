@@ -23,7 +23,7 @@ use Rattle.region.specs.laws.Intervals.{bounds_there, bounds_elsewhere}
 use Rattle.region.specs.laws.Lists.{both_true, true_both, length-changed_at}
 use Rattle.findings.specs.Ends.{is_open_end, is_asked}
 use Rattle.findings.specs.Found.{IsFound, IsFinding}
-use Rattle.findings.specs.Reads.{AreUnrefuted, is_among}
+use Rattle.findings.specs.code.Reads.{AreUnrefuted, is_among}
 use Rattle.refute_hier.specs.declared.parts.Role.TheVariants.{Clashes}
 use Rattle.refute_hier.specs.declared.witness.HierWitness.{HierWitness}
 use Rattle.refute_hier.specs.declared.witness.HierWitness.TheVariants as witness
@@ -34,12 +34,12 @@ use Rattle.refute_hier.specs.Listed.{family_of, asks_present, lists}
 use Rattle.region.specs.laws.Found.{never}
 use Rattle.refute_hier.specs.declared.family.Kind.{Kind}
 use Rattle.refute_hier.specs.declared.family.Kind.TheVariants.{Span, Alternative, Synchronize}
-use Rattle.refute_hier.specs.Rows.{as_constraint, some_case, some_refutes, IsWitness}
+use Rattle.refute_hier.specs.code.Rows.{as_constraint, some_case, some_refutes, IsWitness}
 use Rattle.refute_hier.specs.SeqRel.{related_in}
 use Rattle.refute_hier.specs.laws.Families.{none_refutes, witness_refutes}
 use Rattle.refute_hier.specs.laws.Relations.{unrelated}
-use Rattle.prop_hier.specs.Rows.{refutes_under}
-use Rattle.prop_hier.specs.Tasks.{looks_after, quiet}
+use Rattle.prop_hier.specs.code.Rows.{refutes_under}
+use Rattle.prop_hier.specs.code.Tasks.{looks_after, quiet}
 use Rattle.prop_hier.specs.laws.Owners.{owned, owner}
 use Rattle.refute_hier.specs.laws.Rows.{witness_from}
 use Rattle.refute_hier.specs.laws.Parts.{IsFamily}

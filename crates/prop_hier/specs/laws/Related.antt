@@ -24,7 +24,7 @@ use Rattle.region.specs.laws.Lists.{both_true}
 use Rattle.region.specs.laws.OneSequence.{same_is, has_cases}
 use Rattle.region.specs.laws.Narrowing.{as_many_bounds}
 use Rattle.findings.specs.Ends.{is_open_end}
-use Rattle.findings.specs.Reads.{Reads, AreAlike, LooksOnlyAt, reads_cell, is_pair, has_pair, is_paired}
+use Rattle.findings.specs.code.Reads.{Reads, AreAlike, LooksOnlyAt, reads_cell, is_pair, has_pair, is_paired}
 use Rattle.findings.specs.laws.Alike.{open_end_alike}
 use Rattle.findings.specs.laws.Members.{first_paired, second_paired, is_forward, is_turned}
 use Rattle.refute_hier.specs.declared.witness.HierWitness.TheVariants.{SeqRel}
@@ -36,8 +36,8 @@ use Rattle.refute_hier.specs.Listed.{asks_pair, asks_related}
 use Rattle.refute_basic.specs.laws.Alike.{SameTwo}
 use Rattle.refute_hier.specs.laws.Alike.{SameRelated, seqrel_alike}
 use Rattle.refute_hier.specs.laws.Relations.{member_first, member_second, related_member}
-use Rattle.prop_hier.specs.Related.{pair, pairs_of, asks_pairs}
-use Rattle.prop_hier.specs.Tables.{intervals_of, sequences_of, watch_of, watches}
+use Rattle.prop_hier.specs.code.Related.{pair, pairs_of, asks_pairs}
+use Rattle.prop_hier.specs.code.Tables.{intervals_of, sequences_of, watch_of, watches}
 
 -- the guesses that its row lists are those on these pairs
 or_none : (b : Bool) → b ≡ (b || false)

@@ -23,11 +23,11 @@ use Rattle.refute_hier.specs.Sync.{sync_of, sync_row}
 use Rattle.refute_hier.specs.SeqRel.{seqrel_of}
 use Rattle.refute_hier.specs.Hier.{refutes}
 use Rattle.refute_hier.specs.Listed.{asks_related, lists}
-use Rattle.refute_hier.specs.Rows.{is_family}
+use Rattle.refute_hier.specs.code.Rows.{is_family}
 use Rattle.refute_hier.specs.laws.Families.{no_span, no_alt, no_sync}
-use Rattle.prop_hier.specs.Related.{pairs_of, asks_pairs, AreSilent}
-use Rattle.prop_hier.specs.Tables.{intervals_of}
-use Rattle.prop_hier.specs.Tasks.{quiet}
+use Rattle.prop_hier.specs.code.Related.{pairs_of, asks_pairs, AreSilent}
+use Rattle.prop_hier.specs.code.Tables.{intervals_of}
+use Rattle.prop_hier.specs.code.Tasks.{quiet}
 use Rattle.prop_hier.specs.laws.Owners.{owned, owner}
 use Rattle.prop_hier.specs.laws.Related.{asks_is, one_listed, none_related}
 

@@ -20,7 +20,7 @@ use Rattle.region.specs.laws.Lists.{both_true, true_both}
 use Rattle.region.specs.laws.Narrowing.{looked_stays}
 use Rattle.findings.specs.Ends.{is_asked, is_open_end}
 use Rattle.findings.specs.Found.{IsQuiet}
-use Rattle.findings.specs.Reads.{Reads, AreAlike, LooksOnlyAt, is_among}
+use Rattle.findings.specs.code.Reads.{Reads, AreAlike, LooksOnlyAt, is_among}
 use Rattle.findings.specs.laws.Alike.{alike_from_cells}
 use Rattle.findings.specs.laws.Kept.{asked_admits, refuted_alike, quiet_kept}
 use Rattle.findings.specs.laws.Members.{each_among}
@@ -31,9 +31,9 @@ use Rattle.refute_hier.specs.SeqRel.{seqrel_of, seqrel_row}
 use Rattle.refute_hier.specs.Hier.{refutes}
 use Rattle.refute_hier.specs.Listed.{family_of, asks_present, asks_related, lists}
 use Rattle.refute_hier.specs.laws.Alike.{span_alike, alt_alike, sync_alike}
-use Rattle.prop_hier.specs.Related.{pairs_of, asks_pairs}
-use Rattle.prop_hier.specs.Tables.{watch_of, watches}
-use Rattle.prop_hier.specs.Tasks.{looks_after, watching, watching_best, quiet, is_cell_of}
+use Rattle.prop_hier.specs.code.Related.{pairs_of, asks_pairs}
+use Rattle.prop_hier.specs.code.Tables.{watch_of, watches}
+use Rattle.prop_hier.specs.code.Tasks.{looks_after, watching, watching_best, quiet, is_cell_of}
 use Rattle.prop_hier.specs.laws.Owners.{owned}
 use Rattle.prop_hier.specs.laws.Related.{asks_is, reads_related, read_watched, looks_related, open_alike, none_related}
 

@@ -11,8 +11,8 @@ use Rattle.region.specs.Cells.{Region, bounds_of}
 use Rattle.task_sets.specs.Times.{overload_row, edge_row, not_end_row, detect_row, turned}
 use Rattle.refute_seq.specs.Sets.{times_of, is_task, without_overlap, overload_of, edge_of, not_end_of, detect_of}
 use Rattle.refute_seq.specs.laws.SetsAlike.{SameMembers}
-use Rattle.findings.specs.Tables.{members_in}
-use Rattle.prop_sets.specs.Tasks.{sequence_in}
+use Rattle.findings.specs.code.Tables.{members_in}
+use Rattle.prop_sets.specs.code.Tasks.{sequence_in}
 
 pub by_sequence : (f : Seq → Bool) (o : Option Constraint) → passes (without_overlap f) o ≡ passes f (sequence_in o)
 by_sequence f None = refl

@@ -11,7 +11,7 @@ use Rattle.sched_model.specs.Data.{Data, same, members_of}
 use Rattle.sched_model.specs.Valid.{IsValid, is_itv, are_distinct, are_parts, is_sequence_def}
 use Rattle.region.specs.laws.Lists.{both_true, all-at}
 use Rattle.region.specs.laws.OneSequence.{same_self}
-use Rattle.prop_sets.specs.Rows.{member_at}
+use Rattle.prop_sets.specs.code.Rows.{member_at}
 
 not_first : (x : Itv) (xs : List Itv) (k : ℕ) → list_all (λ y. not (same x y)) xs ≡ true → k < length xs → x ≡ member_at xs k → {Z : Type 0} → Z
 not_first x [] k all within is = absurd (omega (arith, within))

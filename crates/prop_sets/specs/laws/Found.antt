@@ -26,27 +26,27 @@ use Rattle.region.specs.laws.Lists.{true_both}
 use Rattle.region.specs.laws.OneSequence.{same_self, place_within}
 use Rattle.region.specs.laws.Narrowing.{as_many_bounds, looked_stays}
 use Rattle.findings.specs.Ends.{is_open_end, is_asked}
-use Rattle.findings.specs.Reads.{is_among}
+use Rattle.findings.specs.code.Reads.{is_among}
 use Rattle.findings.specs.laws.Kept.{asked_admits}
 use Rattle.task_sets.specs.Times.{Times, has, adjacent, IsSized, lst_at, overload_row, edge_row, detect_row, turned, seen_in}
-use Rattle.task_sets.specs.Sums.{same_number}
-use Rattle.task_sets.specs.Ects.{up_from, keep, kept, all_from}
-use Rattle.task_sets.specs.NotEndCuts.{detect_not_ends}
-use Rattle.task_sets.specs.Mirror.{overload_row_turned}
-use Rattle.task_sets.specs.Moved.{IsGuessed}
+use Rattle.task_sets.specs.laws.Sums.{same_number}
+use Rattle.task_sets.specs.laws.Ects.{up_from, keep, kept, all_from}
+use Rattle.task_sets.specs.laws.NotEndCuts.{detect_not_ends}
+use Rattle.task_sets.specs.laws.Mirror.{overload_row_turned}
+use Rattle.task_sets.specs.laws.Moved.{IsGuessed}
 use Rattle.refute_seq.specs.declared.witness.SeqWitness.TheVariants.{Overload, Edge, NotEnd, Detect}
 use Rattle.refute_seq.specs.Witness.{is_valid, is_number_set}
 use Rattle.refute_seq.specs.Sets.{times_of, is_task}
 use Rattle.refute_seq.specs.Listed.{lists, asks_start, asks_end, asks_member}
 use Rattle.theta_passes.specs.declared.rows.Row.{Row}
-use Rattle.theta_passes.specs.Rows.{is_present, is_candidate, times_at}
+use Rattle.theta_passes.specs.code.Rows.{is_present, is_candidate, times_at}
 use Rattle.theta_passes.specs.laws.Members.{present_below, is_below as row_below}
-use Rattle.theta_passes.specs.Rows.{with_candidate}
-use Rattle.prop_sets.specs.Tasks.{sequence_at}
-use Rattle.prop_sets.specs.Rows.{seen, asked_bounds, asks_early, asks_late, member_at}
-use Rattle.prop_sets.specs.Given.{IsOf}
-use Rattle.theta_passes.specs.Witnesses.{IsLateSet}
-use Rattle.prop_sets.specs.Busy.{IsBusy, name_at, ids_of}
+use Rattle.theta_passes.specs.code.Rows.{with_candidate}
+use Rattle.prop_sets.specs.code.Tasks.{sequence_at}
+use Rattle.prop_sets.specs.code.Rows.{seen, asked_bounds, asks_early, asks_late, member_at}
+use Rattle.prop_sets.specs.code.Given.{IsOf}
+use Rattle.theta_passes.specs.code.Witnesses.{IsLateSet}
+use Rattle.prop_sets.specs.code.Busy.{IsBusy, name_at, ids_of}
 use Rattle.prop_sets.specs.laws.Under.{IsSeen, narrow}
 use Rattle.prop_sets.specs.laws.Named.{IsNaming, image, overload_named, edge_named, detect_named}
 use Rattle.prop_sets.specs.laws.Placed.{IsNoted, place, has_task, placed, placed_in, is_guessed, others_stay, seen_size, stands_at, present_at, candidate_at}

@@ -17,11 +17,11 @@ use Rattle.task_sets.specs.Times.{Times, seen_in}
 use Rattle.theta_passes.specs.declared.rows.Row.{Row}
 use Rattle.theta_passes.specs.declared.rows.Presence.{Presence as RowPresence}
 use Rattle.prop_sets.specs.declared.known.Numbers.{Numbers}
-use Rattle.prop_sets.specs.Tasks.{quiet, sequence_at}
-use Rattle.prop_sets.specs.Rows.{chosen_row, member_at, AreRows, asks_early, asks_late}
-use Rattle.prop_sets.specs.Reordered.{IsReordered}
-use Rattle.prop_sets.specs.Sides.{IsSideQuiet, NoEdge, NoDetect, NoNotEnd}
-use Rattle.prop_sets.specs.Known.{numbers_of, AreNumbers, IsStill, IsKnown, IfKnown, AreKnown}
+use Rattle.prop_sets.specs.code.Tasks.{quiet, sequence_at}
+use Rattle.prop_sets.specs.code.Rows.{chosen_row, member_at, AreRows, asks_early, asks_late}
+use Rattle.prop_sets.specs.code.Reordered.{IsReordered}
+use Rattle.prop_sets.specs.code.Sides.{IsSideQuiet, NoEdge, NoDetect, NoNotEnd}
+use Rattle.prop_sets.specs.code.Known.{numbers_of, AreNumbers, IsStill, IsKnown, IfKnown, AreKnown}
 use Rattle.prop_sets.specs.laws.Members.{has_at, has_same}
 use Rattle.prop_sets.specs.laws.Placed.{stands_at}
 use Rattle.prop_sets.specs.laws.Silent.{sets_quiet}

@@ -13,8 +13,8 @@ use Rattle.region.specs.Orders.{place_of}
 use Rattle.task_sets.specs.Times.{Times, is_set, is_task_set, is_overload, is_edge, is_detected, overload_row, edge_row, detect_row, has as holds}
 use Rattle.refute_seq.specs.Sets.{is_task}
 use Rattle.refute_seq.specs.laws.SetsAlike.{set_same, front_same}
-use Rattle.prop_sets.specs.Rows.{member_at}
-use Rattle.prop_sets.specs.Reordered.{IsReordered}
+use Rattle.prop_sets.specs.code.Rows.{member_at}
+use Rattle.prop_sets.specs.code.Reordered.{IsReordered}
 use Rattle.prop_sets.specs.laws.Placed.{has_task}
 use Rattle.prop_sets.specs.laws.Distinct.{apart, itv_at}
 

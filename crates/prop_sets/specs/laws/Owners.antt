@@ -13,7 +13,7 @@ use Rattle.refute_seq.specs.declared.witness.SeqWitness.TheVariants.{Pair, Tripl
 use Rattle.refute_seq.specs.Witness.{is_valid}
 use Rattle.refute_seq.specs.Sets.{overload_of, edge_of, not_end_of, detect_of}
 use Rattle.refute_seq.specs.OnSequence.{refutes, row_of}
-use Rattle.prop_sets.specs.Tasks.{size_of, is_own, is_of, looks_after}
+use Rattle.prop_sets.specs.code.Tasks.{size_of, is_own, is_of, looks_after}
 
 past : (i n : ℕ) → nat_lt i n ≡ false → n ≤ i
 past i n h = grind (arith, nat_tests)

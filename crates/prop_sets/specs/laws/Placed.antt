@@ -16,12 +16,12 @@ use Rattle.region.specs.Cells.{Region, bounds_of, is_there, says_present, says_a
 use Rattle.region.specs.laws.Lists.{both_true}
 use Rattle.region.specs.laws.OneSequence.{place_within, member_at as at_place_of, by_place}
 use Rattle.task_sets.specs.Times.{Times, IsSized, lst_at, turned}
-use Rattle.task_sets.specs.Moved.{IsGuessed}
+use Rattle.task_sets.specs.laws.Moved.{IsGuessed}
 use Rattle.refute_seq.specs.Sets.{times_in, times_of}
 use Rattle.theta_passes.specs.declared.rows.Row.{Row}
-use Rattle.theta_passes.specs.Rows.{row_at, is_present, is_candidate, times_at, times_of as times_of_row, says_present as row_says_present, says_absent as row_says_absent}
-use Rattle.theta_passes.specs.Rows.{with_candidate}
-use Rattle.prop_sets.specs.Rows.{seen, asked_bounds, row_presence, chosen_row, member_at, AreRows}
+use Rattle.theta_passes.specs.code.Rows.{row_at, is_present, is_candidate, times_at, times_of as times_of_row, says_present as row_says_present, says_absent as row_says_absent}
+use Rattle.theta_passes.specs.code.Rows.{with_candidate}
+use Rattle.prop_sets.specs.code.Rows.{seen, asked_bounds, row_presence, chosen_row, member_at, AreRows}
 use Rattle.prop_sets.specs.laws.Under.{IsNarrow, IsTighter, IsSeen, asked_tighter, tighter_seen, seen_tighter}
 use Rattle.prop_sets.specs.laws.Named.{IsNaming}
 

@@ -7,18 +7,18 @@ use Rattle.sched_model.specs.Data.{has}
 use Rattle.region.specs.Cells.{Region, bounds_of, is_there, says_absent}
 use Rattle.region.specs.laws.Lists.{both_true}
 use Rattle.task_sets.specs.Times.{Times, has as holds, overload_row, edge_row, detect_row, turned}
-use Rattle.task_sets.specs.Moved.{IsGuessed}
-use Rattle.task_sets.specs.Ects.{up_from, keep}
-use Rattle.task_sets.specs.Witnesses.{overload_guessed}
+use Rattle.task_sets.specs.laws.Moved.{IsGuessed}
+use Rattle.task_sets.specs.laws.Ects.{up_from, keep}
+use Rattle.task_sets.specs.laws.Witnesses.{overload_guessed}
 use Rattle.refute_seq.specs.Sets.{times_of}
 use Rattle.theta_passes.specs.declared.rows.Row.{Row}
-use Rattle.theta_passes.specs.Rows.{times_at}
-use Rattle.theta_passes.specs.Edge.{PassOrNone}
-use Rattle.theta_passes.specs.Late.{LatePass}
-use Rattle.theta_passes.specs.Over.{NoOverloads}
-use Rattle.theta_passes.specs.Rows.{with_candidate}
+use Rattle.theta_passes.specs.code.Rows.{times_at}
+use Rattle.theta_passes.specs.code.Edge.{PassOrNone}
+use Rattle.theta_passes.specs.code.Late.{LatePass}
+use Rattle.theta_passes.specs.code.Over.{NoOverloads}
+use Rattle.theta_passes.specs.code.Rows.{with_candidate}
 use Rattle.theta_passes.specs.laws.Quiet.{quiet_edges, quiet_detects}
-use Rattle.prop_sets.specs.Rows.{asks_early}
+use Rattle.prop_sets.specs.code.Rows.{asks_early}
 use Rattle.prop_sets.specs.laws.Under.{IsSeen, asked_seen}
 use Rattle.prop_sets.specs.laws.Named.{image, overload_named, edge_named, detect_named}
 use Rattle.prop_sets.specs.laws.Placed.{IsNoted, place, has_task, placed, place_most, at_place, row_is, candidate_at, bar_at, reach_at, rows_sized, is_guessed, placed_sized, others_stay, to_places}

@@ -7,7 +7,7 @@ use Rattle.std.proofs.lemmas.Bool.{cases_eq}
 use Rattle.std.proofs.lemmas.Bool.Decides.{nat_tests}
 use Rattle.std.proofs.lemmas.List.{get_or_default, get_or-set_same, get_or-set_other, length-set}
 use Rattle.std.proofs.lemmas.List.Sorted.{IsPermutation-keeps}
-use Rattle.prop_sets.specs.Reordered.{IsReordered}
+use Rattle.prop_sets.specs.code.Reordered.{IsReordered}
 
 -- two places exchanged
 abbrev turned : ℕ → ℕ → ℕ → ℕ

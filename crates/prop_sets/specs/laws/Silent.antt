@@ -23,21 +23,21 @@ use Rattle.region.specs.Looks.{IsRegionOf, seen_at}
 use Rattle.region.specs.laws.Lists.{both_true}
 use Rattle.findings.specs.Ends.{is_end, is_open_end, is_asked}
 use Rattle.task_sets.specs.Times.{has as holds, is_task_set, is_set, is_outside, is_overload, overload_row, turned}
-use Rattle.task_sets.specs.Mirror.{overload_row_turned}
-use Rattle.task_sets.specs.Sums.{has_first, same_number}
-use Rattle.task_sets.specs.Cuts.{task_set_of, no_task_set}
-use Rattle.task_sets.specs.NotEndCuts.{not_end_detects}
+use Rattle.task_sets.specs.laws.Mirror.{overload_row_turned}
+use Rattle.task_sets.specs.laws.Sums.{has_first, same_number}
+use Rattle.task_sets.specs.laws.Cuts.{task_set_of, no_task_set}
+use Rattle.task_sets.specs.laws.NotEndCuts.{not_end_detects}
 use Rattle.refute_seq.specs.declared.witness.SeqWitness.{SeqWitness}
 use Rattle.refute_seq.specs.declared.witness.SeqWitness.TheVariants.{Pair, Triple, Overload, Edge, NotEnd, Detect}
 use Rattle.refute_seq.specs.Witness.{is_valid}
 use Rattle.refute_seq.specs.Sets.{times_of, is_task, overload_of, edge_of, not_end_of, detect_of}
 use Rattle.refute_seq.specs.Listed.{lists, asks_member}
 use Rattle.refute_seq.specs.OnSequence.{refutes}
-use Rattle.prop_sets.specs.Tasks.{quiet, IsSilent, looks_after, sequence_at}
-use Rattle.prop_sets.specs.Rows.{asks_early, asks_late, chosen_row, AreRows}
-use Rattle.prop_sets.specs.Sides.{NoEdge, NoDetect, NoNotEnd, IsSideQuiet}
+use Rattle.prop_sets.specs.code.Tasks.{quiet, IsSilent, looks_after, sequence_at}
+use Rattle.prop_sets.specs.code.Rows.{asks_early, asks_late, chosen_row, AreRows}
+use Rattle.prop_sets.specs.code.Sides.{NoEdge, NoDetect, NoNotEnd, IsSideQuiet}
 use Rattle.prop_sets.specs.laws.Under.{IsSeen, narrow, seen_plain, seen_topic, seen_asked, starts_told, ends_told}
-use Rattle.prop_sets.specs.Reordered.{IsReordered}
+use Rattle.prop_sets.specs.code.Reordered.{IsReordered}
 use Rattle.theta_passes.specs.declared.rows.Row.{Row}
 use Rattle.prop_sets.specs.laws.Members.{has_same, those_apart, overload_those, edge_those, detect_those}
 use Rattle.prop_sets.specs.laws.BySequence.{overload_in, edge_in, not_end_in, detect_in, overload_by, edge_by, not_end_by, detect_by}

@@ -20,7 +20,7 @@ use Rattle.region.specs.laws.Lists.{true_both}
 use Rattle.region.specs.laws.Intervals.{bounds_there}
 use Rattle.findings.specs.Ends.{is_open_end}
 use Rattle.refute_seq.specs.Sets.{times_in}
-use Rattle.prop_sets.specs.Rows.{end_claim, asked_bounds}
+use Rattle.prop_sets.specs.code.Rows.{end_claim, asked_bounds}
 use Rattle.prop_sets.specs.laws.Under.{IsNarrow, IsSeen, open_or_told, seen_plain, seen_topic}
 
 -- an end guess

@@ -29,7 +29,7 @@ use Rattle.findings.specs.laws.Open.{not_absent, open_not_absent}
 use Rattle.task_sets.specs.Times.{Times, seen_in}
 use Rattle.refute_seq.specs.Sets.{times_in}
 use Rattle.refute_seq.specs.Listed.{asks_start, asks_end}
-use Rattle.prop_sets.specs.Rows.{end_claim, asked_bounds, asks_early, asks_late, seen}
+use Rattle.prop_sets.specs.code.Rows.{end_claim, asked_bounds, asks_early, asks_late, seen}
 
 pub record IsMoment (t : ℤ) : Type 0 where
   pub from : neg_ℤ H ≤ℤ t

@@ -17,11 +17,11 @@ use Rattle.region.specs.declared.types.Guess.{Guess}
 use Rattle.region.specs.Cells.{Region}
 use Rattle.region.specs.Guesses.{SameCell, topic, looked_at}
 use Rattle.region.specs.Looks.{IsRegionOf, seen_at}
-use Rattle.findings.specs.Reads.{AreAlike, LooksOnlyAt, is_among}
+use Rattle.findings.specs.code.Reads.{AreAlike, LooksOnlyAt, is_among}
 use Rattle.findings.specs.laws.Alike.{alike_from_cells}
 use Rattle.findings.specs.laws.Kept.{asked_admits, asked_alike, refuted_alike}
 use Rattle.task_sets.specs.Times.{has as holds, is_task_set, is_set, is_outside}
-use Rattle.task_sets.specs.Cuts.{task_set_of}
+use Rattle.task_sets.specs.laws.Cuts.{task_set_of}
 use Rattle.refute_seq.specs.declared.witness.SeqWitness.{SeqWitness}
 use Rattle.refute_seq.specs.declared.witness.SeqWitness.TheVariants.{Pair, Triple, Overload, Edge, NotEnd, Detect}
 use Rattle.refute_seq.specs.Witness.{is_valid}
@@ -29,8 +29,8 @@ use Rattle.refute_seq.specs.Sets.{is_task}
 use Rattle.refute_seq.specs.Listed.{lists, asks_member, asks_start, asks_end}
 use Rattle.refute_seq.specs.OnSequence.{refutes, row_of}
 use Rattle.refute_seq.specs.laws.SetsAlike.{overload_alike, edge_alike, not_end_alike, detect_alike}
-use Rattle.findings.specs.Tables.{members_in}
-use Rattle.prop_sets.specs.Tasks.{IsSilent, quiet, looks_after, sequence_at, members_at, reads_all, watching, watching_best}
+use Rattle.findings.specs.code.Tables.{members_in}
+use Rattle.prop_sets.specs.code.Tasks.{IsSilent, quiet, looks_after, sequence_at, members_at, reads_all, watching, watching_best}
 use Rattle.prop_sets.specs.laws.BySequence.{overload_in, edge_in, not_end_in, detect_in, overload_by, edge_by, not_end_by, detect_by, same_members}
 
 same_number : (i j : ℕ) → nat_eq i j ≡ true → i ≡ j

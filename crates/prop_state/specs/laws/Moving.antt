@@ -19,11 +19,11 @@ use Rattle.region.specs.laws.Lists.{both_true}
 use Rattle.region.specs.laws.Intervals.{bounds_there, bounds_elsewhere}
 use Rattle.region.specs.laws.OneSequence.{same_is}
 use Rattle.findings.specs.Ends.{is_end_at}
-use Rattle.findings.specs.Numbers.{highest_end, lowest_start, ends_in}
+use Rattle.findings.specs.code.Numbers.{highest_end, lowest_start, ends_in}
 use Rattle.findings.specs.laws.Open.{not_absent, open_not_absent}
 use Rattle.findings.specs.laws.Numbers.{least_start, greatest_end, plain_start, plain_end}
 use Rattle.refute_state.specs.Times.{is_long_in, is_long, is_late}
-use Rattle.prop_state.specs.Silence.{longest_part, is_late_in, may_be_late}
+use Rattle.prop_state.specs.code.Silence.{longest_part, is_late_in, may_be_late}
 use Rattle.sched_model.specs.laws.Members.{same_not}
 
 -- it keeps the latest start or the earliest end

@@ -17,11 +17,11 @@ use Rattle.refute_state.specs.declared.demand.Demand.{Demand}
 use Rattle.refute_state.specs.declared.witness.StateWitness.{StateWitness}
 use Rattle.refute_state.specs.declared.witness.StateWitness.TheVariants.{State, State3}
 use Rattle.refute_state.specs.Demands.{demand_of, demand_at, of_one, same_state}
-use Rattle.refute_state.specs.Gathered.{demands_at}
+use Rattle.refute_state.specs.code.Gathered.{demands_at}
 use Rattle.refute_state.specs.OnState.{refutes}
 use Rattle.refute_state.specs.laws.Canonical.{function_there}
 use Rattle.refute_state.specs.laws.Rowed.{two_rowed, three_rowed, pair_parts, parts}
-use Rattle.prop_state.specs.Tasks.{size_of, is_own, looks_after}
+use Rattle.prop_state.specs.code.Tasks.{size_of, is_own, looks_after}
 use Rattle.base_laws.specs.laws.Numbers.{turned_number}
 
 -- a witness that refutes is of demands of one state function of the model

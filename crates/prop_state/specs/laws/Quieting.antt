@@ -7,9 +7,9 @@ use Rattle.region.specs.Cells.{Region}
 use Rattle.region.specs.laws.Lists.{both_true, true_both}
 use Rattle.refute_state.specs.declared.witness.StateWitness.{StateWitness}
 use Rattle.refute_state.specs.declared.witness.StateWitness.TheVariants.{State, State3}
-use Rattle.refute_state.specs.Gathered.{demands_at, demands_of}
-use Rattle.prop_state.specs.Tasks.{IsSilent, quiet, looks_after}
-use Rattle.prop_state.specs.Walks.{EachTwo, EachThree}
+use Rattle.refute_state.specs.code.Gathered.{demands_at, demands_of}
+use Rattle.prop_state.specs.code.Tasks.{IsSilent, quiet, looks_after}
+use Rattle.prop_state.specs.code.Walks.{EachTwo, EachThree}
 use Rattle.prop_state.specs.laws.Unwatched.{listed}
 
 pub demands_quiet : (m : Data) (k : ℕ) (r : Region) (best : Option ℤ) (cs : List ℕ) → cs ≡ demands_of m k → EachTwo m r best k cs → EachThree m r best k cs → quiet m k r best

@@ -13,7 +13,7 @@ use Rattle.region.specs.declared.types.Guess.{Guess}
 use Rattle.region.specs.Cells.{Region}
 use Rattle.region.specs.Guesses.{topic}
 use Rattle.region.specs.laws.OneSequence.{same_is, same_self, has_cases}
-use Rattle.findings.specs.Reads.{AreAlike, LooksOnlyAt, is_among}
+use Rattle.findings.specs.code.Reads.{AreAlike, LooksOnlyAt, is_among}
 use Rattle.refute_state.specs.declared.demand.Demand.{Demand}
 use Rattle.refute_state.specs.declared.witness.StateWitness.{StateWitness}
 use Rattle.refute_state.specs.declared.witness.StateWitness.TheVariants.{State, State3}
@@ -23,7 +23,7 @@ use Rattle.refute_state.specs.OnState.{refutes}
 use Rattle.refute_state.specs.Listed.{asks_times, asks_demand, lists}
 use Rattle.refute_state.specs.laws.Settled.{In}
 use Rattle.refute_state.specs.laws.Alike.{SameAt, state_alike, state3_alike}
-use Rattle.prop_state.specs.Tasks.{interval_in, intervals_at, constraints_of, reads_all, reads_of}
+use Rattle.prop_state.specs.code.Tasks.{interval_in, intervals_at, constraints_of, reads_all, reads_of}
 use Rattle.sched_model.specs.laws.Names.{has_left, has_right}
 use Rattle.region.specs.laws.Rows.{same_back}
 

@@ -21,8 +21,8 @@ use Rattle.region.specs.laws.Lists.{both_true, true_both}
 use Rattle.region.specs.laws.OneSequence.{same_is, same_self, same_turned}
 use Rattle.findings.specs.declared.ends.Ends.{Ends}
 use Rattle.findings.specs.Ends.{is_open_end, is_end, is_asked}
-use Rattle.findings.specs.Numbers.{ends_in}
-use Rattle.findings.specs.Reads.{IsUnrefuted, is_among}
+use Rattle.findings.specs.code.Numbers.{ends_in}
+use Rattle.findings.specs.code.Reads.{IsUnrefuted, is_among}
 use Rattle.findings.specs.laws.Kept.{asked_more}
 use Rattle.refute_state.specs.declared.demand.Demand.{Demand}
 use Rattle.refute_state.specs.declared.witness.StateWitness.{StateWitness}
@@ -36,10 +36,10 @@ use Rattle.refute_state.specs.State3.{other_between, state_triple}
 use Rattle.refute_state.specs.OnState.{refutes}
 use Rattle.refute_state.specs.Listed.{lists, asks_times, asks_demand}
 use Rattle.refute_state.specs.laws.Rowed.{two_rowed, three_rowed, PairParts, pair_parts, Parts, parts}
-use Rattle.prop_state.specs.Tasks.{IsSilent, constraints_of, reads_of}
-use Rattle.prop_state.specs.Silence.{is_late_in, may_be_late, nearly_two, nearly_three, may_stand_two, may_stand_three, may_clash, may_refute_two, may_all_be_late, may_refute_three, may_refute_pair, may_refute_around, may_refute_triple, IsCovered}
+use Rattle.prop_state.specs.code.Tasks.{IsSilent, constraints_of, reads_of}
+use Rattle.prop_state.specs.code.Silence.{is_late_in, may_be_late, nearly_two, nearly_three, may_stand_two, may_stand_three, may_clash, may_refute_two, may_all_be_late, may_refute_three, may_refute_pair, may_refute_around, may_refute_triple, IsCovered}
 use Rattle.prop_state.specs.declared.demands.Named.{Named}
-use Rattle.prop_state.specs.Walks.{IsOf}
+use Rattle.prop_state.specs.code.Walks.{IsOf}
 use Rattle.prop_state.specs.laws.Reading.{asked_at, lists_at, never_order, IsDemanded, demanded, among}
 use Rattle.prop_state.specs.laws.Moving.{Other, Moved, not_moved, moved, late_may, late_kept, late_across, long_present, long_not_absent}
 

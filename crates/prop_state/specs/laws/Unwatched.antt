@@ -16,16 +16,16 @@ use Rattle.region.specs.Cells.{Region}
 use Rattle.region.specs.Guesses.{SameCell}
 use Rattle.region.specs.Looks.{IsRegionOf}
 use Rattle.region.specs.laws.Lists.{both_true}
-use Rattle.findings.specs.Reads.{reads_cell}
+use Rattle.findings.specs.code.Reads.{reads_cell}
 use Rattle.findings.specs.laws.Kept.{quiet_kept}
 use Rattle.refute_state.specs.declared.witness.StateWitness.{StateWitness}
 use Rattle.refute_state.specs.declared.witness.StateWitness.TheVariants.{State, State3}
 use Rattle.refute_state.specs.Demands.{demand_of}
-use Rattle.refute_state.specs.Gathered.{demands_at, demands_of}
+use Rattle.refute_state.specs.code.Gathered.{demands_at, demands_of}
 use Rattle.refute_state.specs.OnState.{refutes}
 use Rattle.refute_state.specs.Listed.{lists}
 use Rattle.refute_state.specs.laws.Settled.{In}
-use Rattle.prop_state.specs.Tasks.{looks_after, intervals_at, constraints_of, reads_of, watching, watching_best, quiet}
+use Rattle.prop_state.specs.code.Tasks.{looks_after, intervals_at, constraints_of, reads_of, watching, watching_best, quiet}
 use Rattle.prop_state.specs.laws.Reading.{has_interval, demanded, looks, among}
 
 -- the demands of a function are those that its list has

@@ -23,13 +23,13 @@ use Rattle.region.specs.laws.Intervals.{bounds_there}
 use Rattle.region.specs.laws.Lists.{both_true, true_both, length-changed_at}
 use Rattle.region.specs.laws.OneSequence.{same_is, has_cases}
 use Rattle.findings.specs.Ends.{is_open_end}
-use Rattle.findings.specs.Reads.{LooksOnlyAt, IsUnrefuted, is_among}
+use Rattle.findings.specs.code.Reads.{LooksOnlyAt, IsUnrefuted, is_among}
 use Rattle.refute_basic.specs.declared.witness.BasicWitness.TheVariants.{Arc}
 use Rattle.refute_basic.specs.Arc.{is_too_late, arc_row}
 use Rattle.refute_basic.specs.Basic.{refutes}
 use Rattle.refute_basic.specs.Listed.{asks_size, asks_ends, lists}
 use Rattle.refute_basic.specs.laws.Arc.{ends_of, arc_alike}
-use Rattle.prop_temporal.specs.Tasks.{reads_of, IsSilent}
+use Rattle.prop_temporal.specs.code.Tasks.{reads_of, IsSilent}
 use Rattle.base_laws.specs.laws.Truth.{never_both}
 use Rattle.sched_model.specs.laws.Words.{none_past}
 use Rattle.findings.specs.laws.Kept.{asked_more}

@@ -20,8 +20,8 @@ use Rattle.region.specs.laws.Narrowing.{as_many_bounds}
 use Rattle.region.specs.laws.OneSequence.{same_is}
 use Rattle.findings.specs.laws.Members.{any_more}
 use Rattle.refute_basic.specs.declared.edge.Arc.{Arc as Edge}
-use Rattle.cycles.specs.Walks.{no_arc, picked, are_places, total, IsGain, HasHeights}
-use Rattle.cycles.specs.Search.{IsOn}
+use Rattle.cycles.specs.code.Walks.{no_arc, picked, are_places, total, IsGain, HasHeights}
+use Rattle.cycles.specs.code.Search.{IsOn}
 use Rattle.refute_basic.specs.declared.arc_name.ArcName.{ArcName}
 use Rattle.refute_basic.specs.declared.witness.BasicWitness.TheVariants.{Cycle}
 use Rattle.refute_basic.specs.Witness.{is_name, is_valid}
@@ -29,10 +29,10 @@ use Rattle.refute_basic.specs.Basic.{refutes}
 use Rattle.refute_basic.specs.Cycle.{itv, edge, edge_if, along, plain_edge_of, edge_of, closes, cycle_row}
 use Rattle.refute_basic.specs.Standing.{precedes}
 use Rattle.refute_basic.specs.laws.Walks.{AllLose, none_closes}
-use Rattle.prop_temporal.specs.Heights.{AllKeep}
+use Rattle.prop_temporal.specs.code.Heights.{AllKeep}
 use Rattle.prop_temporal.specs.laws.Walked.{AreOf, AreOf.none, AreOf.one, closes_led}
-use Rattle.prop_temporal.specs.Shown.{Shown, name, no_name, name_at, IsAmong, AreShown, HasTried, Tries, TriesAll, IsOfConstraint, IsOfInterval, IsOfPrecedence, IsOfOrder, IsOfOrderFrom, IsOfSide, IsOfSideOf, IsOfMember, member_name, other_of}
-use Rattle.prop_temporal.specs.Members.{members_at, told_in}
+use Rattle.prop_temporal.specs.code.Shown.{Shown, name, no_name, name_at, IsAmong, AreShown, HasTried, Tries, TriesAll, IsOfConstraint, IsOfInterval, IsOfPrecedence, IsOfOrder, IsOfOrderFrom, IsOfSide, IsOfSideOf, IsOfMember, member_name, other_of}
+use Rattle.prop_temporal.specs.code.Members.{members_at, told_in}
 use Rattle.prop_temporal.specs.laws.Named.{named, no_constraint, ordered, tried_all, same_name, same_member}
 use Rattle.base_laws.specs.laws.Numbers.{below_or_last}
 use Rattle.sched_model.specs.Bounds.{is_number}

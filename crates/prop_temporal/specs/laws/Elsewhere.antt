@@ -26,9 +26,9 @@ use Rattle.refute_basic.specs.declared.arc_name.ArcName.{ArcName}
 use Rattle.refute_basic.specs.Cycle.{point, itv, forth, back, longer, shorter, along, edge_of}
 use Rattle.refute_basic.specs.laws.Arc.{ends_of}
 use Rattle.refute_basic.specs.laws.Walks.{AllLose}
-use Rattle.prop_temporal.specs.Members.{members_at}
-use Rattle.prop_temporal.specs.Shown.{OfConstraint}
-use Rattle.prop_temporal.specs.Heights.{height_in, height_with, AreTouched, OwnKeep}
+use Rattle.prop_temporal.specs.code.Members.{members_at}
+use Rattle.prop_temporal.specs.code.Shown.{OfConstraint}
+use Rattle.prop_temporal.specs.code.Heights.{height_in, height_with, AreTouched, OwnKeep}
 use Rattle.prop_temporal.specs.laws.Named.{named, ordered, IsPointOf}
 use Rattle.prop_temporal.specs.laws.Collecting.{lose_refute_none}
 use Rattle.prop_temporal.specs.laws.Quieting.{NoWalk}

@@ -18,8 +18,8 @@ use Rattle.refute_basic.specs.Standing.{stand}
 use Rattle.refute_basic.specs.Cycle.{point, edge, edge_if, itv, forth, back, along, edge_of}
 use Rattle.refute_basic.specs.laws.Told.{AreTold, told, AreMembers, told_members}
 use Rattle.region.specs.laws.Present.{there_within}
-use Rattle.prop_temporal.specs.Members.{members_at}
-use Rattle.prop_temporal.specs.Shown.{name, member_name, this_of, other_of, OfConstraint, IsTried}
+use Rattle.prop_temporal.specs.code.Members.{members_at}
+use Rattle.prop_temporal.specs.code.Shown.{name, member_name, this_of, other_of, OfConstraint, IsTried}
 use Rattle.refute_basic.specs.laws.Cycle.{no_edge, chosen}
 
 -- a point of an interval that is present

@@ -8,13 +8,13 @@ use Rattle.std.proofs.lemmas.Bool.Decides.{nat_tests}
 use Rattle.std.proofs.lemmas.Int.{ints}
 use Rattle.sched_model.specs.Data.{Data}
 use Rattle.region.specs.Cells.{Region}
-use Rattle.cycles.specs.Walks.{arc_at}
+use Rattle.cycles.specs.code.Walks.{arc_at}
 use Rattle.refute_basic.specs.declared.edge.Arc.{Arc as Edge}
 use Rattle.refute_basic.specs.declared.arc_name.ArcName.{ArcName}
 use Rattle.refute_basic.specs.Cycle.{edge_of}
 use Rattle.findings.specs.laws.Members.{any_more}
-use Rattle.prop_temporal.specs.Shown.{Shown, IsAmong, TriesAll, OfOne, IsOfMember, IsOfInterval}
-use Rattle.prop_temporal.specs.Heights.{height_with, AllKeep, IsOwn, OwnKeep}
+use Rattle.prop_temporal.specs.code.Shown.{Shown, IsAmong, TriesAll, OfOne, IsOfMember, IsOfInterval}
+use Rattle.prop_temporal.specs.code.Heights.{height_with, AllKeep, IsOwn, OwnKeep}
 use Rattle.base_laws.specs.laws.Numbers.{below_or_last}
 
 -- the arcs of an interval and of these constraints are among those that are collected

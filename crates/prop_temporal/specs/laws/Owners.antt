@@ -10,7 +10,7 @@ use Rattle.region.specs.laws.Lists.{both_true, true_both}
 use Rattle.refute_basic.specs.declared.witness.BasicWitness.{BasicWitness}
 use Rattle.refute_basic.specs.declared.witness.BasicWitness.TheVariants.{Size, Arc, Cycle, Expr, Obj, Leaf}
 use Rattle.refute_basic.specs.Basic.{refutes}
-use Rattle.prop_temporal.specs.Tasks.{size_of, is_temporal, looks_after, quiet, IsSilent}
+use Rattle.prop_temporal.specs.code.Tasks.{size_of, is_temporal, looks_after, quiet, IsSilent}
 use Rattle.prop_temporal.specs.laws.Arcs.{arc_past, other_ways}
 
 same_number : (i j : ℕ) → nat_eq i j ≡ true → i ≡ j

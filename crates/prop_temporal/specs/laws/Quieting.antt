@@ -17,7 +17,7 @@ use Rattle.refute_basic.specs.declared.witness.BasicWitness.{BasicWitness}
 use Rattle.refute_basic.specs.declared.witness.BasicWitness.TheVariants.{Size, Arc, Cycle, Expr, Obj, Leaf}
 use Rattle.refute_basic.specs.Basic.{refutes}
 use Rattle.refute_basic.specs.Listed.{lists, asks_presence}
-use Rattle.prop_temporal.specs.Tasks.{quiet, looks_after}
+use Rattle.prop_temporal.specs.code.Tasks.{quiet, looks_after}
 use Rattle.base_laws.specs.laws.Numbers.{below_or_last}
 
 abbrev pub present_at : ℕ → Guess

@@ -25,13 +25,13 @@ use Rattle.region.specs.laws.Intervals.{bounds_there, bounds_elsewhere}
 use Rattle.region.specs.laws.Lists.{both_true}
 use Rattle.region.specs.laws.OneSequence.{same_is, has_cases}
 use Rattle.findings.specs.Ends.{is_open_end, is_end, is_end_at}
-use Rattle.findings.specs.Reads.{is_among}
+use Rattle.findings.specs.code.Reads.{is_among}
 use Rattle.refute_basic.specs.declared.witness.BasicWitness.TheVariants.{Arc}
 use Rattle.refute_basic.specs.Arc.{is_too_late, earliest, latest}
 use Rattle.refute_basic.specs.Listed.{lists}
 use Rattle.refute_basic.specs.laws.Arc.{ends_of}
-use Rattle.prop_temporal.specs.Tasks.{IsSilent}
-use Rattle.prop_temporal.specs.Silence.{earliest_in, latest_in, highest_in, lowest_in, is_in_time, is_silent_way}
+use Rattle.prop_temporal.specs.code.Tasks.{IsSilent}
+use Rattle.prop_temporal.specs.code.Silence.{earliest_in, latest_in, highest_in, lowest_in, is_in_time, is_silent_way}
 use Rattle.prop_temporal.specs.laws.Arcs.{asks_among}
 use Rattle.base_laws.specs.laws.Truth.{never_both}
 use Rattle.base_laws.specs.laws.Numbers.{differs}

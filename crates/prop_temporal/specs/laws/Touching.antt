@@ -11,9 +11,9 @@ use Rattle.region.specs.laws.OneSequence.{same_is, has_cases}
 use Rattle.findings.specs.laws.Members.{any_more}
 use Rattle.std.proofs.lemmas.List.Folds.{list_any-append}
 use Rattle.refute_basic.specs.laws.Arc.{ends_of}
-use Rattle.prop_temporal.specs.Members.{members_at, touched_by}
-use Rattle.prop_temporal.specs.Heights.{is_touched, AreTouched}
-use Rattle.prop_temporal.specs.Touches.{Touches, AreTouchedBy}
+use Rattle.prop_temporal.specs.code.Members.{members_at, touched_by}
+use Rattle.prop_temporal.specs.code.Heights.{is_touched, AreTouched}
+use Rattle.prop_temporal.specs.code.Touches.{Touches, AreTouchedBy}
 use Rattle.base_laws.specs.laws.Numbers.{below_or_last}
 
 any_before : (c : ℕ) (xs : List ℕ) (d : ℕ) → list_any (λ k. nat_eq c k) xs ≡ true → list_any (λ k. nat_eq c k) (xs ++ d ∷ []) ≡ true

@@ -22,7 +22,7 @@ use Rattle.region.specs.Looks.{IsRegionOf, is_narrowed, seen_at}
 use Rattle.region.specs.laws.Intervals.{bounds_there, bounds_elsewhere, ready_present}
 use Rattle.region.specs.laws.Lists.{both_true, true_both, placewise-at}
 use Rattle.region.specs.laws.Narrowing.{guess_stays, as_many_bounds}
-use Rattle.findings.specs.Reads.{LooksOnlyAt, is_among, reads_cell}
+use Rattle.findings.specs.code.Reads.{LooksOnlyAt, is_among, reads_cell}
 use Rattle.findings.specs.laws.Kept.{quiet_kept}
 use Rattle.refute_basic.specs.declared.witness.BasicWitness.{BasicWitness}
 use Rattle.refute_basic.specs.declared.witness.BasicWitness.TheVariants.{Cycle}
@@ -30,7 +30,7 @@ use Rattle.refute_basic.specs.Witness.{is_valid}
 use Rattle.refute_basic.specs.Basic.{refutes}
 use Rattle.refute_basic.specs.Listed.{lists}
 use Rattle.refute_basic.specs.laws.Presences.{SameOrders, cycle_alike}
-use Rattle.prop_temporal.specs.Tasks.{reads_of, looks_after, is_optional, is_of_walks, watching, watching_best, quiet}
+use Rattle.prop_temporal.specs.code.Tasks.{reads_of, looks_after, is_optional, is_of_walks, watching, watching_best, quiet}
 use Rattle.prop_temporal.specs.laws.Arcs.{arc_looks, asks_among}
 use Rattle.prop_temporal.specs.laws.Owners.{owned}
 use Rattle.prop_temporal.specs.laws.Quieting.{NoWalk, quiet_walks, walks_of}

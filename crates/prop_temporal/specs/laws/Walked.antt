@@ -5,7 +5,7 @@ use Rattle.std.proofs.lemmas.Int.{ints}
 use Rattle.sched_model.specs.Data.{Data}
 use Rattle.region.specs.Cells.{Region}
 use Rattle.region.specs.laws.Lists.{both_true, true_both}
-use Rattle.cycles.specs.Walks.{leads, is_closed, total}
+use Rattle.cycles.specs.code.Walks.{leads, is_closed, total}
 use Rattle.refute_basic.specs.declared.edge.Arc.{Arc as Edge}
 use Rattle.refute_basic.specs.declared.arc_name.ArcName.{ArcName}
 use Rattle.refute_basic.specs.Cycle.{edge_of, goes_on, closes}

@@ -29,8 +29,8 @@ use Rattle.refute_seq.specs.Standing.{stand, precedes}
 use Rattle.refute_seq.specs.Listed.{lists, asks_order, asks_circle}
 use Rattle.refute_seq.specs.OnSequence.{refutes, row_of}
 use Rattle.refute_basic.specs.laws.Told.{AreTold, told}
-use Rattle.prop_unary.specs.Tasks.{IsSilent, quiet}
-use Rattle.prop_unary.specs.Circles.{EachOf, IsMet, SilentAt}
+use Rattle.prop_unary.specs.code.Tasks.{IsSilent, quiet}
+use Rattle.prop_unary.specs.code.Circles.{EachOf, IsMet, SilentAt}
 use Rattle.prop_unary.specs.laws.Under.{apart, touches, precedes_under, there_before, before_is, order_forward, told_closed}
 use Rattle.prop_unary.specs.laws.Quieting.{sequence_quiet}
 

@@ -19,7 +19,7 @@ use Rattle.region.specs.laws.Narrowing.{as_many_bounds}
 use Rattle.region.specs.laws.OneSequence.{same_is, has_cases}
 use Rattle.base_laws.specs.laws.Truth.{three_true}
 use Rattle.findings.specs.Ends.{is_open_end, is_end, is_asked}
-use Rattle.findings.specs.Reads.{AreAlike, LooksOnlyAt, is_among}
+use Rattle.findings.specs.code.Reads.{AreAlike, LooksOnlyAt, is_among}
 use Rattle.findings.specs.laws.Alike.{admits_alike}
 use Rattle.findings.specs.laws.Kept.{asked_admits, asked_alike, refuted_alike}
 use Rattle.findings.specs.laws.Members.{first_paired, second_paired}
@@ -29,7 +29,7 @@ use Rattle.refute_seq.specs.Witness.{is_valid}
 use Rattle.refute_seq.specs.Listed.{lists, asks_order, asks_pair, asks_circle}
 use Rattle.refute_seq.specs.OnSequence.{refutes}
 use Rattle.refute_seq.specs.laws.Alike.{SameTwo, SameRead, pair_alike, triple_alike}
-use Rattle.prop_unary.specs.Tasks.{IsSilent, sequence_in, reads_pair, reads_triple, reads_of, pairs_of}
+use Rattle.prop_unary.specs.code.Tasks.{IsSilent, sequence_in, reads_pair, reads_triple, reads_of, pairs_of}
 use Rattle.prop_unary.specs.laws.Pairs.{has_two}
 use Rattle.prop_unary.specs.laws.Members.{are_two, are_members}
 use Rattle.prop_unary.specs.laws.Silence.{of_either}

@@ -20,7 +20,7 @@ use Rattle.refute_seq.specs.Pair.{pair_of}
 use Rattle.refute_seq.specs.Triple.{are_in_circle}
 use Rattle.refute_seq.specs.OnSequence.{refutes, row_of}
 use Rattle.refute_basic.specs.laws.Told.{told, told_members}
-use Rattle.prop_unary.specs.Tasks.{is_own, sequence_in}
+use Rattle.prop_unary.specs.code.Tasks.{is_own, sequence_in}
 
 -- two members of a sequence that is there, and what a witness names
 abbrev pub are_two : Data → Option Seq → Itv → Itv → Bool

@@ -12,7 +12,7 @@ use Rattle.region.specs.laws.Lists.{both_true, true_both}
 use Rattle.refute_seq.specs.declared.witness.SeqWitness.{SeqWitness}
 use Rattle.refute_seq.specs.declared.witness.SeqWitness.TheVariants.{Pair, Triple, Overload, Edge, NotEnd, Detect}
 use Rattle.refute_seq.specs.OnSequence.{refutes}
-use Rattle.prop_unary.specs.Tasks.{size_of, is_own, looks_after, sequence_in}
+use Rattle.prop_unary.specs.code.Tasks.{size_of, is_own, looks_after, sequence_in}
 use Rattle.prop_unary.specs.laws.Members.{are_two, strangers}
 
 same_number : (i j : ℕ) → nat_eq i j ≡ true → i ≡ j

@@ -11,8 +11,8 @@ use Rattle.sched_model.specs.Data.{Data, same, has, members_of}
 use Rattle.region.specs.laws.Lists.{both_true, true_both}
 use Rattle.region.specs.laws.OneSequence.{same_is, same_self, has_cases}
 use Rattle.findings.specs.declared.finding.Pair.{Pair}
-use Rattle.findings.specs.Reads.{is_pair, has_pair, is_paired}
-use Rattle.prop_unary.specs.Tasks.{pairs_with, pairs_between, pairs_of}
+use Rattle.findings.specs.code.Reads.{is_pair, has_pair, is_paired}
+use Rattle.prop_unary.specs.code.Tasks.{pairs_with, pairs_between, pairs_of}
 
 joined : (test : Pair → Bool) (xs ys : List Pair) → (list_any test xs || list_any test ys) ≡ true → list_any test (xs ++ ys) ≡ true
 joined test xs ys h = list_any-append test xs ys ∙ h

@@ -14,9 +14,9 @@ use Rattle.refute_seq.specs.declared.witness.SeqWitness.{SeqWitness}
 use Rattle.refute_seq.specs.declared.witness.SeqWitness.TheVariants.{Pair, Triple, Overload, Edge, NotEnd, Detect}
 use Rattle.refute_seq.specs.Listed.{lists}
 use Rattle.prop_unary.specs.declared.disjunctive.Disjunctive.{Disjunctive}
-use Rattle.prop_unary.specs.Tasks.{IsSilent, quiet, is_own, looks_after, sequence_in}
-use Rattle.prop_unary.specs.Silence.{IsDisjunctive, AreSilent}
-use Rattle.prop_unary.specs.Circles.{EachOf}
+use Rattle.prop_unary.specs.code.Tasks.{IsSilent, quiet, is_own, looks_after, sequence_in}
+use Rattle.prop_unary.specs.code.Silence.{IsDisjunctive, AreSilent}
+use Rattle.prop_unary.specs.code.Circles.{EachOf}
 use Rattle.prop_unary.specs.laws.Members.{are_members, are_two, strangers}
 use Rattle.prop_unary.specs.laws.Owners.{pair_owned, triple_owned, owns_pair, owns_triple}
 

@@ -29,9 +29,9 @@ use Rattle.refute_seq.specs.Listed.{lists}
 use Rattle.refute_seq.specs.OnSequence.{refutes}
 use Rattle.refute_seq.specs.laws.Ordered.{one_way}
 use Rattle.prop_unary.specs.declared.places.Places.{Places}
-use Rattle.prop_unary.specs.Tasks.{IsSilent}
-use Rattle.prop_unary.specs.Circles.{EachOf, SilentBehind, SilentAround}
-use Rattle.prop_unary.specs.Rows.{has_place, may_stand, member_at, IsRow}
+use Rattle.prop_unary.specs.code.Tasks.{IsSilent}
+use Rattle.prop_unary.specs.code.Circles.{EachOf, SilentBehind, SilentAround}
+use Rattle.prop_unary.specs.code.Rows.{has_place, may_stand, member_at, IsRow}
 use Rattle.prop_unary.specs.laws.Under.{touches, there_before}
 use Rattle.prop_unary.specs.laws.Circles.{IsCircle, circle_of, backward_silent}
 

@@ -29,8 +29,8 @@ use Rattle.region.specs.laws.Pairs.{paired}
 use Rattle.base_laws.specs.laws.Truth.{alone, four_true}
 use Rattle.findings.specs.declared.finding.Pair.{Pair as PairOf}
 use Rattle.findings.specs.Ends.{is_open_end, is_end, is_end_at}
-use Rattle.findings.specs.Numbers.{highest_end, lowest_start}
-use Rattle.findings.specs.Reads.{IsUnrefuted, is_among}
+use Rattle.findings.specs.code.Numbers.{highest_end, lowest_start}
+use Rattle.findings.specs.code.Reads.{IsUnrefuted, is_among}
 use Rattle.findings.specs.laws.Members.{one_of_two}
 use Rattle.findings.specs.laws.Kept.{asked_more}
 use Rattle.findings.specs.laws.Numbers.{least_start, greatest_end, plain_start}
@@ -43,8 +43,8 @@ use Rattle.refute_seq.specs.Listed.{lists, asks_order, asks_two, asks_pair}
 use Rattle.refute_seq.specs.OnSequence.{refutes, row_of}
 use Rattle.refute_basic.specs.laws.Told.{AreTold, told}
 use Rattle.prop_unary.specs.declared.disjunctive.Disjunctive.{Disjunctive}
-use Rattle.prop_unary.specs.Tasks.{IsSilent}
-use Rattle.prop_unary.specs.Silence.{IsDisjunctive, stays_in_time, is_silent_two, is_silent_order, reach, is_silent_pair, AreSilent}
+use Rattle.prop_unary.specs.code.Tasks.{IsSilent}
+use Rattle.prop_unary.specs.code.Silence.{IsDisjunctive, stays_in_time, is_silent_two, is_silent_order, reach, is_silent_pair, AreSilent}
 use Rattle.prop_unary.specs.laws.Under.{different, never_itself, precedes_under, order_forward, told_closed}
 use Rattle.base_laws.specs.laws.Numbers.{turned_number}
 

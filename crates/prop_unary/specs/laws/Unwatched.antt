@@ -8,11 +8,11 @@ use Rattle.region.specs.declared.types.CellName.{CellName}
 use Rattle.region.specs.Cells.{Region}
 use Rattle.region.specs.Guesses.{SameCell}
 use Rattle.region.specs.Looks.{IsRegionOf}
-use Rattle.findings.specs.Reads.{Reads, AreAlike, reads_cell}
+use Rattle.findings.specs.code.Reads.{Reads, AreAlike, reads_cell}
 use Rattle.findings.specs.laws.Alike.{alike_from_cells}
 use Rattle.refute_seq.specs.declared.witness.SeqWitness.{SeqWitness}
 use Rattle.refute_seq.specs.declared.witness.SeqWitness.TheVariants.{Pair, Triple, Overload, Edge, NotEnd, Detect}
-use Rattle.prop_unary.specs.Tasks.{IsSilent, quiet, looks_after, sequence_in, reads_pair, reads_triple, reads_of, reads_at, watching, watching_best}
+use Rattle.prop_unary.specs.code.Tasks.{IsSilent, quiet, looks_after, sequence_in, reads_pair, reads_triple, reads_of, reads_at, watching, watching_best}
 use Rattle.prop_unary.specs.laws.Owners.{pair_owned, triple_owned, owned_kind}
 use Rattle.prop_unary.specs.laws.Quieting.{by_members}
 use Rattle.prop_unary.specs.laws.Looking.{silent_kept}

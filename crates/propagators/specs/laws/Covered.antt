@@ -18,33 +18,33 @@ use Rattle.refute_basic.specs.Listed.{lists, is_derived as is_derived_basic}
 use Rattle.kernel.specs.declared.types.Witness.{Witness}
 use Rattle.kernel.specs.declared.types.Witness.TheVariants.{Basic, Hier, Seq, Cumul, State, Extra}
 use Rattle.kernel.specs.declared.no_extra.NoWitness.{NoWitness}
-use Rattle.engine.specs.Pairs.{chosen}
+use Rattle.engine.specs.code.Pairs.{chosen}
 use Rattle.engine.specs.Plain.{refutes_plain}
 use Rattle.refute_hier.specs.Hier.{refutes as refutes_hier}
 use Rattle.refute_hier.specs.Listed.{lists as lists_hier}
-use Rattle.prop_basic.specs.Tasks.{size_of, looks_after, quiet, is_own}
+use Rattle.prop_basic.specs.code.Tasks.{size_of, looks_after, quiet, is_own}
 use Rattle.prop_basic.specs.laws.Owners.{unowned}
-use Rattle.prop_temporal.specs.Tasks.{size_of as size_of_temporal, looks_after as looks_after_temporal, quiet as quiet_temporal, is_temporal}
+use Rattle.prop_temporal.specs.code.Tasks.{size_of as size_of_temporal, looks_after as looks_after_temporal, quiet as quiet_temporal, is_temporal}
 use Rattle.prop_temporal.specs.laws.Owners.{unowned as unowned_temporal}
-use Rattle.prop_hier.specs.Tasks.{size_of as size_of_hier, looks_after as looks_after_hier, quiet as quiet_hier}
+use Rattle.prop_hier.specs.code.Tasks.{size_of as size_of_hier, looks_after as looks_after_hier, quiet as quiet_hier}
 use Rattle.prop_hier.specs.laws.Owners.{unowned as unowned_hier}
 use Rattle.refute_seq.specs.declared.witness.SeqWitness.{SeqWitness}
 use Rattle.refute_seq.specs.declared.witness.SeqWitness.TheVariants.{Pair, Triple, Overload, Edge, NotEnd, Detect}
 use Rattle.refute_seq.specs.OnSequence.{refutes as refutes_seq}
 use Rattle.refute_seq.specs.Listed.{lists as lists_seq}
-use Rattle.prop_unary.specs.Tasks.{size_of as size_of_unary, looks_after as looks_after_unary, quiet as quiet_unary, is_own as is_unary}
+use Rattle.prop_unary.specs.code.Tasks.{size_of as size_of_unary, looks_after as looks_after_unary, quiet as quiet_unary, is_own as is_unary}
 use Rattle.prop_unary.specs.laws.Owners.{unowned as unowned_unary}
-use Rattle.prop_sets.specs.Tasks.{size_of as size_of_sets, looks_after as looks_after_sets, quiet as quiet_sets, is_own as is_sets}
+use Rattle.prop_sets.specs.code.Tasks.{size_of as size_of_sets, looks_after as looks_after_sets, quiet as quiet_sets, is_own as is_sets}
 use Rattle.prop_sets.specs.laws.Owners.{unowned as unowned_sets}
 use Rattle.refute_cumul.specs.OnCumul.{refutes as refutes_cumul}
 use Rattle.refute_cumul.specs.Listed.{lists as lists_cumul}
-use Rattle.prop_cumul.specs.Tasks.{size_of as size_of_cumul, looks_after as looks_after_cumul, quiet as quiet_cumul}
+use Rattle.prop_cumul.specs.code.Tasks.{size_of as size_of_cumul, looks_after as looks_after_cumul, quiet as quiet_cumul}
 use Rattle.prop_cumul.specs.laws.Owners.{unowned as unowned_cumul}
 use Rattle.refute_state.specs.declared.witness.StateWitness.{StateWitness}
 use Rattle.refute_state.specs.declared.witness.StateWitness.TheVariants.{State as Two, State3 as Three}
 use Rattle.refute_state.specs.OnState.{refutes as refutes_state}
 use Rattle.refute_state.specs.Listed.{lists as lists_state}
-use Rattle.prop_state.specs.Tasks.{size_of as size_of_state, looks_after as looks_after_state, quiet as quiet_state, is_own as is_state}
+use Rattle.prop_state.specs.code.Tasks.{size_of as size_of_state, looks_after as looks_after_state, quiet as quiet_state, is_own as is_state}
 use Rattle.prop_state.specs.laws.Owners.{unowned as unowned_state}
 use Rattle.propagators.specs.Quiet.{is_derived, lists_all, IsQuietRegion}
 

@@ -14,7 +14,7 @@ use Rattle.sched_model.specs.declared.types.Constraint.{Constraint}
 use Rattle.sched_model.specs.declared.types.Constraint.TheVariants.{Temporal, Logic, Span, Alternative, Synchronize, NoOverlap, First, Last, Before, Prev, CumulIn, AlwaysEqual, AlwaysNoState}
 use Rattle.sched_model.specs.Words.{◌implies◌, passes}
 use Rattle.sched_model.specs.Data.{Data, has}
-use Rattle.sched_model.specs.Names.{Each}
+use Rattle.sched_model.specs.code.Names.{Each}
 use Rattle.sched_model.specs.Value.{point_of}
 use Rattle.sched_model.specs.Temporal.{reaches}
 use Rattle.sched_model.specs.Sentences.{Holds}

@@ -16,7 +16,7 @@ use Rattle.sched_model.specs.Data.{Data}
 use Rattle.sched_model.specs.Domain.{is_in_domain}
 use Rattle.sched_model.specs.Value.{value_of}
 use Rattle.sched_model.specs.Ranges.{Ends}
-use Rattle.sched_model.specs.Names.{Each, names_of}
+use Rattle.sched_model.specs.code.Names.{Each, names_of}
 use Rattle.sched_model.specs.Sentences.{Holds}
 use Rattle.sched_model.specs.Solution.{is_better, beats}
 use Rattle.sched_model.specs.laws.Within.{Within}

@@ -3,7 +3,7 @@ use Rattle.std.specs.Prelude.{◌≡◌, ℕ, zero, suc, ◌*◌, ℤ, pos, true
 use Rattle.std.specs.List.{list_all}
 use Rattle.std.proofs.Common.{refl, arith}
 use Rattle.sched_model.specs.Valid.{is_small}
-use Rattle.region.specs.Spelled.{AreSmall}
+use Rattle.region.specs.code.Spelled.{AreSmall}
 use Rattle.region.specs.laws.Lists.{both_true}
 use Rattle.refute_basic.specs.declared.arc_name.ArcName.{ArcName}
 use Rattle.refute_basic.specs.Witness.{name_numbers, is_name}

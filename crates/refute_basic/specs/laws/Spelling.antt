@@ -6,7 +6,7 @@ use Rattle.std.proofs.lemmas.Bool.{ltb-true}
 use Rattle.std.proofs.lemmas.Bool.Decides.{nat_tests}
 use Rattle.sched_model.specs.Data.{Data}
 use Rattle.region.specs.Looks.{Seen}
-use Rattle.region.specs.Spelled.{AreSmall}
+use Rattle.region.specs.code.Spelled.{AreSmall}
 use Rattle.region.specs.laws.Lists.{both_true}
 use Rattle.refute_basic.specs.declared.witness.BasicWitness.{BasicWitness}
 use Rattle.refute_basic.specs.declared.witness.BasicWitness.TheVariants.{Size, Arc, Cycle, Expr, Obj, Leaf}

@@ -11,7 +11,7 @@ use Rattle.sched_model.specs.Cumulative.{between, signed}
 use Rattle.region.specs.Cells.{Region, is_there}
 use Rattle.region.specs.Looks.{est_of, lst_of, ect_of, lct_of}
 use Rattle.refute_cumul.specs.Levels.{is_away, shape_min, shape_max, part_min, part_max, level_min, level_max, is_surely_in}
-use Rattle.refute_cumul.specs.Loads.{nothing, bounded_shape, height_at, bounded, load_of, load, is_over, is_from, window_of}
+use Rattle.refute_cumul.specs.code.Loads.{nothing, bounded_shape, height_at, bounded, load_of, load, is_over, is_from, window_of}
 use Rattle.refute_cumul.specs.Point.{leaves}
 
 empty : (t : ℤ) → between (pos 0) (pos 0) (pos 0) t ≡ pos 0

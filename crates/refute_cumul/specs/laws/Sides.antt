@@ -31,10 +31,10 @@ use Rattle.refute_cumul.specs.declared.witness.CumulWitness.{CumulWitness}
 use Rattle.refute_cumul.specs.declared.witness.CumulWitness.TheVariants.{Point}
 use Rattle.refute_cumul.specs.Witness.{constraint_of, is_valid}
 use Rattle.refute_cumul.specs.Levels.{is_surely_in}
-use Rattle.refute_cumul.specs.Loads.{is_over}
+use Rattle.refute_cumul.specs.code.Loads.{is_over}
 use Rattle.refute_cumul.specs.Point.{point_of, point_row}
 use Rattle.refute_cumul.specs.OnCumul.{refutes}
-use Rattle.refute_cumul.specs.Sides.{as_constraint, is_high, IsBoundOf, HasRoom}
+use Rattle.refute_cumul.specs.code.Sides.{as_constraint, is_high, IsBoundOf, HasRoom}
 use Rattle.refute_cumul.specs.laws.Loads.{leaves_is, side}
 
 -- a moment that surely lies in a window is small

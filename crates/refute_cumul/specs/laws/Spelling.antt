@@ -5,7 +5,7 @@ use Rattle.base_laws.specs.laws.Truth.{three_true}
 use Rattle.sched_model.specs.Bounds.{is_small, is_number}
 use Rattle.sched_model.specs.Data.{Data}
 use Rattle.region.specs.Looks.{Seen}
-use Rattle.region.specs.Spelled.{AreSmall}
+use Rattle.region.specs.code.Spelled.{AreSmall}
 use Rattle.region.specs.laws.Lists.{both_true}
 use Rattle.region.specs.laws.Spelled.{no_more, one_more, one_signed}
 use Rattle.refute_cumul.specs.declared.witness.CumulWitness.{CumulWitness}

@@ -19,7 +19,7 @@ use Rattle.refute_hier.specs.Alt.{alt_of}
 use Rattle.refute_hier.specs.Sync.{sync_of}
 use Rattle.refute_hier.specs.SeqRel.{seqrel_of}
 use Rattle.refute_hier.specs.Hier.{refutes, row_of}
-use Rattle.refute_hier.specs.Rows.{as_constraint, is_family, some_refutes, IsWitness}
+use Rattle.refute_hier.specs.code.Rows.{as_constraint, is_family, some_refutes, IsWitness}
 use Rattle.refute_hier.specs.laws.Rows.{row_is, some_if_row}
 use Rattle.base_laws.specs.laws.Truth.{never_both}
 

@@ -18,7 +18,7 @@ use Rattle.region.specs.laws.OneSequence.{has_cases}
 use Rattle.region.specs.laws.Found.{never}
 use Rattle.refute_hier.specs.declared.family.Kind.{Kind}
 use Rattle.refute_hier.specs.declared.family.Kind.TheVariants.{Span, Alternative, Synchronize}
-use Rattle.refute_hier.specs.Rows.{as_constraint}
+use Rattle.refute_hier.specs.code.Rows.{as_constraint}
 use Rattle.refute_hier.specs.laws.Rows.{AreNumbered}
 
 -- constraint c is one on an interval and its parts

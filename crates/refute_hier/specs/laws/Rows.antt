@@ -28,7 +28,7 @@ use Rattle.region.specs.laws.Found.{never}
 use Rattle.refute_hier.specs.laws.Filtered.{chosen}
 use Rattle.refute_hier.specs.declared.family.Kind.{Kind}
 use Rattle.refute_hier.specs.declared.family.Kind.TheVariants.{Span, Alternative, Synchronize}
-use Rattle.refute_hier.specs.Rows.{as_constraint, family_row, two_parts, some_case, some_refutes, IsWitness}
+use Rattle.refute_hier.specs.code.Rows.{as_constraint, family_row, two_parts, some_case, some_refutes, IsWitness}
 use Rattle.sched_model.specs.laws.Small.{number_fits}
 use Rattle.sched_model.specs.Bounds.{is_number}
 

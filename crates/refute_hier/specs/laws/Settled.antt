@@ -29,7 +29,7 @@ use Rattle.refute_hier.specs.declared.family.Kind.{Kind}
 use Rattle.refute_hier.specs.declared.family.Kind.TheVariants.{Span, Alternative, Synchronize}
 use Rattle.refute_hier.specs.Parts.{clash, plays_in, is_there, is_away, some_part}
 use Rattle.refute_hier.specs.Hier.{refutes}
-use Rattle.refute_hier.specs.Rows.{as_constraint, is_family, two_parts, some_case, some_refutes}
+use Rattle.refute_hier.specs.code.Rows.{as_constraint, is_family, two_parts, some_case, some_refutes}
 use Rattle.region.specs.laws.Found.{never}
 use Rattle.refute_hier.specs.laws.Filtered.{any_made, all_made, all_but, kept_pass, kept_some, none_left, kept_count}
 use Rattle.refute_hier.specs.laws.Rows.{witness_from}

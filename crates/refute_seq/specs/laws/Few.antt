@@ -16,7 +16,7 @@ use Rattle.region.specs.Looks.{Seen}
 use Rattle.region.specs.laws.Lists.{both_true}
 use Rattle.region.specs.laws.OneSequence.{below_is}
 use Rattle.task_sets.specs.Times.{has, is_set, is_task_set, is_outside, overload_row, edge_row, not_end_row, detect_row, turned}
-use Rattle.task_sets.specs.Sums.{has_first, has_later, all_have}
+use Rattle.task_sets.specs.laws.Sums.{has_first, has_later, all_have}
 use Rattle.refute_seq.specs.declared.witness.SeqWitness.{SeqWitness}
 use Rattle.refute_seq.specs.declared.witness.SeqWitness.TheVariants.{Pair, Triple, Overload, Edge, NotEnd, Detect}
 use Rattle.refute_seq.specs.Witness.{set_numbers, numbers_of, is_valid}

@@ -21,7 +21,7 @@ use Rattle.region.specs.laws.Orderly.{Lists, lists_of, differ, never_in, all_has
 use Rattle.region.specs.laws.Narrowing.{members_are}
 use Rattle.region.specs.laws.Pinned.{IsSettledTo}
 use Rattle.refute_seq.specs.Standing.{precedes}
-use Rattle.refute_seq.specs.Order.{settled_order, settled_orders}
+use Rattle.refute_seq.specs.code.Order.{settled_order, settled_orders}
 use Rattle.refute_seq.specs.laws.Known.{IsHere, either_way}
 use Rattle.refute_seq.specs.laws.Ordered.{IsSettledLook, settled_lists, settled_allows, one_way, has_settled}
 use Rattle.base_laws.specs.laws.Truth.{same_truth}

@@ -31,7 +31,7 @@ use Rattle.refute_seq.specs.Standing.{precedes, stand}
 use Rattle.refute_seq.specs.Triple.{triple_row}
 use Rattle.refute_seq.specs.OnSequence.{refutes}
 use Rattle.refute_seq.specs.Listed.{is_derived}
-use Rattle.refute_seq.specs.Order.{settled_order, settled_orders}
+use Rattle.refute_seq.specs.code.Order.{settled_order, settled_orders}
 use Rattle.refute_seq.specs.laws.Known.{member_is, members_once, interval_number, sequence_number, IsHere, here_within, either_way}
 use Rattle.refute_seq.specs.laws.Placed.{IsOrder, IsRow, all_rows, has_ordered, has_kept, once_kept}
 use Rattle.refute_seq.specs.laws.Settled.{IsOrdered}

@@ -11,7 +11,7 @@ use Rattle.sched_model.specs.Data.{same, has}
 use Rattle.region.specs.laws.Lists.{both_true, true_both}
 use Rattle.region.specs.laws.OneSequence.{same_is, same_turned}
 use Rattle.region.specs.laws.Orderly.{differ, all_has, each_all}
-use Rattle.refute_seq.specs.Order.{placed, ordered_from}
+use Rattle.refute_seq.specs.code.Order.{placed, ordered_from}
 
 -- of two members of a list one stands before the other, not both, and three don't stand in a circle
 pub record IsOrder (before : Itv → Itv → Bool) (ms : List Itv) : Type 0 where

@@ -7,7 +7,7 @@ use Rattle.std.proofs.lemmas.Bool.Decides.{nat_tests}
 use Rattle.base_laws.specs.laws.Lists.{same_lists}
 use Rattle.sched_model.specs.Words.{adjacent}
 use Rattle.sched_model.specs.Bounds.{is_number}
-use Rattle.region.specs.Spelled.{AreSmall}
+use Rattle.region.specs.code.Spelled.{AreSmall}
 use Rattle.region.specs.laws.Lists.{both_true}
 use Rattle.region.specs.laws.Spelled.{no_more, one_more}
 use Rattle.refute_seq.specs.Witness.{set_numbers, is_number_set}

@@ -15,7 +15,7 @@ use Rattle.region.specs.Cells.{Region, bounds_of, is_there, says_present}
 use Rattle.region.specs.Looks.{Seen}
 use Rattle.region.specs.laws.Lists.{both_true}
 use Rattle.task_sets.specs.Times.{Times, has, is_set, is_task_set, is_outside, is_overload, is_edge, is_not_end, is_detected, overload_row, edge_row, seen_in, turned}
-use Rattle.task_sets.specs.Sums.{has_first, has_later, all_have}
+use Rattle.task_sets.specs.laws.Sums.{has_first, has_later, all_have}
 use Rattle.refute_seq.specs.Sets.{times_in, times_of, is_task, without_overlap, overload_at, edge_at, not_end_at, detect_at}
 use Rattle.refute_seq.specs.laws.Tasks.{itv}
 

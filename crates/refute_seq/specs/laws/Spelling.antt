@@ -6,7 +6,7 @@ use Rattle.std.proofs.lemmas.Bool.Decides.{nat_tests}
 use Rattle.base_laws.specs.laws.Truth.{three_true, four_true}
 use Rattle.sched_model.specs.Data.{Data}
 use Rattle.region.specs.Looks.{Seen}
-use Rattle.region.specs.Spelled.{AreSmall}
+use Rattle.region.specs.code.Spelled.{AreSmall}
 use Rattle.region.specs.laws.Lists.{both_true}
 use Rattle.region.specs.laws.Spelled.{no_more, one_more}
 use Rattle.refute_seq.specs.declared.witness.SeqWitness.{SeqWitness}

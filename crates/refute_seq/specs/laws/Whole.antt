@@ -25,7 +25,7 @@ use Rattle.region.specs.laws.Lists.{true_both, placewise_each}
 use Rattle.region.specs.laws.Orderly.{Lists, differ, each_all}
 use Rattle.region.specs.laws.Narrowing.{members_are, as_many}
 use Rattle.region.specs.laws.Pinned.{IsSettledTo}
-use Rattle.refute_seq.specs.Order.{settled_order, settled_orders}
+use Rattle.refute_seq.specs.code.Order.{settled_order, settled_orders}
 use Rattle.refute_seq.specs.laws.Settled.{unrefuted_holds}
 use Rattle.refute_seq.specs.laws.Ordered.{IsSettledLook, settled_lists, settled_allows, settled_ordered, orders_settled}
 

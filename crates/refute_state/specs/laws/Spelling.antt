@@ -5,7 +5,7 @@ use Rattle.base_laws.specs.laws.Truth.{three_true}
 use Rattle.sched_model.specs.Data.{Data}
 use Rattle.sched_model.specs.Bounds.{is_number}
 use Rattle.region.specs.Looks.{Seen}
-use Rattle.region.specs.Spelled.{AreSmall}
+use Rattle.region.specs.code.Spelled.{AreSmall}
 use Rattle.region.specs.laws.Lists.{both_true}
 use Rattle.region.specs.laws.Spelled.{no_more, one_more}
 use Rattle.refute_state.specs.declared.witness.StateWitness.{StateWitness}

@@ -43,8 +43,8 @@ use Rattle.refute_state.specs.Times.{is_long_in, is_long, is_late}
 use Rattle.refute_state.specs.State.{goes_past, cant_share, state_pair, state_row}
 use Rattle.refute_state.specs.State3.{state_triple, state3_row}
 use Rattle.refute_state.specs.OnState.{refutes}
-use Rattle.refute_state.specs.Groups.{segment_of}
-use Rattle.refute_state.specs.Canonical.{stretch_of, empty_of, canonical, settled_segments}
+use Rattle.refute_state.specs.code.Groups.{segment_of}
+use Rattle.refute_state.specs.code.Canonical.{stretch_of, empty_of, canonical, settled_segments}
 use Rattle.refute_state.specs.laws.Lists.{Each, Pairs}
 use Rattle.refute_state.specs.laws.Settled.{In, each_in, settled_serves}
 use Rattle.refute_state.specs.laws.Facts.{Proper, Fits}

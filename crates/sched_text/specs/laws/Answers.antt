@@ -23,7 +23,7 @@ use Rattle.textline.specs.laws.Lines.{line_told, one_word}
 use Rattle.textline.specs.laws.Numbers.{decimal_is_word, signed_is_word}
 use Rattle.sched_text.specs.Pieces.{at_places}
 use Rattle.sched_text.specs.Answers.{slot_line, order_line, segments_line, schedule_lines, verdict_words, shown_schedule}
-use Rattle.sched_text.specs.Told.{IsPrintable, IsNumber, AnswersAreTold}
+use Rattle.sched_text.specs.code.Told.{IsPrintable, IsNumber, AnswersAreTold}
 use Rattle.sched_text.specs.laws.Places.{places_told, placewise_more}
 use Rattle.sched_text.specs.laws.Names.{names_of}
 use Rattle.sched_text.specs.laws.Lines.{slots_tell, orders_tell, segments_tell, spelled_slot, spelled_order, spelled_segments, is_spelled_slot, are_itvs, are_spelled_segments}

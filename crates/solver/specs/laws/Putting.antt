@@ -10,8 +10,8 @@ use Rattle.sched_base.specs.Calls.{Rose, appended}
 use Rattle.sched_base.specs.laws.Appended.{appended_nothing, appended_twice}
 use Rattle.textline.specs.Lines.{Bytes}
 use Rattle.logtext.specs.Logs.{PlainLine, plain_text, plain_lines}
-use Rattle.logtext.specs.Writing.{Gathers}
-use Rattle.solver.specs.Putting.{Puts, Breaks, PutsNamed, BreaksNamed}
+use Rattle.logtext.specs.code.Writing.{Gathers}
+use Rattle.solver.specs.code.Putting.{Puts, Breaks, PutsNamed, BreaksNamed}
 
 -- bytes that went and bytes that are held, with more behind them
 take_more : (xs ts : Bytes) (n k : ℕ) → n ≤ length xs → take n xs ++ take k (drop n xs ++ ts) ≡ take (n + k) (xs ++ ts)

@@ -41,7 +41,7 @@ use Rattle.refute_hier.specs.laws.Relations.{unrefuted_related}
 use Rattle.refute_seq.specs.declared.witness.SeqWitness.{SeqWitness}
 use Rattle.refute_seq.specs.OnSequence.{refutes as seq_refutes}
 use Rattle.refute_seq.specs.Listed.{is_derived as is_derived_seq}
-use Rattle.refute_seq.specs.Order.{settled_orders}
+use Rattle.refute_seq.specs.code.Order.{settled_orders}
 use Rattle.refute_seq.specs.laws.Ordered.{IsSettledLook, settled_ordered, orders_settled}
 use Rattle.refute_seq.specs.laws.Whole.{orders_present, orders_allowed, keeps_apart, all_unrefuted_hold as all_kept_apart}
 use Rattle.refute_cumul.specs.declared.witness.CumulWitness.{CumulWitness}
@@ -52,7 +52,7 @@ use Rattle.refute_state.specs.OnState.{refutes as state_refutes}
 use Rattle.refute_state.specs.laws.Whole.{segments_fit, keeps_state, all_unrefuted_hold as all_states_kept}
 use Rattle.kernel.specs.declared.types.Witness.TheVariants as witness
 use Rattle.propagators.specs.Quiet.{IsQuietRegion}
-use Rattle.solver.specs.Leaves.{settled_assignment, Solves}
+use Rattle.solver.specs.code.Leaves.{settled_assignment, Solves}
 
 -- a settled region allows the assignment at the settled values
 fits_itself : (p : Presence) (a b e f lo hi : ℤ)

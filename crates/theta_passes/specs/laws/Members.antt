@@ -2,9 +2,9 @@
 use Rattle.std.specs.Prelude.{List, [], length, nat_eq, not, refl, suc, true, zero, ℕ, ◌<◌, ◌∷◌, ◌≡◌}
 use Rattle.std.proofs.Common.{arith, inl, inr, subst, sym}
 use Rattle.std.proofs.lemmas.Bool.{or_cases}
-use Rattle.task_sets.specs.Cuts.{IsBelow}
-use Rattle.task_sets.specs.Sums.{same_number}
-use Rattle.theta_passes.specs.Rows.{is_candidate, is_present, row_at, says_absent, says_present, with_candidate}
+use Rattle.task_sets.specs.laws.Cuts.{IsBelow}
+use Rattle.task_sets.specs.laws.Sums.{same_number}
+use Rattle.theta_passes.specs.code.Rows.{is_candidate, is_present, row_at, says_absent, says_present, with_candidate}
 use Rattle.theta_passes.specs.declared.rows.Presence.{Presence}
 use Rattle.theta_passes.specs.declared.rows.Row.{Row}
 use Rattle.theta_passes.specs.declared.rows.Presence.TheVariants as is

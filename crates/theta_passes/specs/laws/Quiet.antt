@@ -4,18 +4,18 @@ use Rattle.std.proofs.Common.{arith, subst, sym}
 use Rattle.std.proofs.lemmas.Bool.Decides.{nat_tests}
 use Rattle.std.proofs.lemmas.Int.{ints}
 use Rattle.base_laws.specs.laws.Truth.{all_three, three_true}
-use Rattle.task_sets.specs.Cuts.{IsBelow}
-use Rattle.task_sets.specs.Ects.{ect_exists, lt_holds, lt_true}
-use Rattle.task_sets.specs.EdgeCuts.{edge_law}
-use Rattle.task_sets.specs.Moved.{IsGuessed, ect_alike, edge_guessed, guessed_edge, guessed_late, late_guessed}
-use Rattle.task_sets.specs.NotEndCuts.{detect_law}
-use Rattle.task_sets.specs.Sums.{has_first}
+use Rattle.task_sets.specs.laws.Cuts.{IsBelow}
+use Rattle.task_sets.specs.laws.Ects.{ect_exists, lt_holds, lt_true}
+use Rattle.task_sets.specs.laws.EdgeCuts.{edge_law}
+use Rattle.task_sets.specs.laws.Moved.{IsGuessed, ect_alike, edge_guessed, guessed_edge, guessed_late, late_guessed}
+use Rattle.task_sets.specs.laws.NotEndCuts.{detect_law}
+use Rattle.task_sets.specs.laws.Sums.{has_first}
 use Rattle.task_sets.specs.Times.{IsSized, Times, ect_at, has, lst_at, overload_row}
-use Rattle.task_sets.specs.Witnesses.{overload_guessed}
-use Rattle.theta_passes.specs.Late.{before_key}
-use Rattle.theta_passes.specs.Over.{NoOverloads}
-use Rattle.theta_passes.specs.Quiet.{FoundDetect, FoundEdge, QuietDetects, QuietEdges}
-use Rattle.theta_passes.specs.Rows.{is_candidate, is_present, row_at, times_at, with_candidate}
+use Rattle.task_sets.specs.laws.Witnesses.{overload_guessed}
+use Rattle.theta_passes.specs.code.Late.{before_key}
+use Rattle.theta_passes.specs.code.Over.{NoOverloads}
+use Rattle.theta_passes.specs.code.Quiet.{FoundDetect, FoundEdge, QuietDetects, QuietEdges}
+use Rattle.theta_passes.specs.code.Rows.{is_candidate, is_present, row_at, times_at, with_candidate}
 use Rattle.theta_passes.specs.declared.rows.Row.{Row}
 use Rattle.theta_passes.specs.laws.Members.{present_below, with_below}
 

@@ -2,8 +2,8 @@
 use Rattle.std.specs.Prelude.{◌≡◌, ℕ, ◌<◌, false, IsTrue, length, None}
 use Rattle.std.proofs.Common.{refl, sym, subst, ◌∙◌, arith}
 use Rattle.std.proofs.lemmas.Bool.{true≢false}
-use Rattle.wake_levels.specs.Waking.{Waking, is_awake, first_turn, without_on_all, woken_on}
-use Rattle.wake_levels.specs.Calm.{IsCalm}
+use Rattle.wake_levels.specs.code.Waking.{Waking, is_awake, first_turn, without_on_all, woken_on}
+use Rattle.wake_levels.specs.code.Calm.{IsCalm}
 use Rattle.wake_levels.specs.laws.Turning.{kept_on, has_on, none_in, kept_without, count_without}
 use Rattle.base_laws.specs.laws.Truth.{fails_before}
 use Rattle.base_laws.specs.laws.Numbers.{same_or_not}

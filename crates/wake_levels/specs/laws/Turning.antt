@@ -4,10 +4,10 @@ use Rattle.std.proofs.Common.{refl, sym, ap, ◌∙◌, arith}
 use Rattle.std.proofs.lemmas.Bool.Decides.{nat_tests}
 use Rattle.std.proofs.lemmas.List.{length_push}
 use Rattle.std.proofs.lemmas.Bool.{or_left, or_right}
-use Rattle.iqueue.specs.Queue.{is_in, without, woken}
+use Rattle.iqueue.specs.code.Queue.{is_in, without, woken}
 use Rattle.iqueue.specs.laws.Ends.{in_end, in_push}
 use Rattle.wake_levels.specs.declared.levels.Turn.{Turn}
-use Rattle.wake_levels.specs.Waking.{is_in_any, weight, next_level, first_turn, without_on_all, woken_on}
+use Rattle.wake_levels.specs.code.Waking.{is_in_any, weight, next_level, first_turn, without_on_all, woken_on}
 
 or_map : (p q s t : Bool) → (p ≡ true → s ≡ true) → (q ≡ true → t ≡ true) → (p || q) ≡ true → (s || t) ≡ true
 or_map true q s t f g h = or_left s t (f refl)

@@ -4,8 +4,8 @@ use Rattle.logtext.specs.declared.entry.Entry.TheVariants.{Finish}
 use Rattle.checker.specs.declared.judging.Turn.TheVariants.{Stepped, Ended, Wrong, Missing, Beyond}
 use Rattle.checker.specs.Checking.{Checks}
 use Rattle.checker.specs.Judgement.{log_limit}
-use Rattle.checker.specs.Pieces.{GoesOn, IsEntryAt, IsReading}
-use Rattle.checker.specs.Turns.{Turns, fault_of_read}
+use Rattle.checker.specs.code.Pieces.{GoesOn, IsEntryAt, IsReading}
+use Rattle.checker.specs.code.Turns.{Turns, fault_of_read}
 use Rattle.checker.proofs.Spelt.{Spellings}
 use Rattle.checker.proofs.Feeding.{reading_taken}
 use Rattle.checker.proofs.Desk.{judging_first, judging_more, reached_on, room, held_place, gives_up, accepts, is_too_long, refuses_behind, refuses_missing, refuses_wrong}

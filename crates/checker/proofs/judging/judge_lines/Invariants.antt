@@ -3,7 +3,7 @@ use Rattle.sched_base.specs.declared.desk.Inlet.TheVariants.{Log}
 use Rattle.sched_base.specs.State.{State, is_opened}
 use Rattle.kernel.specs.Promises.{Ready}
 use Rattle.checker.specs.Judgement.{log_limit}
-use Rattle.checker.specs.Turns.{IsBehindHead}
+use Rattle.checker.specs.code.Turns.{IsBehindHead}
 use Rattle.checker.proofs.Desk.{Judging}
 use Rattle.checker.proofs.judging.judge_lines.Given as goal
 

@@ -1,7 +1,7 @@
 use Rattle.std.proofs.Common.{◌≡◌, [], Ok, Err, sym, subst, arith, rules}
 use Rattle.checker.specs.declared.reading.Found.TheVariants.{Line, Wrong, Missing, Beyond}
-use Rattle.checker.specs.Pieces.{FindsLine}
-use Rattle.checker.specs.Turns.{FindsHead}
+use Rattle.checker.specs.code.Pieces.{FindsLine}
+use Rattle.checker.specs.code.Turns.{FindsHead}
 use Rattle.checker.proofs.Spelt.{Spellings}
 use Rattle.checker.proofs.Feeding.{reading_none}
 use Rattle.checker.proofs.Desk.{HeadAnswer, head_found, no_head_wrong, no_head_missing}

@@ -1,8 +1,8 @@
 use Rattle.std.proofs.Common.{◌≡◌, drop, Ok, Err, refl, sym, subst, rules}
 use Rattle.logtext.specs.declared.entry.Entry.TheVariants.{Head, Step, Finish}
 use Rattle.checker.specs.declared.reading.Found.TheVariants.{Wrong}
-use Rattle.checker.specs.Pieces.{FindsLine}
-use Rattle.checker.specs.Turns.{Turns}
+use Rattle.checker.specs.code.Pieces.{FindsLine}
+use Rattle.checker.specs.code.Turns.{Turns}
 use Rattle.checker.proofs.Spelt.{Spellings}
 use Rattle.checker.proofs.Judged.{none_wrong, head_wrong, step_wrong}
 use Rattle.checker.proofs.Feeding.{found_entry}

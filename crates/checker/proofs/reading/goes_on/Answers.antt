@@ -1,5 +1,5 @@
 use Rattle.std.proofs.Common.{◌≡◌, ◌<◌, [], true, Err, arith, rules, sym, subst}
-use Rattle.checker.specs.Pieces.{GoesOn}
+use Rattle.checker.specs.code.Pieces.{GoesOn}
 use Rattle.checker.proofs.Feeding.{fails_on, holds_more, reads_more, reads_none}
 use Rattle.checker.proofs.reading.goes_on.Goals as goal
 

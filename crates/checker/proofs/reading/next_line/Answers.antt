@@ -1,10 +1,10 @@
 use Rattle.std.proofs.Common.{◌≡◌, ◌≤◌, Some, None, Ok, Err, sym, ap, subst, ◌∙◌, arith, rules}
 use Rattle.kernel.specs.NoExtra.{numbers_of, is_valid}
 use Rattle.logtext.specs.declared.entry.EntryFault.TheVariants.{Bad}
-use Rattle.log_lines.specs.Pieces.{Fed, ReadsNext}
+use Rattle.log_lines.specs.code.Pieces.{Fed, ReadsNext}
 use Rattle.logtext.specs.Reading.{HasNoWholeLine}
 use Rattle.checker.specs.Judgement.{log_limit}
-use Rattle.checker.specs.Pieces.{FindsLine}
+use Rattle.checker.specs.code.Pieces.{FindsLine}
 use Rattle.checker.proofs.Feeding.{Stands, finds_line, finds_wrong, finds_beyond, finds_missing, fails_on, stands_more}
 use Rattle.checker.proofs.reading.next_line.Goals as goal
 

@@ -2,7 +2,7 @@ use Rattle.std.proofs.Common.{◌≡◌, ◌≤◌, ◌-◌, ℕ, true}
 use Rattle.sched_base.specs.declared.desk.Inlet.TheVariants.{Log}
 use Rattle.sched_base.specs.State.{Bytes, State, is_opened}
 use Rattle.checker.specs.Judgement.{log_limit}
-use Rattle.checker.specs.Pieces.{IsReading, holds}
+use Rattle.checker.specs.code.Pieces.{IsReading, holds}
 use Rattle.checker.proofs.Feeding.{Stands}
 use Rattle.checker.proofs.reading.next_line.Given as goal
 

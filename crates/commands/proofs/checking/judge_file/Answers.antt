@@ -1,6 +1,6 @@
 use Rattle.std.proofs.Common.{◌≡◌, Err, rules, sym, subst}
-use Rattle.commands.specs.Stops.{stop_of_check}
-use Rattle.commands.specs.Tries.{JudgesFile}
+use Rattle.commands.specs.code.Stops.{stop_of_check}
+use Rattle.commands.specs.code.Tries.{JudgesFile}
 use Rattle.commands.proofs.Checked.{accepted_file, not_accepted}
 use Rattle.commands.proofs.checking.judge_file.Goals as goal
 

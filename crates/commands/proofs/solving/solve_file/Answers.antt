@@ -2,7 +2,7 @@ use Rattle.std.proofs.Common.{◌≡◌, Err, rules, sym, subst}
 use Rattle.sched_base.specs.State.{Place}
 use Rattle.sched_base.specs.Calls.{ReadsAtMost}
 use Rattle.commands.specs.Runs.{file_of}
-use Rattle.commands.specs.Tries.{TriesSolve}
+use Rattle.commands.specs.code.Tries.{TriesSolve}
 use Rattle.commands.specs.Runs.Source.{file}
 use Rattle.commands.proofs.Solved.{stopped, printed, half_printed}
 use Rattle.commands.proofs.solving.solve_file.Goals as goal

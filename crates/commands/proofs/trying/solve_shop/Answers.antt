@@ -1,6 +1,6 @@
 use Rattle.std.proofs.Common.{◌≡◌, Err, rules, refl, sym, subst}
 use Rattle.commands.specs.Runs.Source.{generated}
-use Rattle.commands.specs.Tries.{TriesSolve}
+use Rattle.commands.specs.code.Tries.{TriesSolve}
 use Rattle.commands.proofs.Solved.{nothing_read, unmade, stopped, printed, half_printed}
 use Rattle.commands.proofs.trying.solve_shop.Goals as goal
 

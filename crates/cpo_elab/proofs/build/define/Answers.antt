@@ -1,5 +1,5 @@
 use Rattle.cpo_elab.specs.Elaborated.{defined}
-use Rattle.cpo_elab.proofs.Defining.{add_item}
+use Rattle.cpo_elab.proofs.judging.Defining.{add_item}
 use Rattle.cpo_elab.proofs.build.define.Goals as goal
 
 pub with_named-requires-clause-valid : goal.with_named-requires-clause-valid

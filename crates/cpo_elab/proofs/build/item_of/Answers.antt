@@ -1,4 +1,4 @@
-use Rattle.cpo_elab.proofs.Defining.{interval_name}
+use Rattle.cpo_elab.proofs.judging.Defining.{interval_name}
 use Rattle.cpo_elab.proofs.build.item_of.Goals as goal
 
 pub returns-in_ok-def-in-IntervalVar-clause-name : goal.returns-in_ok-def-in-IntervalVar-clause-name

@@ -1,4 +1,4 @@
-use Rattle.cpo_elab.proofs.Stepped.{can_define, fresh_name, small_amounts, no_signs, few_rows, can_constrain, can_write, can_aim, first_aim}
+use Rattle.cpo_elab.proofs.judging.Stepped.{can_define, fresh_name, small_amounts, no_signs, few_rows, can_constrain, can_write, can_aim, first_aim}
 use Rattle.cpo_elab.proofs.build.with_statement.Goals as goal
 
 pub define-requires-clause-valid : goal.define-requires-clause-valid

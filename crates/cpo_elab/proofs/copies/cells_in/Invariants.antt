@@ -1,5 +1,5 @@
 use Rattle.std.proofs.Common.{◌≡◌, ◌++◌, map, flat_map, drop}
-use Rattle.cpo_elab.specs.Numbers.{int_of}
+use Rattle.cpo_elab.specs.Literals.{int_of}
 use Rattle.cpo_elab.proofs.copies.cells_in.Given as goal
 
 abbrev pub invariant-loop-row : goal.invariant-loop-row

@@ -1,5 +1,5 @@
 use Rattle.std.proofs.Common.{◌≡◌, ◌++◌, map, drop}
-use Rattle.cpo_elab.specs.Numbers.{int_of}
+use Rattle.cpo_elab.specs.Literals.{int_of}
 use Rattle.cpo_elab.proofs.copies.push_ints.Given as goal
 
 abbrev pub invariant-loop-i : goal.invariant-loop-i

@@ -1,7 +1,7 @@
 use Rattle.std.proofs.Common.{◌+◌, ap, ◌∙◌, refl, arith}
 use Rattle.sched_model.specs.Valid.{node_count}
-use Rattle.cpo_elab.specs.Drafts.{capped}
-use Rattle.cpo_elab.proofs.Capped.{one_capped, plus_more, compare_nodes, implies_nodes, sum_turn, sum_end}
+use Rattle.cpo_elab.specs.code.Drafts.{capped}
+use Rattle.cpo_elab.proofs.adding.Capped.{one_capped, plus_more, compare_nodes, implies_nodes, sum_turn, sum_end}
 use Rattle.cpo_elab.proofs.counts.+nodes.Goals as goal
 
 pub list_nodes-loop-part-init : goal.list_nodes-loop-part-init

@@ -1,7 +1,7 @@
 use Rattle.std.proofs.Common.{◌≡◌, ◌+◌, ℕ, map, sum}
 use Rattle.sched_model.specs.Valid.{node_count}
-use Rattle.cpo_elab.specs.Drafts.{capped}
-use Rattle.cpo_elab.proofs.Capped.{total_from}
+use Rattle.cpo_elab.specs.code.Drafts.{capped}
+use Rattle.cpo_elab.proofs.adding.Capped.{total_from}
 use Rattle.cpo_elab.proofs.counts.+nodes.Given as goal
 
 abbrev pub invariant-list_nodes-loop-part : goal.invariant-list_nodes-loop-part

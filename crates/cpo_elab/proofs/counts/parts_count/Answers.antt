@@ -1,8 +1,8 @@
 use Rattle.std.proofs.Common.{◌+◌, ap, sym, ◌∙◌, refl, length, flat_map, arith}
 use Rattle.std.proofs.lemmas.List.{at_drop_all}
 use Rattle.cpo_elab.specs.Elaborated.{plain_parts, parts_signed}
-use Rattle.cpo_elab.specs.Drafts.{capped}
-use Rattle.cpo_elab.proofs.Capped.{plus_more, first_parts, parts_turn}
+use Rattle.cpo_elab.specs.code.Drafts.{capped}
+use Rattle.cpo_elab.proofs.adding.Capped.{plus_more, first_parts, parts_turn}
 use Rattle.cpo_elab.proofs.counts.parts_count.Goals as goal
 
 pub loop-s-init : goal.loop-s-init

@@ -1,6 +1,6 @@
 use Rattle.std.proofs.Common.{◌≡◌, ◌+◌, ℕ, drop, flat_map, length}
 use Rattle.cpo_elab.specs.Elaborated.{parts_signed, parts_in}
-use Rattle.cpo_elab.specs.Drafts.{capped}
+use Rattle.cpo_elab.specs.code.Drafts.{capped}
 use Rattle.cpo_elab.proofs.counts.parts_count.Given as goal
 
 abbrev pub invariant-loop-s : goal.invariant-loop-s

@@ -3,7 +3,7 @@ use Rattle.std.specs.List.{list_any}
 use Rattle.sched_model.specs.Valid.{are_distinct}
 use Rattle.cpo_elab.specs.Named.{itv_of}
 use Rattle.base_laws.specs.laws.Truth.{not_away}
-use Rattle.cpo_elab.proofs.Distinct.{itvs, twice_in, more_in, distinct_more, not_there, pushed_key}
+use Rattle.cpo_elab.proofs.named.Distinct.{itvs, twice_in, more_in, distinct_more, not_there, pushed_key}
 use Rattle.cpo_elab.proofs.fits.any_twice.Goals as goal
 
 pub returns-then-not-branch : goal.returns-then-not-branch

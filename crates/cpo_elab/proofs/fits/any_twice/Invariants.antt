@@ -1,7 +1,7 @@
 use Rattle.std.proofs.Common.{◌≡◌, ◌++◌, true, drop}
 use Rattle.sched_model.specs.Valid.{are_distinct}
 use Rattle.cpo_elab.specs.Named.{itvs_of}
-use Rattle.cpo_elab.proofs.Distinct.{itvs}
+use Rattle.cpo_elab.proofs.named.Distinct.{itvs}
 use Rattle.cpo_elab.proofs.fits.any_twice.Given as goal
 
 abbrev pub invariant-loop-name : goal.invariant-loop-name

@@ -1,8 +1,8 @@
-use Rattle.cpo_elab.proofs.Determined.{ReadingIsDetermined, at_most_one}
-use Rattle.cpo_elab.proofs.OnlyWords.{only_words_count}
-use Rattle.cpo_elab.proofs.Spelt.{texts_are_shaped}
-use Rattle.cpo_elab.proofs.Told.{only_told_count}
-use Rattle.cpo_elab.proofs.Total.{some_answer}
+use Rattle.cpo_elab.proofs.judging.Determined.{ReadingIsDetermined, at_most_one}
+use Rattle.cpo_elab.proofs.judging.OnlyWords.{only_words_count}
+use Rattle.cpo_elab.proofs.judging.Spelt.{texts_are_shaped}
+use Rattle.cpo_elab.proofs.judging.Told.{only_told_count}
+use Rattle.cpo_elab.proofs.judging.Total.{some_answer}
 use Rattle.cpo_elab.proofs.laws.answer_is_determined.Goals as goal
 
 pub returns : goal.returns

@@ -1,5 +1,5 @@
 use Rattle.std.proofs.Common.{◌∙◌, ◌&&◌}
-use Rattle.cpo_elab.proofs.Rooms.{constraint_rooms}
+use Rattle.cpo_elab.proofs.adding.Rooms.{constraint_rooms}
 use Rattle.cpo_elab.proofs.limits.constraint_fits.Goals as goal
 
 pub returns : goal.returns

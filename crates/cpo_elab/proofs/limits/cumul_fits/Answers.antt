@@ -1,5 +1,5 @@
 use Rattle.std.proofs.Common.{◌∙◌, ◌&&◌, length}
-use Rattle.cpo_elab.proofs.Rooms.{room_cumul}
+use Rattle.cpo_elab.proofs.adding.Rooms.{room_cumul}
 use Rattle.cpo_elab.proofs.limits.cumul_fits.Goals as goal
 
 pub returns : goal.returns

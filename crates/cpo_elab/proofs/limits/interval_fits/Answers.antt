@@ -1,5 +1,5 @@
 use Rattle.std.proofs.Common.{◌∙◌}
-use Rattle.cpo_elab.proofs.Rooms.{room_interval}
+use Rattle.cpo_elab.proofs.adding.Rooms.{room_interval}
 use Rattle.cpo_elab.proofs.limits.interval_fits.Goals as goal
 
 pub returns : goal.returns

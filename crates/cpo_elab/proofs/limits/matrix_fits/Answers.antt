@@ -1,5 +1,5 @@
 use Rattle.std.proofs.Common.{◌∙◌}
-use Rattle.cpo_elab.proofs.Rooms.{room_matrix}
+use Rattle.cpo_elab.proofs.adding.Rooms.{room_matrix}
 use Rattle.cpo_elab.proofs.limits.matrix_fits.Goals as goal
 
 pub returns : goal.returns

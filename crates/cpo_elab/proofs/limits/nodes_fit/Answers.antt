@@ -1,6 +1,6 @@
 use Rattle.std.proofs.Common.{◌∙◌}
 use Rattle.sched_model.specs.Valid.{node_total}
-use Rattle.cpo_elab.proofs.Rooms.{node_rooms}
+use Rattle.cpo_elab.proofs.adding.Rooms.{node_rooms}
 use Rattle.cpo_elab.proofs.limits.nodes_fit.Goals as goal
 
 pub returns : goal.returns

@@ -1,5 +1,5 @@
 use Rattle.std.proofs.Common.{◌∙◌}
-use Rattle.cpo_elab.proofs.Rooms.{room_state}
+use Rattle.cpo_elab.proofs.adding.Rooms.{room_state}
 use Rattle.cpo_elab.proofs.limits.state_fits.Goals as goal
 
 pub returns : goal.returns

@@ -1,6 +1,6 @@
 use Rattle.std.proofs.Common.{◌+◌, sym, ap, ◌∙◌}
 use Rattle.std.proofs.lemmas.List.{at_drop_all}
-use Rattle.cpo_elab.specs.Numbered.{named_first}
+use Rattle.cpo_elab.specs.NamedFirst.{named_first}
 use Rattle.cpo_elab.specs.Answers.{judged}
 use Rattle.cpo_elab.specs.Answers.Answer.{Accepted}
 use Rattle.cpo_elab.proofs.whole.elaborate.Goals as goal

@@ -1,5 +1,5 @@
-use Rattle.cpo_elab.proofs.Spelt.{texts_are_shaped}
-use Rattle.cpo_elab.proofs.Given.{given_tree, given_fault}
+use Rattle.cpo_elab.proofs.judging.Spelt.{texts_are_shaped}
+use Rattle.cpo_elab.proofs.judging.Given.{given_tree, given_fault}
 use Rattle.cpo_elab.proofs.whole.read_model.Goals as goal
 
 pub elaborate-requires : goal.elaborate-requires

@@ -1,6 +1,6 @@
 use Rattle.std.proofs.Common.{◌-◌, ◌∙◌, arith}
-use Rattle.cpo_text.specs.Gives.{ahead}
-use Rattle.cpo_text.proofs.Adding.{added_turn}
+use Rattle.cpo_text.specs.code.Gives.{ahead}
+use Rattle.cpo_text.proofs.levelled.Adding.{added_turn}
 use Rattle.cpo_text.proofs.contributions.added.Goals as goal
 
 pub loop-left-preserved : goal.loop-left-preserved

@@ -1,7 +1,7 @@
 use Rattle.std.proofs.Common.{◌≡◌, ◌≤◌}
-use Rattle.cpo_text.specs.Lists.{after}
-use Rattle.cpo_text.specs.Contributions.{added_at}
-use Rattle.cpo_text.specs.Gives.{ahead}
+use Rattle.cpo_text.specs.code.Lists.{after}
+use Rattle.cpo_text.specs.code.Contributions.{added_at}
+use Rattle.cpo_text.specs.code.Gives.{ahead}
 use Rattle.cpo_text.proofs.contributions.added.Given as goal
 
 abbrev pub invariant-loop-left : goal.invariant-loop-left

@@ -1,7 +1,7 @@
 use Rattle.std.proofs.Common.{◌≡◌, false, sym, ap, rules, ◌∙◌}
 use Rattle.std.specs.Prelude.{Err}
-use Rattle.cpo_text.specs.Rules.{has_sort}
-use Rattle.cpo_text.proofs.Ivargs.{ivargs_fault, ivargs_smaller, ivargs_twice, ivargs_last, ivargs_next}
+use Rattle.cpo_text.specs.code.Rules.{has_sort}
+use Rattle.cpo_text.proofs.listing.Ivargs.{ivargs_fault, ivargs_smaller, ivargs_twice, ivargs_last, ivargs_next}
 use Rattle.cpo_text.proofs.grammar.ivargs.Goals as goal
 
 pub returns-in_err-arg : goal.returns-in_err-arg

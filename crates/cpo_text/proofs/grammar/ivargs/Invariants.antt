@@ -1,6 +1,6 @@
 use Rattle.std.proofs.Common.{◌≡◌, length, []}
-use Rattle.cpo_text.specs.Rules.{ivargs_at}
-use Rattle.cpo_text.specs.Gives.{ahead}
+use Rattle.cpo_text.specs.code.Rules.{ivargs_at}
+use Rattle.cpo_text.specs.code.Gives.{ahead}
 use Rattle.cpo_text.proofs.grammar.ivargs.Given as goal
 
 abbrev pub invariant-loop-args : goal.invariant-loop-args

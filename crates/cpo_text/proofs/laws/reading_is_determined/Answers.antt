@@ -1,5 +1,5 @@
-use Rattle.cpo_text.proofs.Determined.{pieces_determined, tokens_determined, bad_byte_determined, every_text, not_both, statements_determined, grammar_decided, readings_determined}
-use Rattle.cpo_text.proofs.Pieces.{each_byte}
+use Rattle.cpo_text.proofs.pieces.Determined.{pieces_determined, tokens_determined, bad_byte_determined, every_text, not_both, statements_determined, grammar_decided, readings_determined}
+use Rattle.cpo_text.proofs.pieces.Pieces.{each_byte}
 use Rattle.cpo_text.proofs.laws.reading_is_determined.Goals as goal
 
 pub returns : goal.returns

@@ -1,7 +1,7 @@
 use Rattle.std.proofs.Common.{◌-◌, ◌∙◌, arith}
-use Rattle.cpo_text.specs.Gives.{ahead}
-use Rattle.cpo_text.proofs.Onwards.{gives_on, gives_group}
-use Rattle.cpo_text.proofs.Turns.{turn_more, turn_plus, turn_minus, turn_items}
+use Rattle.cpo_text.specs.code.Gives.{ahead}
+use Rattle.cpo_text.proofs.operands.Onwards.{gives_on, gives_group}
+use Rattle.cpo_text.proofs.operands.Turns.{turn_more, turn_plus, turn_minus, turn_items}
 use Rattle.cpo_text.proofs.levels.+levels.Goals as goal
 
 pub operands-loop-left-preserved : goal.operands-loop-left-preserved

@@ -1,7 +1,7 @@
 use Rattle.std.proofs.Common.{◌≡◌, ◌+◌, ◌*◌, ◌≤◌, [], ◌∷◌}
-use Rattle.cpo_text.specs.Levels.{read, in_front}
-use Rattle.cpo_text.specs.Levels.Task.{more, terms, items}
-use Rattle.cpo_text.specs.Gives.{ahead}
+use Rattle.cpo_text.specs.code.Levels.{read, in_front}
+use Rattle.cpo_text.specs.code.Levels.Task.{more, terms, items}
+use Rattle.cpo_text.specs.code.Gives.{ahead}
 use Rattle.cpo_text.proofs.levels.+levels.Given as goal
 
 abbrev pub decreases-logic : goal.decreases-logic

@@ -1,5 +1,5 @@
 use Rattle.std.proofs.Common.{sym}
-use Rattle.cpo_text.proofs.Listing.{ahead_start, ahead_last, ahead_next}
+use Rattle.cpo_text.proofs.listing.Listing.{ahead_start, ahead_last, ahead_next}
 use Rattle.cpo_text.proofs.lists.items.Goals as goal
 
 pub loop-items-init : goal.loop-items-init

@@ -1,7 +1,7 @@
 use Rattle.std.proofs.Common.{length}
-use Rattle.cpo_text.specs.Lists.{items_at}
-use Rattle.cpo_text.specs.Gives.{ahead}
-use Rattle.cpo_text.proofs.Listing.{Ahead}
+use Rattle.cpo_text.specs.code.Lists.{items_at}
+use Rattle.cpo_text.specs.code.Gives.{ahead}
+use Rattle.cpo_text.proofs.listing.Listing.{Ahead}
 use Rattle.cpo_text.proofs.lists.items.Given as goal
 
 abbrev pub invariant-loop-items : goal.invariant-loop-items

@@ -1,6 +1,6 @@
 use Rattle.std.proofs.Common.{◌≡◌, false, drop, sym, ap, ◌∙◌}
 use Rattle.cpo_text.specs.Tokens.{begins}
-use Rattle.cpo_text.proofs.Closing.{close_turn}
+use Rattle.cpo_text.proofs.pieces.Closing.{close_turn}
 use Rattle.cpo_text.proofs.piece.close_len.Goals as goal
 
 pub loop-i-preserved : goal.loop-i-preserved

@@ -1,5 +1,5 @@
 use Rattle.std.proofs.Common.{◌≡◌, ◌+◌, drop, option_map}
-use Rattle.cpo_text.specs.Lexing.{close_len}
+use Rattle.cpo_text.specs.code.Lexing.{close_len}
 use Rattle.cpo_text.proofs.piece.close_len.Given as goal
 
 abbrev pub invariant-loop-i : goal.invariant-loop-i

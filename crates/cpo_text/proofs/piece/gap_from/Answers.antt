@@ -1,5 +1,5 @@
 use Rattle.std.proofs.Common.{sym}
-use Rattle.cpo_text.proofs.Gaps.{no_gap}
+use Rattle.cpo_text.proofs.pieces.Gaps.{no_gap}
 use Rattle.cpo_text.proofs.piece.gap_from.Goals as goal
 
 pub returns-else-first-eq47 : goal.returns-else-first-eq47

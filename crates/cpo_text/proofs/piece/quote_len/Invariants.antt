@@ -1,5 +1,5 @@
 use Rattle.std.proofs.Common.{◌≡◌, ◌+◌, drop, option_map}
-use Rattle.cpo_text.specs.Lexing.{quote_len}
+use Rattle.cpo_text.specs.code.Lexing.{quote_len}
 use Rattle.cpo_text.proofs.piece.quote_len.Given as goal
 
 abbrev pub invariant-loop-i : goal.invariant-loop-i

@@ -1,8 +1,8 @@
 use Rattle.std.proofs.Common.{◌≡◌, refl, sym, arith, ◌∙◌}
 use Rattle.cpo_text.specs.Runs.{ended}
-use Rattle.cpo_text.specs.Lexing.{tokens_from}
-use Rattle.cpo_text.proofs.Walks.{part_of}
-use Rattle.cpo_text.proofs.Scans.{turn_of, reach_turn, count_turn, comments_on, rest_at_end, comments_at_end, bad_here, none_ended}
+use Rattle.cpo_text.specs.code.Lexing.{tokens_from}
+use Rattle.cpo_text.proofs.pieces.Walks.{part_of}
+use Rattle.cpo_text.proofs.pieces.Scans.{turn_of, reach_turn, count_turn, comments_on, rest_at_end, comments_at_end, bad_here, none_ended}
 use Rattle.cpo_text.proofs.scan.scan.Goals as goal
 
 pub returns-in-None-clause-err : goal.returns-in-None-clause-err

@@ -1,7 +1,7 @@
 use Rattle.std.proofs.Common.{◌≡◌, ◌+◌, ◌≤◌, ◌-◌, ◌||◌, length, drop}
 use Rattle.cpo_text.specs.Tokens.{has_comment}
 use Rattle.cpo_text.specs.Runs.{ended}
-use Rattle.cpo_text.specs.Lexing.{pieces, rest, tokens_from}
+use Rattle.cpo_text.specs.code.Lexing.{pieces, rest, tokens_from}
 use Rattle.cpo_text.proofs.scan.scan.Given as goal
 
 abbrev pub invariant-loop-at : goal.invariant-loop-at

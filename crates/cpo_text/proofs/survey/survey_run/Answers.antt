@@ -1,6 +1,6 @@
 use Rattle.std.proofs.Common.{sym, arith, ◌∙◌}
 use Rattle.std.proofs.lemmas.Int.{ints}
-use Rattle.cpo_text.proofs.Surveyed.{survey_turn, after_turn}
+use Rattle.cpo_text.proofs.stating.Surveyed.{survey_turn, after_turn}
 use Rattle.cpo_text.proofs.survey.survey_run.Goals as goal
 
 pub loop-token-preserved : goal.loop-token-preserved

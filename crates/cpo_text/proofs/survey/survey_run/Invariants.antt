@@ -1,6 +1,6 @@
 use Rattle.std.proofs.Common.{◌≡◌, ◌≤◌, ◌-◌, pos, neg_ℤ, ◌≤ℤ◌}
-use Rattle.cpo_text.specs.Places.{left}
-use Rattle.cpo_text.specs.Surveys.{unsurveyed, surveyed, after_run}
+use Rattle.cpo_text.specs.code.Places.{left}
+use Rattle.cpo_text.specs.code.Surveys.{unsurveyed, surveyed, after_run}
 use Rattle.cpo_text.proofs.survey.survey_run.Given as goal
 
 abbrev pub invariant-loop-token : goal.invariant-loop-token

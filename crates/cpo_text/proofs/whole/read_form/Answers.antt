@@ -1,7 +1,7 @@
-use Rattle.cpo_text.specs.Gives.{ahead}
-use Rattle.cpo_text.specs.Places.{left}
-use Rattle.cpo_text.proofs.Forms.{early_number, outside_number, large_number, parsed}
-use Rattle.cpo_text.proofs.Shorts.{left_short}
+use Rattle.cpo_text.specs.code.Gives.{ahead}
+use Rattle.cpo_text.specs.code.Places.{left}
+use Rattle.cpo_text.proofs.stating.Forms.{early_number, outside_number, large_number, parsed}
+use Rattle.cpo_text.proofs.pieces.Shorts.{left_short}
 use Rattle.cpo_text.proofs.whole.read_form.Goals as goal
 
 pub returns-in-Some-clause-form : goal.returns-in-Some-clause-form

@@ -1,6 +1,6 @@
 use Rattle.std.proofs.Common.{arith}
-use Rattle.cpo_text.specs.Lexing.{tokens_from}
-use Rattle.cpo_text.proofs.Answered.{refused, has_tokens}
+use Rattle.cpo_text.specs.code.Lexing.{tokens_from}
+use Rattle.cpo_text.proofs.pieces.Answered.{refused, has_tokens}
 use Rattle.cpo_text.proofs.whole.read_text.Goals as goal
 
 pub returns-in-Err : goal.returns-in-Err

@@ -1,7 +1,7 @@
 use Rattle.std.proofs.Common.{◌-◌, ◌∙◌, length, suc, refl, ap, arith}
-use Rattle.cpo_text.specs.Places.{left}
+use Rattle.cpo_text.specs.code.Places.{left}
 use Rattle.cpo_text.specs.Reads.{told_limit}
-use Rattle.cpo_text.proofs.Forms.{readings_start, readings_turn, length-push, readings_on, readings_end, readings_full, behind_fewer}
+use Rattle.cpo_text.proofs.stating.Forms.{readings_start, readings_turn, length-push, readings_on, readings_end, readings_full, behind_fewer}
 use Rattle.cpo_text.proofs.whole.statements.Goals as goal
 
 pub loop-token-init : goal.loop-token-init

@@ -1,8 +1,8 @@
 use Rattle.std.proofs.Common.{◌≡◌, ℕ, ◌+◌, ◌≤◌, ◌++◌, length, take, List}
 use Rattle.cpo_text.specs.declared.text.Reading.{Reading}
 use Rattle.cpo_text.specs.Runs.{runs}
-use Rattle.cpo_text.specs.Lexing.{tokens_from}
-use Rattle.cpo_text.specs.Places.{left}
+use Rattle.cpo_text.specs.code.Lexing.{tokens_from}
+use Rattle.cpo_text.specs.code.Places.{left}
 use Rattle.cpo_text.specs.Reads.{AreReadings, told_limit, told}
 use Rattle.cpo_text.proofs.whole.statements.Given as goal
 

@@ -1,5 +1,5 @@
 use Rattle.std.proofs.Common.{sym, arith}
-use Rattle.cpo_text.proofs.Digits.{value_over}
+use Rattle.cpo_text.proofs.pieces.Digits.{value_over}
 use Rattle.cpo_text.proofs.word.value.Goals as goal
 
 pub returns-then-next : goal.returns-then-next

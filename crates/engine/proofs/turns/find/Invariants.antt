@@ -1,6 +1,6 @@
 use Rattle.std.proofs.Common.{◌≡◌, ◌+◌, length}
-use Rattle.wake_levels.specs.Waking.{weight}
-use Rattle.wake_levels.specs.Calm.{IsCalm}
+use Rattle.wake_levels.specs.code.Waking.{weight}
+use Rattle.wake_levels.specs.code.Calm.{IsCalm}
 use Rattle.engine.proofs.turns.find.Given as goal
 
 abbrev pub invariant-awake : goal.invariant-awake

@@ -1,7 +1,7 @@
 use Rattle.std.proofs.Common.{◌≡◌, ℕ, List, [], ◌∷◌, ◌++◌, ap, ◌∙◌, rules}
 use Rattle.std.specs.Prelude.{slice_set}
 use Rattle.std.proofs.lemmas.List.{get_or_read}
-use Rattle.engine.specs.Noted.{noted_at}
+use Rattle.engine.specs.code.Noted.{noted_at}
 use Rattle.engine.proofs.Noting.{noted_push}
 use Rattle.engine.proofs.watchers.note.Goals as goal
 

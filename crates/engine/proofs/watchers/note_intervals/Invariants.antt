@@ -1,5 +1,5 @@
 use Rattle.std.proofs.Common.{take}
-use Rattle.engine.specs.Noted.{Noted}
+use Rattle.engine.specs.code.Noted.{Noted}
 use Rattle.engine.proofs.watchers.note_intervals.Given as goal
 
 abbrev pub invariant-loop-x : goal.invariant-loop-x

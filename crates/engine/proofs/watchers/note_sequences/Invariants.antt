@@ -1,5 +1,5 @@
 use Rattle.std.proofs.Common.{take}
-use Rattle.engine.specs.Noted.{Noted}
+use Rattle.engine.specs.code.Noted.{Noted}
 use Rattle.engine.proofs.watchers.note_sequences.Given as goal
 
 abbrev pub invariant-loop-p : goal.invariant-loop-p

@@ -1,5 +1,5 @@
 use Rattle.std.proofs.Common.{◌-◌, ◌+◌, length}
-use Rattle.engine.specs.Noted.{IsPadded}
+use Rattle.engine.specs.code.Noted.{IsPadded}
 use Rattle.engine.proofs.watchers.pad.Given as goal
 
 abbrev pub invariant-loop-alloc : goal.invariant-loop-alloc

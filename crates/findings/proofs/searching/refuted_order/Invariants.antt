@@ -1,6 +1,6 @@
 use Rattle.std.proofs.Common.{[], take}
-use Rattle.findings.specs.Reads.{is_among}
-use Rattle.findings.specs.Search.{NoEndRefuted}
+use Rattle.findings.specs.code.Reads.{is_among}
+use Rattle.findings.specs.code.Search.{NoEndRefuted}
 use Rattle.findings.proofs.searching.refuted_order.Given as goal
 
 abbrev pub invariant-loop-pair : goal.invariant-loop-pair

@@ -1,4 +1,4 @@
-use Rattle.generated_models.proofs.Deserved.{generated_deserve}
+use Rattle.generated_models.proofs.deserving.Deserved.{generated_deserve}
 use Rattle.generated_models.proofs.laws.generated_texts_deserve.Goals as goal
 
 pub returns : goal.returns

@@ -1,4 +1,4 @@
-use Rattle.generated_models.proofs.ShopSaid.{shops_are_said}
+use Rattle.generated_models.proofs.text.ShopSaid.{shops_are_said}
 use Rattle.generated_models.proofs.laws.shops_are_said.Goals as goal
 
 pub returns : goal.returns

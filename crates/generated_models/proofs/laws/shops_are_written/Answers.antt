@@ -1,4 +1,4 @@
-use Rattle.generated_models.proofs.ShopWritten.{shops_are_written}
+use Rattle.generated_models.proofs.shop.ShopWritten.{shops_are_written}
 use Rattle.generated_models.proofs.laws.shops_are_written.Goals as goal
 
 pub returns : goal.returns

@@ -1,7 +1,7 @@
 use Rattle.std.specs.Prelude.{nat_lt}
 use Rattle.std.proofs.Common.{rules}
 use Rattle.std.proofs.lemmas.List.Sorted.{IsPartitionedBy-ltb, IsPartitionPoint-from_clause}
-use Rattle.hull_tree.specs.Atoms.{key_of}
+use Rattle.hull_tree.specs.code.Atoms.{key_of}
 use Rattle.hull_tree.proofs.atoms.count_below.Goals as goal
 
 pub returns : goal.returns

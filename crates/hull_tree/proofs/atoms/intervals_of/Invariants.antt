@@ -1,4 +1,4 @@
-use Rattle.hull_tree.specs.Atoms.{HasIntervals}
+use Rattle.hull_tree.specs.code.Atoms.{HasIntervals}
 use Rattle.hull_tree.proofs.atoms.intervals_of.Given as goal
 
 abbrev pub invariant-loop-atom : goal.invariant-loop-atom

@@ -1,6 +1,6 @@
 use Rattle.std.proofs.Common.{rules}
 use Rattle.std.proofs.lemmas.List.Sorted.{IsNonDecreasingBy-from_sort, answers_always}
-use Rattle.hull_tree.specs.Atoms.{key_of}
+use Rattle.hull_tree.specs.code.Atoms.{key_of}
 use Rattle.hull_tree.proofs.atoms.sort.Goals as goal
 
 pub returns-clause-rising : goal.returns-clause-rising

@@ -1,7 +1,7 @@
 use Rattle.std.proofs.lemmas.List.{take_all}
 use Rattle.std.proofs.Common.{◌≡◌, ◌++◌, ◌∷◌, [], rules, arith, subst, refl}
 use Rattle.sched_model.specs.declared.types.Expr.TheVariants as full
-use Rattle.hull_tree.specs.Meaning.{Means, MeanEach}
+use Rattle.hull_tree.specs.code.Meaning.{Means, MeanEach}
 use Rattle.hull_tree.proofs.Placing.{grown_on}
 use Rattle.hull_tree.proofs.Meant.{on_ok, means_neg, means_not, means_sum, means_product, means_max, means_min, means_and, means_or, means_compare, means_implies, means_start, means_end, means_size, means_length, means_presence, mean_turn, within_turn}
 use Rattle.hull_tree.proofs.building.+build.Goals as goal

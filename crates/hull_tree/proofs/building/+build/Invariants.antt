@@ -1,8 +1,8 @@
 use Rattle.std.proofs.Common.{take, length, ◌<◌}
 use Rattle.std.specs.Prelude.{All}
 use Rattle.sched_model.specs.Data.{Data}
-use Rattle.hull_tree.specs.Nodes.{AreNodes, Grown}
-use Rattle.hull_tree.specs.Meaning.{MeanEach}
+use Rattle.hull_tree.specs.code.Nodes.{AreNodes, Grown}
+use Rattle.hull_tree.specs.code.Meaning.{MeanEach}
 use Rattle.hull_tree.proofs.building.+build.Given as goal
 
 abbrev pub invariant-roots-loop-part : goal.invariant-roots-loop-part

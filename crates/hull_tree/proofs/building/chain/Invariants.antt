@@ -1,5 +1,5 @@
-use Rattle.hull_tree.specs.Nodes.{AreNodes, Grown}
-use Rattle.hull_tree.specs.Meaning.{IsProductFrom}
+use Rattle.hull_tree.specs.code.Nodes.{AreNodes, Grown}
+use Rattle.hull_tree.specs.code.Meaning.{IsProductFrom}
 use Rattle.hull_tree.proofs.building.chain.Given as goal
 
 abbrev pub invariant-loop-x : goal.invariant-loop-x

@@ -1,5 +1,5 @@
 use Rattle.std.proofs.Common.{◌≡◌, length}
-use Rattle.hull_tree.specs.Nodes.{AreEnds}
+use Rattle.hull_tree.specs.code.Nodes.{AreEnds}
 use Rattle.hull_tree.proofs.walk.evaluate.Given as goal
 
 abbrev pub invariant-loop-i : goal.invariant-loop-i

@@ -1,7 +1,7 @@
 use Rattle.std.specs.Prelude.{codes}
 use Rattle.kernel.specs.Fit.{are_fit_segments}
 use Rattle.logtext.specs.Spelling.{segments_words}
-use Rattle.logtext.specs.Reads.{BeginsWith}
+use Rattle.logtext.specs.code.Reads.{BeginsWith}
 use Rattle.logtext.specs.laws.Told.{segments_told, function_starts}
 use Rattle.logtext.proofs.Rows.{row_fails}
 use Rattle.logtext.proofs.solution.read_functions.Goals as goal

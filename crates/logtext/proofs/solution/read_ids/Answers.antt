@@ -2,7 +2,7 @@ use Rattle.std.proofs.Common.{◌==◌, length, sym, ◌∙◌, arith}
 use Rattle.std.specs.List.{list_all}
 use Rattle.kernel.specs.Fit.{is_id}
 use Rattle.textline.specs.laws.Lines.{both_true}
-use Rattle.logtext.specs.Reads.{id_words}
+use Rattle.logtext.specs.code.Reads.{id_words}
 use Rattle.logtext.specs.laws.Leads.{counted_more}
 use Rattle.logtext.specs.laws.Told.{member_told}
 use Rattle.logtext.proofs.Values.{length_same}

@@ -1,7 +1,7 @@
 use Rattle.std.proofs.Common.{◌≡◌, ◌++◌, true, length}
 use Rattle.std.specs.List.{list_all}
 use Rattle.kernel.specs.Fit.{is_id}
-use Rattle.logtext.specs.Reads.{ids_words}
+use Rattle.logtext.specs.code.Reads.{ids_words}
 use Rattle.logtext.proofs.solution.read_ids.Given as goal
 
 abbrev pub invariant-loop-i : goal.invariant-loop-i

@@ -1,7 +1,7 @@
 use Rattle.std.specs.Prelude.{codes}
 use Rattle.kernel.specs.Fit.{is_fit_order}
 use Rattle.logtext.specs.Spelling.{order_words}
-use Rattle.logtext.specs.Reads.{BeginsWith}
+use Rattle.logtext.specs.code.Reads.{BeginsWith}
 use Rattle.logtext.specs.laws.Told.{order_told, order_starts}
 use Rattle.logtext.proofs.Rows.{row_fails}
 use Rattle.logtext.proofs.solution.read_orders.Goals as goal

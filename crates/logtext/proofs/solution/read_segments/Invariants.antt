@@ -1,7 +1,7 @@
 use Rattle.std.proofs.Common.{◌≡◌, ◌++◌, true, length}
 use Rattle.std.specs.List.{list_all}
 use Rattle.kernel.specs.Fit.{is_fit_segment}
-use Rattle.logtext.specs.Reads.{rows_words}
+use Rattle.logtext.specs.code.Reads.{rows_words}
 use Rattle.logtext.proofs.solution.read_segments.Given as goal
 
 abbrev pub invariant-loop-i : goal.invariant-loop-i

@@ -1,6 +1,6 @@
 use Rattle.kernel.specs.Fit.{is_fit_slot}
 use Rattle.logtext.specs.Spelling.{slot_words}
-use Rattle.logtext.specs.Reads.{BeginsSlot}
+use Rattle.logtext.specs.code.Reads.{BeginsSlot}
 use Rattle.logtext.specs.laws.Told.{slot_told, slot_starts}
 use Rattle.logtext.proofs.Rows.{row_fails}
 use Rattle.logtext.proofs.solution.read_slots.Goals as goal

@@ -1,5 +1,5 @@
 use Rattle.std.proofs.Common.{◌∙◌, subst, Ok, Err}
-use Rattle.logtext.specs.Reads.{ReadsValue}
+use Rattle.logtext.specs.code.Reads.{ReadsValue}
 use Rattle.logtext.proofs.Witnesses.{no_count, extra_fails, other_count}
 use Rattle.logtext.proofs.step.read_extra.Goals as goal
 

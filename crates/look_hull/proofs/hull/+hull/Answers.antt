@@ -1,6 +1,6 @@
 use Rattle.std.proofs.Common.{arith}
 use Rattle.std.proofs.lemmas.Int.{ints}
-use Rattle.look_hull.specs.Saturated.{saturated_look}
+use Rattle.look_hull.specs.code.Saturated.{saturated_look}
 use Rattle.look_hull.proofs.Turns.{low_turn, high_turn}
 use Rattle.look_hull.proofs.hull.+hull.Goals as goal
 

@@ -4,8 +4,8 @@ use Rattle.std.specs.List.{list_all, list_any}
 use Rattle.sched_model.specs.Words.{total}
 use Rattle.sched_model.specs.Ranges.{lows, highs, greatest_range, least_range}
 use Rattle.look_hull.specs.LookHull.{surely_true, surely_false}
-use Rattle.sched_model.specs.Saturated.{saturated_range}
-use Rattle.look_hull.specs.Saturated.{saturated_look, saturated_product}
+use Rattle.sched_model.specs.code.Saturated.{saturated_range}
+use Rattle.look_hull.specs.code.Saturated.{saturated_look, saturated_product}
 use Rattle.look_hull.proofs.hull.+hull.Given as goal
 
 abbrev pub invariant-sum_of-loop-part : goal.invariant-sum_of-loop-part

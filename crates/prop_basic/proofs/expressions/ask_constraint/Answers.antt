@@ -3,8 +3,8 @@ use Rattle.sched_model.specs.declared.types.Constraint.TheVariants.{Logic}
 use Rattle.sched_model.specs.laws.Listed.{hull_at}
 use Rattle.refute_basic.specs.declared.witness.BasicWitness.TheVariants as basic
 use Rattle.prop_basic.specs.declared.hulls.Goal.TheVariants.{Holds}
-use Rattle.prop_basic.specs.Goals.{misses}
-use Rattle.prop_basic.specs.Tasks.{logic_of}
+use Rattle.prop_basic.specs.code.Goals.{misses}
+use Rattle.prop_basic.specs.code.Tasks.{logic_of}
 use Rattle.prop_basic.specs.laws.Silent.{expr_looks}
 use Rattle.prop_basic.proofs.Asked.{expr_same, tree_silent, tree_busy, covers_expr, none_is, fits_some}
 use Rattle.prop_basic.proofs.expressions.ask_constraint.Goals as goal

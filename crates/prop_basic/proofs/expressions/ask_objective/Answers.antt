@@ -1,8 +1,8 @@
 use Rattle.std.proofs.Common.{◌≡◌, Some, true, rules, refl, ap, subst, sym}
 use Rattle.refute_basic.specs.declared.witness.BasicWitness.TheVariants as basic
 use Rattle.prop_basic.specs.declared.hulls.Goal.TheVariants.{Beats}
-use Rattle.prop_basic.specs.Goals.{misses}
-use Rattle.prop_basic.specs.Tasks.{objective_of, IsSilent}
+use Rattle.prop_basic.specs.code.Goals.{misses}
+use Rattle.prop_basic.specs.code.Tasks.{objective_of, IsSilent}
 use Rattle.prop_basic.specs.laws.Silent.{obj_looks}
 use Rattle.prop_basic.proofs.Asked.{obj_same, tree_silent, tree_busy, covers_obj, none_is, fits_some}
 use Rattle.prop_basic.proofs.expressions.ask_objective.Goals as goal

@@ -1,7 +1,7 @@
 use Rattle.std.specs.Prelude.{◌≡◌, length, []}
 use Rattle.std.proofs.Common.{drop, subst, take, ◌-◌}
 use Rattle.std.proofs.lemmas.List.{take_rest}
-use Rattle.findings.specs.Reads.{AreUnrefuted}
+use Rattle.findings.specs.code.Reads.{AreUnrefuted}
 use Rattle.prop_basic.proofs.Asked.{none_by, some_by}
 use Rattle.prop_basic.proofs.Round.{unrefuted_round, busy_after, busy_before}
 use Rattle.prop_basic.proofs.hulls.ask_round.Goals as goal

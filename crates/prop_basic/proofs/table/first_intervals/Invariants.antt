@@ -1,4 +1,4 @@
-use Rattle.prop_basic.specs.Tables.{AreNumbered}
+use Rattle.prop_basic.specs.code.Tables.{AreNumbered}
 use Rattle.prop_basic.proofs.table.first_intervals.Given as goal
 
 abbrev pub invariant-loop-x : goal.invariant-loop-x

@@ -1,5 +1,5 @@
 use Rattle.std.proofs.Common.{false, rules}
-use Rattle.prop_cumul.specs.Asking.{IsSideQuiet}
+use Rattle.prop_cumul.specs.code.Asking.{IsSideQuiet}
 use Rattle.prop_cumul.specs.laws.Asking.{quiet_by}
 use Rattle.prop_cumul.proofs.Raising.{if_none_so}
 use Rattle.prop_cumul.proofs.asking.ask_bound.Goals as goal

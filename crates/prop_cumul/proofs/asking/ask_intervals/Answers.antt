@@ -4,8 +4,8 @@ use Rattle.std.proofs.lemmas.List.{get_or_default}
 use Rattle.base_laws.specs.laws.Numbers.{below_or_last}
 use Rattle.sched_base.specs.declared.ids.Itv.{Itv}
 use Rattle.sched_model.specs.Data.{parts_of}
-use Rattle.prop_cumul.specs.Tables.{is_of}
-use Rattle.prop_cumul.specs.Asking.{IsQuietOn}
+use Rattle.prop_cumul.specs.code.Tables.{is_of}
+use Rattle.prop_cumul.specs.code.Asking.{IsQuietOn}
 use Rattle.prop_cumul.specs.laws.Asking.{few_of, each_quiet}
 use Rattle.prop_cumul.proofs.asking.ask_intervals.Goals as goal
 

@@ -1,6 +1,6 @@
 use Rattle.std.proofs.Common.{◌<◌, ℕ, get_or}
 use Rattle.sched_base.specs.declared.ids.Itv.{Itv}
-use Rattle.prop_cumul.specs.Asking.{IsQuietOn}
+use Rattle.prop_cumul.specs.code.Asking.{IsQuietOn}
 use Rattle.prop_cumul.proofs.asking.ask_intervals.Given as goal
 
 abbrev pub invariant-loop-i : goal.invariant-loop-i

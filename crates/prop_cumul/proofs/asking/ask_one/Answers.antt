@@ -1,5 +1,5 @@
 use Rattle.std.proofs.Common.{◌≡◌, true, rules}
-use Rattle.prop_cumul.specs.Silence.{is_out_of_reach}
+use Rattle.prop_cumul.specs.code.Silence.{is_out_of_reach}
 use Rattle.prop_cumul.specs.laws.Silence.{out_of_reach}
 use Rattle.prop_cumul.proofs.asking.ask_one.Goals as goal
 

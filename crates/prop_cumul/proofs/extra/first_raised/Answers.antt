@@ -1,7 +1,7 @@
 use Rattle.std.proofs.Common.{◌≡◌, ◌-ℤ◌, refl, sym, subst, rules, to_z, of_z, w64}
 use Rattle.std.specs.Int.{w128}
-use Rattle.refute_cumul.specs.Profiles.{IsFirstAbove, StaysBelow}
-use Rattle.prop_cumul.specs.Extra.{extra, IsStill, IsRaisedAbove}
+use Rattle.refute_cumul.specs.code.Profiles.{IsFirstAbove, StaysBelow}
+use Rattle.prop_cumul.specs.code.Extra.{extra, IsStill, IsRaisedAbove}
 use Rattle.prop_cumul.proofs.Raising.{IsLowUntil, low_more, raised}
 use Rattle.prop_cumul.proofs.extra.first_raised.Goals as goal
 

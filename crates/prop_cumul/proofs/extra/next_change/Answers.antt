@@ -2,8 +2,8 @@ use Rattle.std.proofs.Common.{◌≡◌, subst, rules, to_z, of_z, w64, get_or}
 use Rattle.std.proofs.Common.{false}
 use Rattle.std.proofs.lemmas.List.{get_or_default}
 use Rattle.sched_model.specs.declared.types.Part.{Part}
-use Rattle.refute_cumul.specs.Loads.{nothing}
-use Rattle.prop_cumul.specs.Extra.{IsStill, AreStill}
+use Rattle.refute_cumul.specs.code.Loads.{nothing}
+use Rattle.prop_cumul.specs.code.Extra.{IsStill, AreStill}
 use Rattle.prop_cumul.proofs.Raising.{more_still, all_still}
 use Rattle.prop_cumul.proofs.extra.next_change.Goals as goal
 

@@ -1,6 +1,6 @@
 use Rattle.std.proofs.Common.{◌≡◌, sym, subst, rules, to_z, of_z, w64}
 use Rattle.sched_model.specs.declared.types.Shape.TheVariants.{Pulse, Step}
-use Rattle.prop_cumul.specs.Extra.{IsUnmoved, IsStillOf}
+use Rattle.prop_cumul.specs.code.Extra.{IsUnmoved, IsStillOf}
 use Rattle.prop_cumul.proofs.Raising.{pulse_still, step_still}
 use Rattle.prop_cumul.proofs.extra.next_of.Goals as goal
 

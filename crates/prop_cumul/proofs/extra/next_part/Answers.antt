@@ -1,6 +1,6 @@
 use Rattle.std.proofs.Common.{◌≡◌, sym, subst, rules, to_z, of_z, w64}
-use Rattle.refute_cumul.specs.Loads.{bounded}
-use Rattle.prop_cumul.specs.Extra.{IsStillOf, AreStill}
+use Rattle.refute_cumul.specs.code.Loads.{bounded}
+use Rattle.prop_cumul.specs.code.Extra.{IsStillOf, AreStill}
 use Rattle.prop_cumul.proofs.Raising.{both_still}
 use Rattle.prop_cumul.proofs.extra.next_part.Goals as goal
 

@@ -1,7 +1,7 @@
 use Rattle.std.proofs.Common.{◌≡◌, ◌<◌, ℕ, get_or}
 use Rattle.region.specs.declared.types.Guess.TheVariants.{Present}
 use Rattle.region.specs.Cells.{bounds_of}
-use Rattle.prop_cumul.specs.Asking.{IsQuietUnder}
+use Rattle.prop_cumul.specs.code.Asking.{IsQuietUnder}
 use Rattle.findings.specs.laws.EndGuesses.{end_guesses}
 use Rattle.prop_cumul.proofs.side.ask_interval.Given as goal
 

@@ -3,7 +3,7 @@ use Rattle.region.specs.Guesses.{looked_at}
 use Rattle.region.specs.Looks.{seen_at}
 use Rattle.refute_cumul.specs.declared.witness.CumulWitness.TheVariants.{Point}
 use Rattle.refute_cumul.specs.OnCumul.{refutes}
-use Rattle.refute_cumul.specs.Sides.{is_high}
+use Rattle.refute_cumul.specs.code.Sides.{is_high}
 use Rattle.prop_cumul.specs.laws.Asking.{refutes_under, refuted_under}
 use Rattle.prop_cumul.proofs.side.ask_under.Goals as goal
 

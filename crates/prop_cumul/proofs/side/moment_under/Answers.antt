@@ -2,7 +2,7 @@ use Rattle.std.proofs.Common.{rules}
 use Rattle.std.specs.Prelude.{IfNone, IfSome}
 use Rattle.region.specs.Guesses.{looked_at}
 use Rattle.prop_cumul.specs.declared.extra.Raised.{Raised}
-use Rattle.prop_cumul.specs.Extra.{IsRaisedAbove, StaysLow}
+use Rattle.prop_cumul.specs.code.Extra.{IsRaisedAbove, StaysLow}
 use Rattle.prop_cumul.specs.laws.Asking.{low_never, raised_high}
 use Rattle.prop_cumul.proofs.Raising.{if_none_so, if_some_so}
 use Rattle.prop_cumul.proofs.side.moment_under.Goals as goal

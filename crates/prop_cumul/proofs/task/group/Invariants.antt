@@ -1,6 +1,6 @@
 use Rattle.std.proofs.Common.{◌≡◌, ◌++◌, drop}
 use Rattle.std.specs.List.{filter}
-use Rattle.prop_cumul.specs.Tables.{is_of}
+use Rattle.prop_cumul.specs.code.Tables.{is_of}
 use Rattle.prop_cumul.proofs.task.group.Given as goal
 
 abbrev pub invariant-loop-part : goal.invariant-loop-part

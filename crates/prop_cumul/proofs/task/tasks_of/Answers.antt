@@ -1,6 +1,6 @@
 use Rattle.std.proofs.Common.{◌≡◌, ◌++◌, ◌∷◌, ◌+◌, [], sym, subst, rules}
 use Rattle.std.specs.Prelude.{Some}
-use Rattle.prop_cumul.specs.Tables.{IsTaskOf}
+use Rattle.prop_cumul.specs.code.Tables.{IsTaskOf}
 use Rattle.prop_cumul.proofs.Making.{FirstTasks, one_task}
 use Rattle.prop_cumul.proofs.task.tasks_of.Goals as goal
 

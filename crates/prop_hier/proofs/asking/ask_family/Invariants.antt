@@ -1,4 +1,4 @@
-use Rattle.prop_hier.specs.Rows.{refutes_under}
+use Rattle.prop_hier.specs.code.Rows.{refutes_under}
 use Rattle.prop_hier.proofs.Members.{AskedFirst}
 use Rattle.prop_hier.proofs.asking.ask_family.Given as goal
 

@@ -1,5 +1,5 @@
 use Rattle.std.proofs.Common.{◌∙◌, ap, length, List, ℕ}
-use Rattle.prop_sets.specs.Busy.{ids_of}
+use Rattle.prop_sets.specs.code.Busy.{ids_of}
 use Rattle.prop_sets.proofs.Answered.{not_end_by}
 use Rattle.prop_sets.proofs.answering.answer_not_end.Goals as goal
 

@@ -1,5 +1,5 @@
 use Rattle.std.proofs.Common.{rules, ◌≡◌, ◌<◌, true, nat_eq, length, slice_index_or}
-use Rattle.prop_sets.specs.Busy.{name_at}
+use Rattle.prop_sets.specs.code.Busy.{name_at}
 use Rattle.prop_sets.proofs.Answered.{one_named}
 use Rattle.prop_sets.proofs.answering.has_id.Goals as goal
 

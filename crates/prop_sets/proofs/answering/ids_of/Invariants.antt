@@ -1,7 +1,7 @@
 use Rattle.std.specs.Prelude.{◌≡◌, map}
 use Rattle.task_sets.specs.Times.{has}
-use Rattle.task_sets.specs.Ects.{up_from, keep}
-use Rattle.prop_sets.specs.Busy.{name_at}
+use Rattle.task_sets.specs.laws.Ects.{up_from, keep}
+use Rattle.prop_sets.specs.code.Busy.{name_at}
 use Rattle.prop_sets.proofs.answering.ids_of.Given as goal
 
 abbrev pub invariant-loop-x : goal.invariant-loop-x

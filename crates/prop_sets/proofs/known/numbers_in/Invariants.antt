@@ -1,4 +1,4 @@
-use Rattle.prop_sets.specs.Known.{AreNumbers}
+use Rattle.prop_sets.specs.code.Known.{AreNumbers}
 use Rattle.prop_sets.proofs.known.numbers_in.Given as goal
 
 abbrev pub invariant-loop-k : goal.invariant-loop-k

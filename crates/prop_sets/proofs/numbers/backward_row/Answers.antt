@@ -1,6 +1,6 @@
 use Rattle.std.proofs.Common.{rules, refl, ◌≡◌, to_z, of_z, w64, neg_ℤ}
 use Rattle.region.specs.Looks.{ect_in, lst_in}
-use Rattle.prop_sets.specs.Rows.{row_presence}
+use Rattle.prop_sets.specs.code.Rows.{row_presence}
 use Rattle.prop_sets.proofs.numbers.backward_row.Goals as goal
 
 pub returns : goal.returns

@@ -1,4 +1,4 @@
-use Rattle.prop_sets.specs.Rows.{chosen_row, side_of}
+use Rattle.prop_sets.specs.code.Rows.{chosen_row, side_of}
 use Rattle.prop_sets.proofs.Noted.{AreFirst}
 use Rattle.prop_sets.proofs.numbers.rows_of.Given as goal
 

@@ -1,8 +1,8 @@
 use Rattle.std.proofs.Common.{List, ℕ, ◌<◌, subst, length, sym}
 use Rattle.std.proofs.lemmas.Result.{IfOk-weaker}
 use Rattle.prop_sets.specs.declared.orders.Keyed.{Keyed}
-use Rattle.prop_sets.specs.Rows.{side_of}
-use Rattle.prop_sets.specs.Orders.{AreNamed, keyed_at}
+use Rattle.prop_sets.specs.code.Rows.{side_of}
+use Rattle.prop_sets.specs.code.Orders.{AreNamed, keyed_at}
 use Rattle.prop_sets.proofs.Ordering.{starts_low, in_start_order, by_start}
 use Rattle.prop_sets.proofs.orders.by_start.Goals as goal
 

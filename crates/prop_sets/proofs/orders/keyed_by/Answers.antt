@@ -1,6 +1,6 @@
 use Rattle.std.proofs.Common.{rules, ◌+◌, List, subst, sym}
 use Rattle.prop_sets.specs.declared.orders.Keyed.{Keyed}
-use Rattle.prop_sets.specs.Orders.{AreKeyed, on_by, key_by}
+use Rattle.prop_sets.specs.code.Orders.{AreKeyed, on_by, key_by}
 use Rattle.prop_sets.proofs.Ordering.{one_keyed}
 use Rattle.prop_sets.proofs.orders.keyed_by.Goals as goal
 

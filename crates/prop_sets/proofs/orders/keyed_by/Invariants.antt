@@ -1,4 +1,4 @@
-use Rattle.prop_sets.specs.Orders.{AreKeyed, on_by, key_by}
+use Rattle.prop_sets.specs.code.Orders.{AreKeyed, on_by, key_by}
 use Rattle.prop_sets.proofs.orders.keyed_by.Given as goal
 
 abbrev pub invariant-loop-k : goal.invariant-loop-k

@@ -1,4 +1,4 @@
-use Rattle.prop_sets.specs.Orders.{AreNamed}
+use Rattle.prop_sets.specs.code.Orders.{AreNamed}
 use Rattle.prop_sets.proofs.orders.named.Given as goal
 
 abbrev pub invariant-loop-k : goal.invariant-loop-k

@@ -1,7 +1,7 @@
 use Rattle.std.proofs.Common.{List, subst, length}
 use Rattle.std.proofs.lemmas.Result.{IfOk-weaker}
 use Rattle.prop_sets.specs.declared.orders.Keyed.{Keyed}
-use Rattle.prop_sets.specs.Orders.{ArePlaces}
+use Rattle.prop_sets.specs.code.Orders.{ArePlaces}
 use Rattle.prop_sets.proofs.Ordering.{in_order}
 use Rattle.prop_sets.proofs.orders.order_by.Goals as goal
 

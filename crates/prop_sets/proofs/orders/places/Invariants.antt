@@ -1,4 +1,4 @@
-use Rattle.prop_sets.specs.Orders.{ArePlaces}
+use Rattle.prop_sets.specs.code.Orders.{ArePlaces}
 use Rattle.prop_sets.proofs.orders.places.Given as goal
 
 abbrev pub invariant-loop-k : goal.invariant-loop-k

@@ -1,5 +1,5 @@
-use Rattle.prop_sets.specs.Rows.{side_of}
-use Rattle.prop_sets.specs.Orders.{AreStarts}
+use Rattle.prop_sets.specs.code.Rows.{side_of}
+use Rattle.prop_sets.specs.code.Orders.{AreStarts}
 use Rattle.prop_sets.proofs.orders.starts.Given as goal
 
 abbrev pub invariant-loop-k : goal.invariant-loop-k

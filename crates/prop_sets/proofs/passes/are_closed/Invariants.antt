@@ -1,5 +1,5 @@
 use Rattle.std.proofs.Common.{ℕ, ◌<◌, ◌≡◌}
-use Rattle.theta_passes.specs.Rows.{is_candidate, is_present}
+use Rattle.theta_passes.specs.code.Rows.{is_candidate, is_present}
 use Rattle.prop_sets.proofs.passes.are_closed.Given as goal
 
 abbrev pub invariant-loop-k : goal.invariant-loop-k

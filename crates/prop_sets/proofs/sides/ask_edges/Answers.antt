@@ -1,9 +1,9 @@
 use Rattle.std.proofs.Common.{subst, List, None}
 use Rattle.std.specs.Prelude.{IfSome, IfNone}
 use Rattle.theta_passes.specs.declared.rows.Row.{Row}
-use Rattle.theta_passes.specs.Over.{NoOverloads}
-use Rattle.theta_passes.specs.Edge.{PassOrNone}
-use Rattle.prop_sets.specs.Busy.{IsOverFound, IsEdgeFound}
+use Rattle.theta_passes.specs.code.Over.{NoOverloads}
+use Rattle.theta_passes.specs.code.Edge.{PassOrNone}
+use Rattle.prop_sets.specs.code.Busy.{IsOverFound, IsEdgeFound}
 use Rattle.prop_sets.proofs.Asking.{busy_overload, busy_edge, no_edge}
 use Rattle.prop_sets.proofs.sides.ask_edges.Goals as goal
 

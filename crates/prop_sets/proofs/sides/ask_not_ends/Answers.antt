@@ -1,7 +1,7 @@
 use Rattle.std.proofs.Common.{subst, List}
 use Rattle.std.specs.Prelude.{IfSome}
 use Rattle.theta_passes.specs.declared.rows.Row.{Row}
-use Rattle.prop_sets.specs.Busy.{IsLateFound}
+use Rattle.prop_sets.specs.code.Busy.{IsLateFound}
 use Rattle.prop_sets.proofs.Asking.{busy_not_end}
 use Rattle.prop_sets.proofs.sides.ask_not_ends.Goals as goal
 

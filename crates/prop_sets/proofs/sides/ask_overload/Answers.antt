@@ -1,7 +1,7 @@
 use Rattle.std.proofs.Common.{subst, List, false}
 use Rattle.std.specs.Prelude.{IfSome}
 use Rattle.theta_passes.specs.declared.rows.Row.{Row}
-use Rattle.prop_sets.specs.Busy.{IsOverFound}
+use Rattle.prop_sets.specs.code.Busy.{IsOverFound}
 use Rattle.prop_sets.proofs.Asking.{busy_overload}
 use Rattle.prop_sets.proofs.sides.ask_overload.Goals as goal
 

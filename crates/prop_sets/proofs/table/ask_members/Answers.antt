@@ -1,8 +1,8 @@
 use Rattle.std.proofs.Common.{subst, sym, List}
 use Rattle.std.specs.Prelude.{IfNone}
 use Rattle.sched_base.specs.declared.ids.Itv.{Itv}
-use Rattle.prop_sets.specs.Reordered.{IsReordered}
-use Rattle.prop_sets.specs.Sides.{IsSideQuiet}
+use Rattle.prop_sets.specs.code.Reordered.{IsReordered}
+use Rattle.prop_sets.specs.code.Sides.{IsSideQuiet}
 use Rattle.prop_sets.proofs.Making.{still_of}
 use Rattle.prop_sets.proofs.table.ask_members.Goals as goal
 

@@ -1,4 +1,4 @@
-use Rattle.prop_sets.specs.Known.{AreUnknown}
+use Rattle.prop_sets.specs.code.Known.{AreUnknown}
 use Rattle.prop_sets.proofs.table.unknown.Given as goal
 
 abbrev pub invariant-loop-k : goal.invariant-loop-k

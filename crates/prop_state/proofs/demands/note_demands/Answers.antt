@@ -1,7 +1,7 @@
 use Rattle.std.proofs.Common.{◌≡◌, ◌∙◌, arith, get_or, subst, false, IfSome, IfNone}
 use Rattle.std.proofs.lemmas.List.{length-set}
-use Rattle.refute_state.specs.Gathered.{demands_at}
-use Rattle.prop_state.specs.Walks.{IsNamed}
+use Rattle.refute_state.specs.code.Gathered.{demands_at}
+use Rattle.prop_state.specs.code.Walks.{IsNamed}
 use Rattle.prop_state.proofs.Making.{noted_more, never_other}
 use Rattle.prop_state.proofs.demands.note_demands.Goals as goal
 

@@ -1,6 +1,6 @@
 use Rattle.std.proofs.Common.{◌≡◌, ◌<◌, ℕ, length, get_or}
 use Rattle.prop_state.specs.declared.demands.Named.{Named}
-use Rattle.prop_state.specs.Walks.{IsNamed}
+use Rattle.prop_state.specs.code.Walks.{IsNamed}
 use Rattle.prop_state.proofs.demands.note_demands.Given as goal
 
 abbrev pub invariant-loop-i : goal.invariant-loop-i

@@ -1,5 +1,5 @@
 use Rattle.std.proofs.Common.{take}
-use Rattle.prop_state.specs.Walks.{EachOf, SilentTwo}
+use Rattle.prop_state.specs.code.Walks.{EachOf, SilentTwo}
 use Rattle.prop_state.proofs.pairs.ask_pairs.Given as goal
 
 abbrev pub invariant-loop-i : goal.invariant-loop-i

@@ -1,4 +1,4 @@
-use Rattle.prop_state.specs.Walks.{SilentTwo}
+use Rattle.prop_state.specs.code.Walks.{SilentTwo}
 use Rattle.prop_state.proofs.Asked.{is_of, each_more, each_all}
 use Rattle.prop_state.proofs.pairs.ask_row.Goals as goal
 

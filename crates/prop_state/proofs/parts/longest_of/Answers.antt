@@ -1,6 +1,6 @@
 use Rattle.std.proofs.Common.{refl, arith, to_z-of_z, rules}
 use Rattle.std.proofs.lemmas.Int.{ints}
-use Rattle.prop_state.specs.Silence.{IsCovered}
+use Rattle.prop_state.specs.code.Silence.{IsCovered}
 use Rattle.prop_state.proofs.Asked.{each_more, each_all, covered_more, covered_here}
 use Rattle.prop_state.proofs.parts.longest_of.Goals as goal
 

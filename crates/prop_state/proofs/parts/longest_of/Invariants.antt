@@ -1,6 +1,6 @@
 use Rattle.std.proofs.Common.{take}
-use Rattle.prop_state.specs.Silence.{IsCovered}
-use Rattle.prop_state.specs.Walks.{EachOf}
+use Rattle.prop_state.specs.code.Silence.{IsCovered}
+use Rattle.prop_state.specs.code.Walks.{EachOf}
 use Rattle.prop_state.proofs.parts.longest_of.Given as goal
 
 abbrev pub invariant-loop-c : goal.invariant-loop-c

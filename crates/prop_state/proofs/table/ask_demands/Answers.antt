@@ -1,6 +1,6 @@
 use Rattle.std.proofs.Common.{◌≡◌, true, subst, sym}
-use Rattle.refute_state.specs.Gathered.{demands_at}
-use Rattle.prop_state.specs.Walks.{EachOf}
+use Rattle.refute_state.specs.code.Gathered.{demands_at}
+use Rattle.prop_state.specs.code.Walks.{EachOf}
 use Rattle.prop_state.specs.laws.Unwatched.{demanded_there}
 use Rattle.prop_state.specs.laws.Quieting.{demands_quiet}
 use Rattle.prop_state.proofs.Asked.{none_to}

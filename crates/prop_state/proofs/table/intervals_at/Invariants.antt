@@ -1,5 +1,5 @@
 use Rattle.std.proofs.Common.{◌≡◌, ◌++◌, drop}
-use Rattle.prop_state.specs.Tasks.{intervals_at}
+use Rattle.prop_state.specs.code.Tasks.{intervals_at}
 use Rattle.prop_state.proofs.table.intervals_at.Given as goal
 
 abbrev pub invariant-loop-i : goal.invariant-loop-i

@@ -1,4 +1,4 @@
-use Rattle.prop_state.specs.Walks.{SilentThree}
+use Rattle.prop_state.specs.code.Walks.{SilentThree}
 use Rattle.prop_state.proofs.Asked.{is_of, each_more, each_all}
 use Rattle.prop_state.proofs.triples.ask_between.Goals as goal
 

@@ -1,6 +1,6 @@
 use Rattle.std.proofs.Common.{arith, to_z-of_z}
 use Rattle.std.proofs.lemmas.Int.{ints}
-use Rattle.prop_state.specs.Walks.{SilentAround}
+use Rattle.prop_state.specs.code.Walks.{SilentAround}
 use Rattle.prop_state.proofs.Asked.{is_of, covered_more, each_more, each_all}
 use Rattle.prop_state.proofs.triples.ask_row.Goals as goal
 

@@ -1,4 +1,4 @@
-use Rattle.prop_state.specs.Walks.{EachOf, SilentAround}
+use Rattle.prop_state.specs.code.Walks.{EachOf, SilentAround}
 use Rattle.prop_state.proofs.Asked.{is_of, each_more, each_all}
 use Rattle.prop_state.proofs.triples.ask_triples.Goals as goal
 

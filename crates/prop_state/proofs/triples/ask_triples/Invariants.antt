@@ -1,5 +1,5 @@
 use Rattle.std.proofs.Common.{take}
-use Rattle.prop_state.specs.Walks.{EachOf, SilentAround}
+use Rattle.prop_state.specs.code.Walks.{EachOf, SilentAround}
 use Rattle.prop_state.proofs.triples.ask_triples.Given as goal
 
 abbrev pub invariant-loop-i : goal.invariant-loop-i

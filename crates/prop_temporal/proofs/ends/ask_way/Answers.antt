@@ -1,6 +1,6 @@
 use Rattle.std.proofs.Common.{rules, List, [], subst, sym}
 use Rattle.sched_base.specs.declared.ids.Itv.{Itv}
-use Rattle.findings.specs.Reads.{IsUnrefuted}
+use Rattle.findings.specs.code.Reads.{IsUnrefuted}
 use Rattle.refute_basic.specs.declared.witness.BasicWitness.TheVariants.{Arc}
 use Rattle.refute_basic.specs.Basic.{refutes}
 use Rattle.prop_temporal.specs.laws.Arcs.{arc_silent, arc_unrefuted}

@@ -1,6 +1,6 @@
 use Rattle.std.proofs.Common.{◌≡◌, ◌+ℤ◌, false, int_lt, rules}
-use Rattle.cycles.specs.Walks.{arc_at}
-use Rattle.prop_temporal.specs.Heights.{height_with}
+use Rattle.cycles.specs.code.Walks.{arc_at}
+use Rattle.prop_temporal.specs.code.Heights.{height_with}
 use Rattle.prop_temporal.specs.laws.Own.{keep_next}
 use Rattle.prop_temporal.proofs.heights.hold_with.Goals as goal
 

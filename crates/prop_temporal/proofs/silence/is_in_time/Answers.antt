@@ -1,6 +1,6 @@
 use Rattle.std.proofs.Common.{◌≡◌, ◌+ℤ◌, true, not, ◌||◌, int_le, rules}
 use Rattle.region.specs.Cells.{says_present}
-use Rattle.prop_temporal.specs.Silence.{earliest_in, latest_in, highest_in, lowest_in}
+use Rattle.prop_temporal.specs.code.Silence.{earliest_in, latest_in, highest_in, lowest_in}
 use Rattle.prop_temporal.specs.laws.Silence.{in_time_told}
 use Rattle.prop_temporal.proofs.silence.is_in_time.Goals as goal
 

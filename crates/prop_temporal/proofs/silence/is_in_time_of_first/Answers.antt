@@ -1,6 +1,6 @@
 use Rattle.std.proofs.Common.{◌≡◌, ◌+ℤ◌, int_le, ap, ◌∙◌, rules}
 use Rattle.region.specs.Cells.{says_present}
-use Rattle.prop_temporal.specs.Silence.{highest_in}
+use Rattle.prop_temporal.specs.code.Silence.{highest_in}
 use Rattle.prop_temporal.specs.laws.Silence.{here, gone, not_present}
 use Rattle.prop_temporal.proofs.silence.is_in_time_of_first.Goals as goal
 

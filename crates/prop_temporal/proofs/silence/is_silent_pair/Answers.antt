@@ -1,6 +1,6 @@
 use Rattle.std.proofs.Common.{◌≡◌, ◌-ℤ◌, pos, Bool, refl, true, false, not, ◌||◌, ap, ◌∙◌, rules}
 use Rattle.region.specs.Cells.{bounds_of}
-use Rattle.prop_temporal.specs.Silence.{is_in_time}
+use Rattle.prop_temporal.specs.code.Silence.{is_in_time}
 use Rattle.prop_temporal.specs.laws.Silence.{forth_told, back_told}
 use Rattle.prop_temporal.proofs.silence.is_silent_pair.Goals as goal
 

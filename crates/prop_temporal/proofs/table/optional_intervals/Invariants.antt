@@ -1,4 +1,4 @@
-use Rattle.prop_temporal.specs.Tables.{AreOptional}
+use Rattle.prop_temporal.specs.code.Tables.{AreOptional}
 use Rattle.prop_temporal.proofs.table.optional_intervals.Given as goal
 
 abbrev pub invariant-loop-x : goal.invariant-loop-x

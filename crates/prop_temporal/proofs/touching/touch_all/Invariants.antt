@@ -1,5 +1,5 @@
 use Rattle.std.proofs.Common.{take}
-use Rattle.prop_temporal.specs.Touches.{Touches}
+use Rattle.prop_temporal.specs.code.Touches.{Touches}
 use Rattle.prop_temporal.proofs.touching.touch_all.Given as goal
 
 abbrev pub invariant-loop-x : goal.invariant-loop-x

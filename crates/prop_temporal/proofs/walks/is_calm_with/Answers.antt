@@ -1,5 +1,5 @@
 use Rattle.std.proofs.Common.{subst}
-use Rattle.prop_temporal.specs.Heights.{AllKeep, height_with}
+use Rattle.prop_temporal.specs.code.Heights.{AllKeep, height_with}
 use Rattle.prop_temporal.specs.laws.Own.{own_keep}
 use Rattle.prop_temporal.proofs.walks.is_calm_with.Goals as goal
 

@@ -3,9 +3,9 @@ use Rattle.refute_basic.specs.declared.edge.Arc.{Arc}
 use Rattle.refute_basic.specs.declared.arc_name.ArcName.{ArcName}
 use Rattle.refute_basic.specs.declared.witness.BasicWitness.TheVariants.{Cycle}
 use Rattle.refute_basic.specs.Basic.{refutes}
-use Rattle.cycles.specs.Walks.{IsGain, HasHeights}
-use Rattle.prop_temporal.specs.Shown.{name_at}
-use Rattle.prop_temporal.specs.Heights.{AllKeep, height_in}
+use Rattle.cycles.specs.code.Walks.{IsGain, HasHeights}
+use Rattle.prop_temporal.specs.code.Shown.{name_at}
+use Rattle.prop_temporal.specs.code.Heights.{AllKeep, height_in}
 use Rattle.prop_temporal.specs.laws.Collecting.{few_bounds, heights_refute_none, gain_refutes, all_lose, lose_refute_none}
 use Rattle.prop_temporal.proofs.walks.walk_along.Goals as goal
 

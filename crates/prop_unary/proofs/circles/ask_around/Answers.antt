@@ -1,7 +1,7 @@
 use Rattle.std.proofs.Common.{◌≡◌, false, refl, rules}
 use Rattle.refute_seq.specs.Standing.{precedes}
-use Rattle.prop_unary.specs.Circles.{SilentAround}
-use Rattle.prop_unary.specs.Rows.{member_at}
+use Rattle.prop_unary.specs.code.Circles.{SilentAround}
+use Rattle.prop_unary.specs.code.Rows.{member_at}
 use Rattle.prop_unary.specs.laws.Rows.{around_silent}
 use Rattle.prop_unary.proofs.Walks.{each_more, each_all}
 use Rattle.prop_unary.proofs.Asked.{not_around}

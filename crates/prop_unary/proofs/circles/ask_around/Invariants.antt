@@ -1,6 +1,6 @@
 use Rattle.std.proofs.Common.{take}
-use Rattle.prop_unary.specs.Circles.{EachOf, SilentAround}
-use Rattle.prop_unary.specs.Rows.{member_at}
+use Rattle.prop_unary.specs.code.Circles.{EachOf, SilentAround}
+use Rattle.prop_unary.specs.code.Rows.{member_at}
 use Rattle.prop_unary.proofs.circles.ask_around.Given as goal
 
 abbrev pub invariant-loop-k : goal.invariant-loop-k

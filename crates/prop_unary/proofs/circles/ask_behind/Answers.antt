@@ -1,7 +1,7 @@
 use Rattle.std.proofs.Common.{◌≡◌, false, refl, get_or, rules}
 use Rattle.sched_base.specs.declared.ids.Itv.{Itv}
 use Rattle.refute_seq.specs.Standing.{precedes}
-use Rattle.prop_unary.specs.Circles.{SilentBehind}
+use Rattle.prop_unary.specs.code.Circles.{SilentBehind}
 use Rattle.prop_unary.proofs.Walks.{each_more, each_all}
 use Rattle.prop_unary.proofs.Asked.{busy_triple, not_behind}
 use Rattle.prop_unary.proofs.circles.ask_behind.Goals as goal

@@ -1,5 +1,5 @@
 use Rattle.std.specs.Prelude.{take}
-use Rattle.prop_unary.specs.Circles.{EachOf, SilentBehind}
+use Rattle.prop_unary.specs.code.Circles.{EachOf, SilentBehind}
 use Rattle.prop_unary.proofs.circles.ask_behind.Given as goal
 
 abbrev pub invariant-loop-z : goal.invariant-loop-z

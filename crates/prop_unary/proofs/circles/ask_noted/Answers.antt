@@ -1,7 +1,7 @@
 use Rattle.std.proofs.Common.{◌≡◌, false, refl, rules}
 use Rattle.region.specs.Cells.{is_there}
-use Rattle.prop_unary.specs.Circles.{SilentAt}
-use Rattle.prop_unary.specs.Rows.{member_at}
+use Rattle.prop_unary.specs.code.Circles.{SilentAt}
+use Rattle.prop_unary.specs.code.Rows.{member_at}
 use Rattle.prop_unary.proofs.Walks.{each_more, each_all}
 use Rattle.prop_unary.proofs.Asked.{not_there, quiet_circles}
 use Rattle.prop_unary.proofs.circles.ask_noted.Goals as goal

@@ -1,5 +1,5 @@
 use Rattle.std.proofs.Common.{take}
-use Rattle.prop_unary.specs.Circles.{EachOf, SilentAt}
+use Rattle.prop_unary.specs.code.Circles.{EachOf, SilentAt}
 use Rattle.prop_unary.proofs.circles.ask_noted.Given as goal
 
 abbrev pub invariant-loop-at : goal.invariant-loop-at

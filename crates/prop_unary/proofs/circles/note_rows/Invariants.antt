@@ -1,6 +1,6 @@
 use Rattle.std.proofs.Common.{◌≡◌, ◌<◌, ℕ, length, get_or}
 use Rattle.prop_unary.specs.declared.places.Places.{Places}
-use Rattle.prop_unary.specs.Rows.{member_at, IsRow}
+use Rattle.prop_unary.specs.code.Rows.{member_at, IsRow}
 use Rattle.prop_unary.proofs.circles.note_rows.Given as goal
 
 abbrev pub invariant-loop-i : goal.invariant-loop-i

@@ -1,5 +1,5 @@
 use Rattle.std.proofs.Common.{◌≡◌, true, false, rules}
-use Rattle.prop_unary.specs.Rows.{may_stand, member_at}
+use Rattle.prop_unary.specs.code.Rows.{may_stand, member_at}
 use Rattle.prop_unary.proofs.Noted.{row_passes, row_takes}
 use Rattle.prop_unary.proofs.circles.row_of.Goals as goal
 

@@ -1,7 +1,7 @@
 use Rattle.std.proofs.Common.{arith, ◌∙◌, ap}
 use Rattle.std.proofs.lemmas.List.{length-set, get_or_default}
 use Rattle.region.specs.Cells.{bounds_of}
-use Rattle.findings.specs.Numbers.{ends_of}
+use Rattle.findings.specs.code.Numbers.{ends_of}
 use Rattle.prop_unary.proofs.Noted.{ends_set}
 use Rattle.prop_unary.proofs.ends.note_ends.Goals as goal
 

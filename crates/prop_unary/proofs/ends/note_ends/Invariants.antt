@@ -2,7 +2,7 @@ use Rattle.std.proofs.Common.{◌≡◌, ◌<◌, ℕ, length, get_or}
 use Rattle.sched_base.specs.declared.ids.Itv.{Itv}
 use Rattle.region.specs.Cells.{bounds_of}
 use Rattle.findings.specs.declared.ends.Ends.{Ends}
-use Rattle.findings.specs.Numbers.{ends_of}
+use Rattle.findings.specs.code.Numbers.{ends_of}
 use Rattle.prop_unary.proofs.ends.note_ends.Given as goal
 
 abbrev pub invariant-loop-k : goal.invariant-loop-k

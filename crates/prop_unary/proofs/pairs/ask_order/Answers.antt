@@ -1,6 +1,6 @@
 use Rattle.std.proofs.Common.{length, arith}
-use Rattle.prop_unary.specs.Silence.{AreSilentWhere}
-use Rattle.prop_unary.specs.Circles.{EachOf}
+use Rattle.prop_unary.specs.code.Silence.{AreSilentWhere}
+use Rattle.prop_unary.specs.code.Circles.{EachOf}
 use Rattle.prop_unary.proofs.Walks.{all_round}
 use Rattle.prop_unary.proofs.Asked.{none_to}
 use Rattle.prop_unary.proofs.pairs.ask_order.Goals as goal

@@ -1,6 +1,6 @@
 use Rattle.std.proofs.Common.{arith}
-use Rattle.prop_unary.specs.Silence.{AreSilentWhere}
-use Rattle.prop_unary.specs.Circles.{EachOf}
+use Rattle.prop_unary.specs.code.Silence.{AreSilentWhere}
+use Rattle.prop_unary.specs.code.Circles.{EachOf}
 use Rattle.prop_unary.proofs.Walks.{between_more}
 use Rattle.prop_unary.proofs.pairs.ask_places.Goals as goal
 

@@ -1,5 +1,5 @@
-use Rattle.prop_unary.specs.Silence.{AreSilentWhere}
-use Rattle.prop_unary.specs.Circles.{EachOf, EachBetween}
+use Rattle.prop_unary.specs.code.Silence.{AreSilentWhere}
+use Rattle.prop_unary.specs.code.Circles.{EachOf, EachBetween}
 use Rattle.prop_unary.proofs.pairs.ask_places.Given as goal
 
 abbrev pub invariant-loop-k : goal.invariant-loop-k

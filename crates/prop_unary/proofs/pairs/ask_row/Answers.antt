@@ -1,5 +1,5 @@
 use Rattle.std.proofs.Common.{refl}
-use Rattle.prop_unary.specs.Silence.{AreSilentWhere}
+use Rattle.prop_unary.specs.code.Silence.{AreSilentWhere}
 use Rattle.prop_unary.proofs.Walks.{each_more, each_all}
 use Rattle.prop_unary.proofs.Noted.{silent_by_test}
 use Rattle.prop_unary.proofs.pairs.ask_row.Goals as goal

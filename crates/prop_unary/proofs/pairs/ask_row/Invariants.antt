@@ -1,6 +1,6 @@
 use Rattle.std.proofs.Common.{take}
-use Rattle.prop_unary.specs.Silence.{AreSilentWhere}
-use Rattle.prop_unary.specs.Circles.{EachOf}
+use Rattle.prop_unary.specs.code.Silence.{AreSilentWhere}
+use Rattle.prop_unary.specs.code.Circles.{EachOf}
 use Rattle.prop_unary.proofs.pairs.ask_row.Given as goal
 
 abbrev pub invariant-loop-k : goal.invariant-loop-k

@@ -1,6 +1,6 @@
 use Rattle.std.proofs.Common.{length, arith}
 use Rattle.region.specs.declared.types.OrderCell.TheVariants.{Forward, Unknown}
-use Rattle.prop_unary.specs.Silence.{SilentRow}
+use Rattle.prop_unary.specs.code.Silence.{SilentRow}
 use Rattle.prop_unary.proofs.Walks.{all_round}
 use Rattle.prop_unary.proofs.Asked.{none_to}
 use Rattle.prop_unary.proofs.pairs.ask_told_order.Goals as goal

@@ -1,6 +1,6 @@
 use Rattle.std.proofs.Common.{arith}
 use Rattle.region.specs.declared.types.OrderCell.TheVariants.{Forward, Unknown}
-use Rattle.prop_unary.specs.Silence.{SilentRow}
+use Rattle.prop_unary.specs.code.Silence.{SilentRow}
 use Rattle.prop_unary.proofs.Walks.{between_more}
 use Rattle.prop_unary.proofs.pairs.ask_told_places.Goals as goal
 

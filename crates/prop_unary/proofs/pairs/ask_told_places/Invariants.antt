@@ -1,7 +1,7 @@
 use Rattle.std.proofs.Common.{◌≡◌, false}
 use Rattle.region.specs.declared.types.OrderCell.TheVariants.{Forward, Unknown}
-use Rattle.prop_unary.specs.Silence.{SilentRow}
-use Rattle.prop_unary.specs.Circles.{EachBetween}
+use Rattle.prop_unary.specs.code.Silence.{SilentRow}
+use Rattle.prop_unary.specs.code.Circles.{EachBetween}
 use Rattle.prop_unary.proofs.pairs.ask_told_places.Given as goal
 
 abbrev pub invariant-loop-k : goal.invariant-loop-k

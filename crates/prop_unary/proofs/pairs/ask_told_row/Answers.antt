@@ -1,6 +1,6 @@
 use Rattle.std.proofs.Common.{refl}
 use Rattle.region.specs.declared.types.OrderCell.TheVariants.{Forward, Unknown}
-use Rattle.prop_unary.specs.Silence.{AreSilentWhere}
+use Rattle.prop_unary.specs.code.Silence.{AreSilentWhere}
 use Rattle.prop_unary.proofs.Walks.{each_more, each_all}
 use Rattle.prop_unary.proofs.Noted.{silent_by_test}
 use Rattle.prop_unary.proofs.pairs.ask_told_row.Goals as goal

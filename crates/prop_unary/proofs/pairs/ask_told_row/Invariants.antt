@@ -1,7 +1,7 @@
 use Rattle.std.proofs.Common.{◌≡◌, false, take}
 use Rattle.region.specs.declared.types.OrderCell.TheVariants.{Forward, Unknown}
-use Rattle.prop_unary.specs.Silence.{AreSilentWhere}
-use Rattle.prop_unary.specs.Circles.{EachOf}
+use Rattle.prop_unary.specs.code.Silence.{AreSilentWhere}
+use Rattle.prop_unary.specs.code.Circles.{EachOf}
 use Rattle.prop_unary.proofs.pairs.ask_told_row.Given as goal
 
 abbrev pub invariant-loop-k : goal.invariant-loop-k

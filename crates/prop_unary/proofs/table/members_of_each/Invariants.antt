@@ -1,5 +1,5 @@
-use Rattle.findings.specs.Tables.{AreLists}
-use Rattle.prop_unary.specs.Tables.{members_at}
+use Rattle.findings.specs.code.Tables.{AreLists}
+use Rattle.prop_unary.specs.code.Tables.{members_at}
 use Rattle.prop_unary.proofs.table.members_of_each.Given as goal
 
 abbrev pub invariant-loop-k : goal.invariant-loop-k

@@ -1,14 +1,14 @@
 use Rattle.std.specs.Prelude.{ℕ, ℤ, ◌+◌, ◌-◌, Option, nat_lt}
 use Rattle.sched_model.specs.Data.{Data}
 use Rattle.region.specs.Cells.{Region}
-use Rattle.prop_basic.specs.Tasks.{size_of, quiet}
-use Rattle.prop_temporal.specs.Tasks.{size_of as size_of_temporal, quiet as quiet_temporal}
-use Rattle.prop_hier.specs.Tasks.{size_of as size_of_hier, quiet as quiet_hier}
-use Rattle.prop_unary.specs.Tasks.{size_of as size_of_unary, quiet as quiet_unary}
-use Rattle.prop_sets.specs.Tasks.{size_of as size_of_sets, quiet as quiet_sets}
-use Rattle.prop_cumul.specs.Tasks.{size_of as size_of_cumul, quiet as quiet_cumul}
-use Rattle.prop_state.specs.Tasks.{size_of as size_of_state, quiet as quiet_state}
-use Rattle.engine.specs.Pairs.{chosen}
+use Rattle.prop_basic.specs.code.Tasks.{size_of, quiet}
+use Rattle.prop_temporal.specs.code.Tasks.{size_of as size_of_temporal, quiet as quiet_temporal}
+use Rattle.prop_hier.specs.code.Tasks.{size_of as size_of_hier, quiet as quiet_hier}
+use Rattle.prop_unary.specs.code.Tasks.{size_of as size_of_unary, quiet as quiet_unary}
+use Rattle.prop_sets.specs.code.Tasks.{size_of as size_of_sets, quiet as quiet_sets}
+use Rattle.prop_cumul.specs.code.Tasks.{size_of as size_of_cumul, quiet as quiet_cumul}
+use Rattle.prop_state.specs.code.Tasks.{size_of as size_of_state, quiet as quiet_state}
+use Rattle.engine.specs.code.Pairs.{chosen}
 use Rattle.propagators.specs.laws.Covered.{covered, firsts, others}
 use Rattle.propagators.proofs.all.covers.Goals as goal
 

@@ -1,4 +1,4 @@
-use Rattle.read_back.proofs.JudgeWhole.{canonical_is_judged}
+use Rattle.read_back.proofs.judge.Whole.{canonical_is_judged}
 use Rattle.read_back.proofs.laws.canonical_statements_are_judged.Goals as goal
 
 pub returns : goal.returns

@@ -1,4 +1,4 @@
-use Rattle.read_back.proofs.SaidWhole.{canonical_is_said}
+use Rattle.read_back.proofs.said.Whole.{canonical_is_said}
 use Rattle.read_back.proofs.laws.canonical_text_is_said.Goals as goal
 
 pub returns : goal.returns

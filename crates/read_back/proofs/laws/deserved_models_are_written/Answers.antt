@@ -1,4 +1,4 @@
-use Rattle.read_back.proofs.WrittenTexts.{deserved_are_written}
+use Rattle.read_back.proofs.written.Texts.{deserved_are_written}
 use Rattle.read_back.proofs.laws.deserved_models_are_written.Goals as goal
 
 pub returns : goal.returns

@@ -1,4 +1,4 @@
-use Rattle.read_back.proofs.ExprSaid.{expressions_are_said}
+use Rattle.read_back.proofs.expr.Said.{expressions_are_said}
 use Rattle.read_back.proofs.laws.expressions_are_said.Goals as goal
 
 pub returns : goal.returns

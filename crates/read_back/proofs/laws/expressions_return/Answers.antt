@@ -1,6 +1,6 @@
-use Rattle.read_back.proofs.ExprReturn.{expressions_return}
-use Rattle.read_back.proofs.ExprFactor.{factors_return}
-use Rattle.read_back.proofs.ExprUses.{names_intervals}
+use Rattle.read_back.proofs.expr.Return.{expressions_return}
+use Rattle.read_back.proofs.expr.Factor.{factors_return}
+use Rattle.read_back.proofs.expr.Uses.{names_intervals}
 use Rattle.read_back.proofs.laws.expressions_return.Goals as goal
 
 pub returns : goal.returns

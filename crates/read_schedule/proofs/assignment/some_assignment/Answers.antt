@@ -1,7 +1,7 @@
 use Rattle.std.proofs.Common.{◌∙◌, ap, map, length, refl}
 use Rattle.sched_model.specs.Value.{present_of}
 use Rattle.sched_model.specs.declared.types.Assignment.{Assignment}
-use Rattle.read_schedule.proofs.Assignments.{some_domain}
+use Rattle.read_schedule.proofs.given.Assignments.{some_domain}
 use Rattle.read_schedule.proofs.assignment.some_assignment.Goals as goal
 
 pub returns : goal.returns

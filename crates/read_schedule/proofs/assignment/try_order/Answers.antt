@@ -1,4 +1,4 @@
-use Rattle.read_schedule.proofs.Assignments.{order_tested}
+use Rattle.read_schedule.proofs.given.Assignments.{order_tested}
 use Rattle.read_schedule.proofs.assignment.try_order.Goals as goal
 
 pub returns : goal.returns

@@ -1,4 +1,4 @@
-use Rattle.read_schedule.proofs.Assignments.{segments_tested}
+use Rattle.read_schedule.proofs.given.Assignments.{segments_tested}
 use Rattle.read_schedule.proofs.assignment.try_segments.Goals as goal
 
 pub returns : goal.returns

@@ -1,5 +1,5 @@
 use Rattle.std.proofs.Common.{arith}
-use Rattle.read_schedule.proofs.Heads.{far_count}
+use Rattle.read_schedule.proofs.whole.Heads.{far_count}
 use Rattle.read_schedule.proofs.header.is_node_count.Goals as goal
 
 pub returns-then-n : goal.returns-then-n

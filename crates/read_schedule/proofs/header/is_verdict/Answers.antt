@@ -1,6 +1,6 @@
 use Rattle.std.proofs.Common.{◌∙◌}
 use Rattle.textline.specs.Lines.{words_of}
-use Rattle.read_schedule.proofs.Heads.{no_verdict_word}
+use Rattle.read_schedule.proofs.whole.Heads.{no_verdict_word}
 use Rattle.read_schedule.proofs.header.is_verdict.Goals as goal
 
 pub returns : goal.returns

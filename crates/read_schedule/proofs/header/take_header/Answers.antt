@@ -1,5 +1,5 @@
 use Rattle.std.proofs.Common.{◌∙◌}
-use Rattle.read_schedule.proofs.Heads.{no_first, no_verdict, no_second, no_count, both_taken}
+use Rattle.read_schedule.proofs.whole.Heads.{no_first, no_verdict, no_second, no_count, both_taken}
 use Rattle.read_schedule.proofs.header.take_header.Goals as goal
 
 pub returns-in_default : goal.returns-in_default

@@ -1,6 +1,6 @@
 use Rattle.std.proofs.Common.{◌∙◌, sym, ap, arith}
 use Rattle.sched_model.specs.declared.types.IntervalDef.{IntervalDef}
-use Rattle.read_schedule.proofs.Names.{not_there, one_more_name, all_named}
+use Rattle.read_schedule.proofs.spelling.Names.{not_there, one_more_name, all_named}
 use Rattle.read_schedule.proofs.index.index_all.Goals as goal
 
 pub push-requires : goal.push-requires

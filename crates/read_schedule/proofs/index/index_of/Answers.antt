@@ -2,7 +2,7 @@ use Rattle.std.proofs.Common.{ap, ◌∙◌, ◌≤◌, length, sym, subst}
 use Rattle.sched_model.specs.laws.Limits.{limits_of}
 use Rattle.sched_model.specs.Words.{pairwise}
 use Rattle.sched_text.specs.laws.Names.{names_of}
-use Rattle.read_schedule.specs.Reads.{differ, names_in}
+use Rattle.read_schedule.specs.code.Reads.{differ, names_in}
 use Rattle.read_schedule.proofs.index.index_of.Goals as goal
 
 pub index_all-requires-clause-distinct : goal.index_all-requires-clause-distinct

@@ -1,4 +1,4 @@
-use Rattle.read_schedule.proofs.Promised.{schedules_told}
+use Rattle.read_schedule.proofs.whole.Promised.{schedules_told}
 use Rattle.read_schedule.proofs.laws.schedule_is_told.Goals as goal
 
 pub returns : goal.returns

@@ -1,4 +1,4 @@
-use Rattle.read_schedule.proofs.Texts.{finds_feed}
+use Rattle.read_schedule.proofs.spelling.Texts.{finds_feed}
 use Rattle.read_schedule.proofs.lines.find_feed.Goals as goal
 
 pub returns : goal.returns

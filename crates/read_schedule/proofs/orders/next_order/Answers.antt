@@ -1,9 +1,9 @@
 use Rattle.std.proofs.Common.{◌≡◌, ◌∙◌, Err, rules, sym, subst}
 use Rattle.sched_model.specs.Domain.{lists_present}
-use Rattle.read_schedule.specs.Rows.{order_row}
-use Rattle.read_schedule.specs.Reads.{TriesRow, are_all_itvs, sequence_at}
-use Rattle.read_schedule.proofs.Taken.{row_failed, unfit}
-use Rattle.read_schedule.proofs.Defs.{order_at}
+use Rattle.read_schedule.specs.code.Rows.{order_row}
+use Rattle.read_schedule.specs.code.Reads.{TriesRow, are_all_itvs, sequence_at}
+use Rattle.read_schedule.proofs.spelling.Taken.{row_failed, unfit}
+use Rattle.read_schedule.proofs.given.Defs.{order_at}
 use Rattle.read_schedule.proofs.orders.next_order.Goals as goal
 
 pub returns-in_default-clause-row : goal.returns-in_default-clause-row

@@ -3,7 +3,7 @@ use Rattle.base_laws.specs.laws.Items.{all_push}
 use Rattle.std.specs.List.{list_all}
 use Rattle.sched_model.specs.Valid.{is_itv}
 use Rattle.sched_text.specs.Pieces.{interval_names}
-use Rattle.read_schedule.proofs.Names.{named_one, named_none, member_more, no_member}
+use Rattle.read_schedule.proofs.spelling.Names.{named_one, named_none, member_more, no_member}
 use Rattle.read_schedule.proofs.orders.read_members.Goals as goal
 
 pub returns-in_default : goal.returns-in_default

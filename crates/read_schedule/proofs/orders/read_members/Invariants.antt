@@ -1,6 +1,6 @@
 use Rattle.std.proofs.Common.{◌≡◌, ◌++◌, true, length}
 use Rattle.sched_text.specs.Pieces.{interval_names}
-use Rattle.read_schedule.specs.Reads.{are_all_itvs}
+use Rattle.read_schedule.specs.code.Reads.{are_all_itvs}
 use Rattle.read_schedule.proofs.orders.read_members.Given as goal
 
 abbrev pub invariant-loop-word : goal.invariant-loop-word

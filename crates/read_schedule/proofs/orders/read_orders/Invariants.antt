@@ -1,7 +1,7 @@
 use Rattle.std.proofs.Common.{◌≡◌, ◌++◌, true, length}
 use Rattle.sched_model.specs.Domain.{lists_present}
 use Rattle.read_schedule.specs.Schedules.{text}
-use Rattle.read_schedule.specs.Rows.{order_row, rows, begins}
+use Rattle.read_schedule.specs.code.Rows.{order_row, rows, begins}
 use Rattle.read_schedule.proofs.orders.read_orders.Given as goal
 
 abbrev pub invariant-loop-i : goal.invariant-loop-i

@@ -2,8 +2,8 @@ use Rattle.std.proofs.Common.{sym, codes}
 use Rattle.textline.specs.Lines.{words_of}
 use Rattle.sched_text.specs.Answers.{label}
 use Rattle.sched_text.specs.Pieces.{interval_names}
-use Rattle.read_schedule.specs.Reads.{are_all_itvs, sequence_at}
-use Rattle.read_schedule.proofs.Taken.{other_first}
+use Rattle.read_schedule.specs.code.Reads.{are_all_itvs, sequence_at}
+use Rattle.read_schedule.proofs.spelling.Taken.{other_first}
 use Rattle.read_schedule.proofs.orders.read_words.Goals as goal
 
 pub returns-then-not-take : goal.returns-then-not-take

@@ -2,10 +2,10 @@ use Rattle.std.proofs.Common.{◌≡◌, ◌+◌, ◌∙◌, Err, rules, sym, ap
 use Rattle.sched_model.specs.Domain.{are_segments, lists_present}
 use Rattle.sched_model.specs.Words.{placewise}
 use Rattle.sched_model.specs.laws.Limits.{limits_of}
-use Rattle.read_schedule.specs.Rows.{order_row, state_row}
-use Rattle.read_schedule.specs.Reads.{HasSlots, ReadsBeside, ReadsBody}
+use Rattle.read_schedule.specs.code.Rows.{order_row, state_row}
+use Rattle.read_schedule.specs.code.Reads.{HasSlots, ReadsBeside, ReadsBody}
 use Rattle.read_schedule.specs.declared.stop.Stop.TheVariants.{Line}
-use Rattle.read_schedule.proofs.Body.{slots_failed, orders_stop, states_stop, end_stops, all_there, read_front, read_domain, all_read, few_segments}
+use Rattle.read_schedule.proofs.whole.Body.{slots_failed, orders_stop, states_stop, end_stops, all_there, read_front, read_domain, all_read, few_segments}
 use Rattle.read_schedule.proofs.reading.read_body.Goals as goal
 
 pub returns-in_err-slots : goal.returns-in_err-slots

@@ -1,6 +1,6 @@
 use Rattle.std.proofs.Common.{refl, inl, inr, sym, ◌∙◌}
-use Rattle.read_schedule.specs.Rows.{end_row}
-use Rattle.read_schedule.proofs.Ends.{other_line, end_here, only_end, is_so, not_so}
+use Rattle.read_schedule.specs.code.Rows.{end_row}
+use Rattle.read_schedule.proofs.whole.Ends.{other_line, end_here, only_end, is_so, not_so}
 use Rattle.read_schedule.proofs.reading.read_end.Goals as goal
 
 pub returns-in_default : goal.returns-in_default

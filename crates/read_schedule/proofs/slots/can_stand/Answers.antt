@@ -1,4 +1,4 @@
-use Rattle.read_schedule.proofs.Standing.{stands}
+use Rattle.read_schedule.proofs.given.Standing.{stands}
 use Rattle.read_schedule.proofs.slots.can_stand.Goals as goal
 
 pub returns : goal.returns

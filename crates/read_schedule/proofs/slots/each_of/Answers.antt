@@ -1,7 +1,7 @@
 use Rattle.std.proofs.Common.{[], refl, arith}
 use Rattle.sched_model.specs.Domain.{fits_def}
-use Rattle.read_schedule.proofs.Rows.{begins_none}
-use Rattle.read_schedule.proofs.Standing.{one_stands, one_fails, all_stand}
+use Rattle.read_schedule.proofs.spelling.Rows.{begins_none}
+use Rattle.read_schedule.proofs.given.Standing.{one_stands, one_fails, all_stand}
 use Rattle.read_schedule.proofs.slots.each_of.Goals as goal
 
 pub loop-d-init : goal.loop-d-init

@@ -1,4 +1,4 @@
-use Rattle.read_schedule.proofs.Standing.{FirstStand}
+use Rattle.read_schedule.proofs.given.Standing.{FirstStand}
 use Rattle.read_schedule.proofs.slots.each_of.Given as goal
 
 abbrev pub invariant-loop-d : goal.invariant-loop-d

@@ -1,9 +1,9 @@
 use Rattle.std.proofs.Common.{sym, ◌∙◌}
 use Rattle.sched_model.specs.Domain.{fits_def}
-use Rattle.read_schedule.specs.Rows.{slot_row}
-use Rattle.read_schedule.specs.Reads.{is_spelled}
-use Rattle.read_schedule.proofs.Taken.{unread, unfit}
-use Rattle.read_schedule.proofs.Spelled.{slots_told}
+use Rattle.read_schedule.specs.code.Rows.{slot_row}
+use Rattle.read_schedule.specs.code.Reads.{is_spelled}
+use Rattle.read_schedule.proofs.spelling.Taken.{unread, unfit}
+use Rattle.read_schedule.proofs.spelling.Spelled.{slots_told}
 use Rattle.read_schedule.proofs.slots.next_slot.Goals as goal
 
 pub returns-in_default : goal.returns-in_default

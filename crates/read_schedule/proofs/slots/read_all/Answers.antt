@@ -1,7 +1,7 @@
 use Rattle.std.proofs.Common.{◌∙◌, arith}
 use Rattle.sched_model.specs.Domain.{fits_def}
-use Rattle.read_schedule.specs.Rows.{slot_row}
-use Rattle.read_schedule.proofs.Rows.{row_pushed, row_missing, rows_start, begins_all}
+use Rattle.read_schedule.specs.code.Rows.{slot_row}
+use Rattle.read_schedule.proofs.spelling.Rows.{row_pushed, row_missing, rows_start, begins_all}
 use Rattle.read_schedule.proofs.slots.read_all.Goals as goal
 
 pub loop-d-init : goal.loop-d-init

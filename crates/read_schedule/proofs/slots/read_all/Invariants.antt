@@ -1,7 +1,7 @@
 use Rattle.std.proofs.Common.{◌≡◌, ◌++◌, true, length}
 use Rattle.sched_model.specs.Domain.{fits_def}
 use Rattle.read_schedule.specs.Schedules.{text}
-use Rattle.read_schedule.specs.Rows.{slot_row, rows, begins}
+use Rattle.read_schedule.specs.code.Rows.{slot_row, rows, begins}
 use Rattle.read_schedule.proofs.slots.read_all.Given as goal
 
 abbrev pub invariant-loop-d : goal.invariant-loop-d

@@ -1,4 +1,4 @@
-use Rattle.read_schedule.proofs.Numbers.{absent_and_more}
+use Rattle.read_schedule.proofs.spelling.Numbers.{absent_and_more}
 use Rattle.read_schedule.proofs.slots.read_slot.Goals as goal
 
 pub returns-then-take : goal.returns-then-take

@@ -1,4 +1,4 @@
-use Rattle.read_schedule.proofs.Spelled.{interval_words}
+use Rattle.read_schedule.proofs.spelling.Spelled.{interval_words}
 use Rattle.read_schedule.proofs.slots.read_slots.Goals as goal
 
 pub read_all-requires-clause-names : goal.read_all-requires-clause-names

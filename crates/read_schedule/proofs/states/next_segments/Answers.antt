@@ -1,9 +1,9 @@
 use Rattle.std.proofs.Common.{◌≡◌, ◌∙◌, Err, rules, sym, subst}
 use Rattle.sched_model.specs.Domain.{are_segments}
-use Rattle.read_schedule.specs.Rows.{state_row}
-use Rattle.read_schedule.specs.Reads.{TriesRow, are_spelled, state_at}
-use Rattle.read_schedule.proofs.Taken.{row_failed, unfit}
-use Rattle.read_schedule.proofs.Defs.{segments_at}
+use Rattle.read_schedule.specs.code.Rows.{state_row}
+use Rattle.read_schedule.specs.code.Reads.{TriesRow, are_spelled, state_at}
+use Rattle.read_schedule.proofs.spelling.Taken.{row_failed, unfit}
+use Rattle.read_schedule.proofs.given.Defs.{segments_at}
 use Rattle.read_schedule.proofs.states.next_segments.Goals as goal
 
 pub returns-in_default-clause-row : goal.returns-in_default-clause-row

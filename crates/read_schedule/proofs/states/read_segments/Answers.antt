@@ -1,4 +1,4 @@
-use Rattle.read_schedule.proofs.Segments.{no_segments}
+use Rattle.read_schedule.proofs.whole.Segments.{no_segments}
 use Rattle.read_schedule.proofs.states.read_segments.Goals as goal
 
 pub returns-in_default : goal.returns-in_default

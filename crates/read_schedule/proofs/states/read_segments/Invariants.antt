@@ -1,6 +1,6 @@
 use Rattle.std.proofs.Common.{◌≡◌, ◌++◌, true, length, flat_map}
 use Rattle.sched_text.specs.Answers.{segment_words}
-use Rattle.read_schedule.specs.Reads.{are_spelled}
+use Rattle.read_schedule.specs.code.Reads.{are_spelled}
 use Rattle.read_schedule.proofs.states.read_segments.Given as goal
 
 abbrev pub invariant-loop-words : goal.invariant-loop-words

@@ -1,10 +1,10 @@
 use Rattle.std.proofs.Common.{◌≡◌, ◌<◌, ◌∙◌, refl, ap, subst, length, arith, None, [], Err, rules}
 use Rattle.sched_model.specs.Domain.{are_segments}
-use Rattle.read_schedule.specs.Rows.{state_row}
-use Rattle.read_schedule.specs.Reads.{TriesRow, state_at}
+use Rattle.read_schedule.specs.code.Rows.{state_row}
+use Rattle.read_schedule.specs.code.Reads.{TriesRow, state_at}
 use Rattle.read_schedule.specs.declared.stop.Stop.TheVariants.{Line}
-use Rattle.read_schedule.proofs.Rows.{row_pushed, row_missing, rows_start, begins_all}
-use Rattle.read_schedule.proofs.Defs.{item_of}
+use Rattle.read_schedule.proofs.spelling.Rows.{row_pushed, row_missing, rows_start, begins_all}
+use Rattle.read_schedule.proofs.given.Defs.{item_of}
 use Rattle.read_schedule.proofs.states.read_states.Goals as goal
 
 pub loop-i-init : goal.loop-i-init

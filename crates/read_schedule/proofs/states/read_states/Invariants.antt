@@ -1,7 +1,7 @@
 use Rattle.std.proofs.Common.{◌≡◌, ◌++◌, true, length}
 use Rattle.sched_model.specs.Domain.{are_segments}
 use Rattle.read_schedule.specs.Schedules.{text}
-use Rattle.read_schedule.specs.Rows.{state_row, rows, begins}
+use Rattle.read_schedule.specs.code.Rows.{state_row, rows, begins}
 use Rattle.read_schedule.proofs.states.read_states.Given as goal
 
 abbrev pub invariant-loop-i : goal.invariant-loop-i

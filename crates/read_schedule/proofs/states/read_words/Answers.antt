@@ -1,8 +1,8 @@
 use Rattle.std.proofs.Common.{sym, codes, flat_map}
 use Rattle.textline.specs.Lines.{words_of}
 use Rattle.sched_text.specs.Answers.{segment_words}
-use Rattle.read_schedule.specs.Reads.{are_spelled, state_at}
-use Rattle.read_schedule.proofs.Taken.{other_first}
+use Rattle.read_schedule.specs.code.Reads.{are_spelled, state_at}
+use Rattle.read_schedule.proofs.spelling.Taken.{other_first}
 use Rattle.read_schedule.proofs.states.read_words.Goals as goal
 
 pub returns-then-not-take : goal.returns-then-not-take

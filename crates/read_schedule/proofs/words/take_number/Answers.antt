@@ -1,7 +1,7 @@
 use Rattle.std.proofs.Common.{◌≡◌, w64, rules, arith, sym, ap, ◌∙◌, false}
 use Rattle.std.proofs.lemmas.Int.{ints, to_z-of_z}
 use Rattle.sched_model.specs.Bounds.{is_small}
-use Rattle.read_schedule.proofs.Numbers.{far_number}
+use Rattle.read_schedule.proofs.spelling.Numbers.{far_number}
 use Rattle.read_schedule.proofs.words.take_number.Goals as goal
 
 pub returns : goal.returns

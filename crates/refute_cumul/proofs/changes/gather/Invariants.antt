@@ -1,6 +1,6 @@
 use Rattle.std.proofs.Common.{◌≡◌, ◌++◌, ◌*◌, ◌≤◌, drop}
 use Rattle.std.specs.Prelude.{vec_len, vec_capacity}
-use Rattle.refute_cumul.specs.Profiles.{load_changes}
+use Rattle.refute_cumul.specs.code.Profiles.{load_changes}
 use Rattle.refute_cumul.proofs.changes.gather.Given as goal
 
 abbrev pub invariant-loop-part : goal.invariant-loop-part

@@ -1,7 +1,7 @@
 use Rattle.std.proofs.Common.{◌≡◌, ◌∙◌, ap, arith, map, rules, to_z, of_z, w64}
 use Rattle.std.proofs.lemmas.Int.{ints}
 use Rattle.sched_model.specs.Words.{total}
-use Rattle.refute_cumul.specs.Loads.{load_of, bounded}
+use Rattle.refute_cumul.specs.code.Loads.{load_of, bounded}
 use Rattle.refute_cumul.proofs.levels.load.Goals as goal
 use Rattle.sched_model.specs.laws.Totals.{sum_turn, sum_end}
 

@@ -1,6 +1,6 @@
 use Rattle.std.proofs.Common.{◌≡◌, map, ◌*◌, ◌^◌, drop, pos, neg_ℤ, ◌+ℤ◌, ◌≤ℤ◌}
 use Rattle.sched_model.specs.Words.{total}
-use Rattle.refute_cumul.specs.Loads.{load_of, bounded}
+use Rattle.refute_cumul.specs.code.Loads.{load_of, bounded}
 use Rattle.refute_cumul.proofs.levels.load.Given as goal
 
 abbrev pub invariant-loop-part : goal.invariant-loop-part

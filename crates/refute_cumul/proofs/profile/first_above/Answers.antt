@@ -1,6 +1,6 @@
 use Rattle.std.proofs.Common.{◌≡◌, ◌≤ℤ◌, ◌<ℤ◌, get_or, pos, subst, sym, rules, to_z, of_z, w64}
 use Rattle.refute_cumul.specs.declared.profile.Level.{Level}
-use Rattle.refute_cumul.specs.Profiles.{IsPlaceOf, IsFirstAbove, IsAbove, IsNeverAbove}
+use Rattle.refute_cumul.specs.code.Profiles.{IsPlaceOf, IsFirstAbove, IsAbove, IsNeverAbove}
 use Rattle.refute_cumul.proofs.Placing.{above_first, above_later, stays_below, if_none_so}
 use Rattle.refute_cumul.proofs.profile.first_above.Goals as goal
 

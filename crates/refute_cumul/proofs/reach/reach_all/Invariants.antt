@@ -1,6 +1,6 @@
 use Rattle.std.proofs.Common.{◌≡◌, ◌≤◌, length}
 use Rattle.std.specs.Prelude.{vec_capacity}
-use Rattle.refute_cumul.specs.Profiles.{AreReaches}
+use Rattle.refute_cumul.specs.code.Profiles.{AreReaches}
 use Rattle.refute_cumul.proofs.reach.reach_all.Given as goal
 
 abbrev pub invariant-loop-i : goal.invariant-loop-i

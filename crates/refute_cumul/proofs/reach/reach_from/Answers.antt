@@ -1,7 +1,7 @@
 use Rattle.std.proofs.Common.{◌≡◌, get_or, pos, subst, rules, to_z, of_z}
 use Rattle.std.specs.Int.{w128, int_max}
 use Rattle.refute_cumul.specs.declared.reach.Reach.{Reach}
-use Rattle.refute_cumul.specs.Profiles.{Reaches}
+use Rattle.refute_cumul.specs.code.Profiles.{Reaches}
 use Rattle.refute_cumul.proofs.Placing.{reaches_on}
 use Rattle.refute_cumul.proofs.reach.reach_from.Goals as goal
 

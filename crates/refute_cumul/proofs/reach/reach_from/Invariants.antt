@@ -1,5 +1,5 @@
 use Rattle.std.proofs.Common.{◌-◌, length}
-use Rattle.refute_cumul.specs.Profiles.{Reaches}
+use Rattle.refute_cumul.specs.code.Profiles.{Reaches}
 use Rattle.refute_cumul.proofs.reach.reach_from.Given as goal
 
 abbrev pub invariant-loop-reach : goal.invariant-loop-reach

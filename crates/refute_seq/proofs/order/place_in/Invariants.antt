@@ -1,6 +1,6 @@
 use Rattle.std.specs.Prelude.{◌≡◌, ◌++◌, drop, take}
 use Rattle.refute_seq.specs.Standing.{precedes}
-use Rattle.refute_seq.specs.Order.{placed}
+use Rattle.refute_seq.specs.code.Order.{placed}
 use Rattle.refute_seq.proofs.order.place_in.Given as goal
 
 abbrev pub invariant-loop-n : goal.invariant-loop-n

@@ -1,6 +1,6 @@
 use Rattle.std.specs.Prelude.{◌≡◌, drop}
 use Rattle.region.specs.Cells.{cells_of}
-use Rattle.refute_seq.specs.Order.{settled_order}
+use Rattle.refute_seq.specs.code.Order.{settled_order}
 use Rattle.refute_seq.proofs.Rowing.{rowed}
 use Rattle.refute_seq.proofs.order.settled_order.Given as goal
 

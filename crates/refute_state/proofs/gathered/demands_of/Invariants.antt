@@ -1,5 +1,5 @@
 use Rattle.std.proofs.Common.{◌≡◌}
-use Rattle.refute_state.specs.Gathered.{demands_below}
+use Rattle.refute_state.specs.code.Gathered.{demands_below}
 use Rattle.refute_state.proofs.gathered.demands_of.Given as goal
 
 abbrev pub invariant-loop-c : goal.invariant-loop-c

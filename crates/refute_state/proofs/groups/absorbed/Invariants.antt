@@ -1,5 +1,5 @@
 use Rattle.std.proofs.Common.{◌≡◌, drop}
-use Rattle.refute_state.specs.Groups.{absorbed}
+use Rattle.refute_state.specs.code.Groups.{absorbed}
 use Rattle.refute_state.proofs.Steps.{taking}
 use Rattle.refute_state.proofs.groups.absorbed.Given as goal
 

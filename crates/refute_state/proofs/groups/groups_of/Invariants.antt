@@ -1,5 +1,5 @@
 use Rattle.std.proofs.Common.{◌≡◌, drop}
-use Rattle.refute_state.specs.Groups.{groups_from, groups_of}
+use Rattle.refute_state.specs.code.Groups.{groups_from, groups_of}
 use Rattle.refute_state.proofs.groups.groups_of.Given as goal
 
 abbrev pub invariant-loop-d : goal.invariant-loop-d

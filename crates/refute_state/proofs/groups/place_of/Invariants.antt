@@ -1,5 +1,5 @@
 use Rattle.std.proofs.Common.{◌≡◌, ◌++◌, drop, take}
-use Rattle.refute_state.specs.Groups.{placed}
+use Rattle.refute_state.specs.code.Groups.{placed}
 use Rattle.refute_state.proofs.groups.place_of.Given as goal
 
 abbrev pub invariant-loop-k : goal.invariant-loop-k

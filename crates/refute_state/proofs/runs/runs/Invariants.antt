@@ -1,5 +1,5 @@
 use Rattle.std.proofs.Common.{◌≡◌, ◌++◌, drop}
-use Rattle.refute_state.specs.Groups.{runs_from, runs}
+use Rattle.refute_state.specs.code.Groups.{runs_from, runs}
 use Rattle.refute_state.proofs.runs.runs.Given as goal
 
 abbrev pub invariant-loop-j : goal.invariant-loop-j

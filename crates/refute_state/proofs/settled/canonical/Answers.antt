@@ -1,5 +1,5 @@
 use Rattle.std.proofs.Common.{rules}
-use Rattle.refute_state.specs.Canonical.{canonical_for}
+use Rattle.refute_state.specs.code.Canonical.{canonical_for}
 use Rattle.refute_state.proofs.Collecting.{function_step}
 use Rattle.refute_state.proofs.settled.canonical.Goals as goal
 

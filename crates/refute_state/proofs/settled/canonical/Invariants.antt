@@ -1,6 +1,6 @@
 use Rattle.std.proofs.Common.{◌≡◌, map}
 use Rattle.std.specs.List.{range_with_len}
-use Rattle.refute_state.specs.Canonical.{canonical_for}
+use Rattle.refute_state.specs.code.Canonical.{canonical_for}
 use Rattle.refute_state.proofs.settled.canonical.Given as goal
 
 abbrev pub invariant-loop-n : goal.invariant-loop-n

@@ -1,6 +1,6 @@
 use Rattle.std.proofs.Common.{◌≡◌, ◌++◌, drop}
 use Rattle.std.specs.List.{filter_map}
-use Rattle.refute_state.specs.Canonical.{empty_of}
+use Rattle.refute_state.specs.code.Canonical.{empty_of}
 use Rattle.refute_state.proofs.settled.gaps_in.Given as goal
 
 abbrev pub invariant-loop-k : goal.invariant-loop-k

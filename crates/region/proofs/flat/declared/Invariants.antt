@@ -1,6 +1,6 @@
 use Rattle.std.proofs.Common.{◌≡◌, map, take}
 use Rattle.std.specs.List.{flat_map}
-use Rattle.region.specs.Flat.{size_range, first_numbers}
+use Rattle.region.specs.code.Flat.{size_range, first_numbers}
 use Rattle.region.proofs.flat.declared.Given as goal
 
 abbrev pub invariant-loop-d : goal.invariant-loop-d

@@ -1,6 +1,6 @@
 use Rattle.std.specs.Prelude.{◌*◌, map, length}
 use Rattle.std.proofs.Common.{ap, sym, ◌∙◌}
-use Rattle.region.specs.Flat.{Form, size_range}
+use Rattle.region.specs.code.Flat.{Form, size_range}
 use Rattle.region.proofs.Rooting.{few_sequences, first_room}
 use Rattle.region.proofs.flat.first_cells.Goals as goal
 

@@ -2,7 +2,7 @@ use Rattle.std.proofs.Common.{◌≡◌, ◌*◌, pos, ◌∙◌, ap, sym, subst
 use Rattle.std.proofs.lemmas.Int.{to_z-of_z}
 use Rattle.region.specs.declared.types.Bounds.{Bounds}
 use Rattle.region.specs.Looks.{HasMoments}
-use Rattle.region.specs.Flat.{presence_from, number_at}
+use Rattle.region.specs.code.Flat.{presence_from, number_at}
 use Rattle.region.proofs.Places.{bounds_read}
 use Rattle.region.proofs.Moments.{bounds_moments}
 use Rattle.region.proofs.flat.read_bounds.Goals as goal

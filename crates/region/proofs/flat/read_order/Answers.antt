@@ -1,7 +1,7 @@
 use Rattle.std.proofs.Common.{◌≡◌, ◌+◌, inl, inr, refl, ◌∙◌, ap, length, arith, w64, to_z, of_z}
 use Rattle.std.proofs.lemmas.Int.{to_z-of_z}
 use Rattle.std.proofs.lemmas.Bool.Decides.{nat_tests}
-use Rattle.region.specs.Flat.{order_from, number_at}
+use Rattle.region.specs.code.Flat.{order_from, number_at}
 use Rattle.region.specs.Orders.{reversed}
 use Rattle.region.proofs.Shown.{order_nowhere, order_none, order_inside, order_read, two_ways, below_last}
 use Rattle.region.proofs.flat.read_order.Goals.{then-i-members-via-then-i-members, then-i-members-via-else-i-members+then-j-members, then-i-members-via-else-i-members+else-j-members+then-i-j}

@@ -1,6 +1,6 @@
 use Rattle.std.proofs.Common.{◌≡◌, ap, ◌∙◌, arith, w64, to_z, of_z}
 use Rattle.std.proofs.lemmas.Int.{to_z-of_z, ints}
-use Rattle.region.specs.Flat.{presence_from}
+use Rattle.region.specs.code.Flat.{presence_from}
 use Rattle.region.proofs.Places.{presence_read}
 use Rattle.region.proofs.flat.read_presence.Goals as goal
 

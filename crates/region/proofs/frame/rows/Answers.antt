@@ -1,7 +1,7 @@
 use Rattle.std.proofs.Common.{◌≡◌, ℕ, ◌+◌, ◌*◌, ◌∷◌, [], ◌++◌, length, map, sym, ap, subst, ◌∙◌, arith}
 use Rattle.sched_model.specs.Valid.{pair_count}
 use Rattle.region.specs.declared.frame.Row.{Row}
-use Rattle.region.specs.Flat.{IsRow, AreRows, pairs_in}
+use Rattle.region.specs.code.Flat.{IsRow, AreRows, pairs_in}
 use Rattle.region.proofs.Frames.{rows_more, pairs_with, members_more, taken_more}
 use Rattle.region.proofs.frame.rows.Goals as goal
 

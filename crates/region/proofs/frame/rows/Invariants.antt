@@ -1,5 +1,5 @@
 use Rattle.std.proofs.Common.{◌≡◌, ◌+◌, ◌*◌, ◌≤◌, map, take}
-use Rattle.region.specs.Flat.{AreRows, pairs_in}
+use Rattle.region.specs.code.Flat.{AreRows, pairs_in}
 use Rattle.region.proofs.frame.rows.Given as goal
 
 abbrev pub invariant-loop-d : goal.invariant-loop-d

@@ -1,6 +1,6 @@
 use Rattle.std.proofs.Common.{◌∙◌, ◌++◌, ◌∷◌, [], ap}
 use Rattle.sched_model.specs.Changes.{changes_inside}
-use Rattle.sched_model.proofs.Blocks.{on_some, two_inside}
+use Rattle.sched_model.proofs.levels.Blocks.{on_some, two_inside}
 use Rattle.sched_model.proofs.changes.add_two.Goals as goal
 
 pub returns : goal.returns

@@ -4,7 +4,7 @@ use Rattle.std.specs.List.{list_all}
 use Rattle.sched_model.specs.Changes.{keeps_at}
 use Rattle.std.proofs.lemmas.Int.{ints}
 use Rattle.sched_model.specs.declared.changes.Change.{Change}
-use Rattle.sched_model.proofs.Moments.{keep_stop, keep_turn, skip_turn, sum_on}
+use Rattle.sched_model.proofs.levels.Moments.{keep_stop, keep_turn, skip_turn, sum_on}
 use Rattle.sched_model.proofs.changes.keep_each.Goals as goal
 
 pub loop-i-preserved-then-is_like : goal.loop-i-preserved-then-is_like

@@ -1,7 +1,7 @@
 use Rattle.std.proofs.Common.{◌≡◌, ◌∙◌, ℕ, ap, sym, rules, to_z, of_z, w64}
 use Rattle.sched_model.specs.Cumulative.{is_level_at}
 use Rattle.sched_model.specs.Changes.{keep_inside}
-use Rattle.sched_model.proofs.Blocks.{block_from, each_keeps, from_some, one_moment, halves_from}
+use Rattle.sched_model.proofs.levels.Blocks.{block_from, each_keeps, from_some, one_moment, halves_from}
 use Rattle.sched_model.proofs.cumulative.+keep_inside.Goals as goal
 
 tested : (t : ℕ) (c : goal.After-keep_each t) → c.keep_each.result ≡ keep_inside c.args.model.now c.args.a.now c.args.b.f c.args.b.window c.args.b.lo c.args.b.hi c.args.span

@@ -1,6 +1,6 @@
 use Rattle.std.proofs.Common.{◌≡◌, ◌∙◌, rules, to_z, of_z, w64}
-use Rattle.sched_model.proofs.Levels.{level_fails}
-use Rattle.sched_model.proofs.Blocks.{window_decides}
+use Rattle.sched_model.proofs.levels.Levels.{level_fails}
+use Rattle.sched_model.proofs.levels.Blocks.{window_decides}
 use Rattle.sched_model.proofs.cumulative.is_bounded.Goals as goal
 
 pub returns-then-not-is_level_at : goal.returns-then-not-is_level_at

@@ -1,6 +1,6 @@
 use Rattle.std.proofs.Common.{◌≡◌, rules, to_z, of_z, w64}
 use Rattle.std.specs.Int.{w128}
-use Rattle.sched_model.proofs.Levels.{level_by}
+use Rattle.sched_model.proofs.levels.Levels.{level_by}
 use Rattle.sched_model.proofs.cumulative.is_level_at.Goals as goal
 
 pub returns : goal.returns

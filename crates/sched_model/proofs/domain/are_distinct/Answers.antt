@@ -1,5 +1,5 @@
 use Rattle.sched_model.specs.Data.{same}
-use Rattle.sched_model.proofs.Lists.{unlike_stop, unlike_turn}
+use Rattle.sched_model.proofs.walks.Lists.{unlike_stop, unlike_turn}
 use Rattle.sched_model.proofs.domain.are_distinct.Goals as goal
 
 pub returns-then-has : goal.returns-then-has

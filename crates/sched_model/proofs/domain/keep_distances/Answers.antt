@@ -1,4 +1,4 @@
-use Rattle.sched_model.proofs.Segments.{rows_below}
+use Rattle.sched_model.proofs.rows.Segments.{rows_below}
 use Rattle.sched_model.proofs.domain.keep_distances.Goals as goal
 
 pub keep_distances_of-requires : goal.keep_distances_of-requires

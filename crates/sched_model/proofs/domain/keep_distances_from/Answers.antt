@@ -1,4 +1,4 @@
-use Rattle.sched_model.proofs.Segments.{rest_none, rest_turn}
+use Rattle.sched_model.proofs.rows.Segments.{rest_none, rest_turn}
 use Rattle.sched_model.proofs.domain.keep_distances_from.Goals as goal
 
 pub loop-i-init : goal.loop-i-init

@@ -1,7 +1,7 @@
 use Rattle.std.proofs.Common.{◌≡◌, drop}
 use Rattle.sched_model.specs.Words.{pairwise}
-use Rattle.sched_model.specs.Sweep.{keeps_from}
-use Rattle.sched_model.proofs.Segments.{rest_keeps}
+use Rattle.sched_model.specs.code.Sweep.{keeps_from}
+use Rattle.sched_model.proofs.rows.Segments.{rest_keeps}
 use Rattle.sched_model.proofs.domain.keep_distances_from.Given as goal
 
 abbrev pub invariant-loop-i : goal.invariant-loop-i

@@ -1,5 +1,5 @@
 use Rattle.std.proofs.Common.{false}
-use Rattle.sched_model.proofs.Segments.{below_none, below_more_state, state_fails, states_keep}
+use Rattle.sched_model.proofs.rows.Segments.{below_none, below_more_state, state_fails, states_keep}
 use Rattle.sched_model.proofs.domain.keep_distances_of.Goals as goal
 
 pub loop-v-init : goal.loop-v-init

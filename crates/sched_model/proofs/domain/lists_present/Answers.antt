@@ -1,5 +1,5 @@
 use Rattle.std.proofs.Common.{arith}
-use Rattle.sched_model.proofs.Longer.{longer_fails}
+use Rattle.sched_model.proofs.rows.Longer.{longer_fails}
 use Rattle.sched_model.proofs.domain.lists_present.Goals as goal
 
 pub returns-then-xs-len : goal.returns-then-xs-len

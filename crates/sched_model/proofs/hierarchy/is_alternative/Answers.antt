@@ -1,4 +1,4 @@
-use Rattle.sched_model.proofs.Present.{alternative_alike, alternative_unlike}
+use Rattle.sched_model.proofs.rows.Present.{alternative_alike, alternative_unlike}
 use Rattle.sched_model.proofs.hierarchy.is_alternative.Goals as goal
 
 pub returns-then-not-stand_alike : goal.returns-then-not-stand_alike

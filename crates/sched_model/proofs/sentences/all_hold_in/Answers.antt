@@ -1,5 +1,5 @@
 use Rattle.sched_model.specs.Valid.{is_constraint}
-use Rattle.sched_model.proofs.Elements.{passes_at}
+use Rattle.sched_model.proofs.walks.Elements.{passes_at}
 use Rattle.sched_model.proofs.sentences.all_hold_in.Goals as goal
 
 pub holds_in-requires-clause-valid : goal.holds_in-requires-clause-valid

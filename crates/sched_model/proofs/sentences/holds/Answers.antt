@@ -1,4 +1,4 @@
-use Rattle.sched_model.proofs.Elements.{sentence_there}
+use Rattle.sched_model.proofs.walks.Elements.{sentence_there}
 use Rattle.sched_model.proofs.sentences.holds.Goals as goal
 
 pub returns-clause-sentence : goal.returns-clause-sentence

@@ -1,5 +1,5 @@
-use Rattle.sched_model.proofs.Behind.{apart_in_domain}
-use Rattle.sched_model.proofs.Neighbours.{runs_forward}
+use Rattle.sched_model.proofs.rows.Behind.{apart_in_domain}
+use Rattle.sched_model.proofs.rows.Neighbours.{runs_forward}
 use Rattle.sched_model.proofs.sentences.holds_in.Goals as goal
 
 pub has_no_overlap-requires : goal.has_no_overlap-requires

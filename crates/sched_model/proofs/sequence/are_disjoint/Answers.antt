@@ -1,5 +1,5 @@
 use Rattle.std.proofs.Common.{◌∙◌}
-use Rattle.sched_model.proofs.Neighbours.{neighbours_decide}
+use Rattle.sched_model.proofs.rows.Neighbours.{neighbours_decide}
 use Rattle.sched_model.proofs.sequence.are_disjoint.Goals as goal
 
 pub returns : goal.returns

@@ -1,6 +1,6 @@
 use Rattle.std.proofs.Common.{pos, sym, ◌∙◌, arith}
 use Rattle.sched_model.specs.Sequence.{is_apart}
-use Rattle.sched_model.proofs.Lists.{adjacent_end}
+use Rattle.sched_model.proofs.walks.Lists.{adjacent_end}
 use Rattle.sched_model.proofs.sequence.are_in_line.Goals as goal
 
 pub returns : goal.returns

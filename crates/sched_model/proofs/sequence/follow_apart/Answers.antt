@@ -1,6 +1,6 @@
 use Rattle.std.proofs.Common.{true, refl, get_or}
 use Rattle.sched_base.specs.declared.ids.Itv.{Itv}
-use Rattle.sched_model.proofs.Neighbours.{gap_turn}
+use Rattle.sched_model.proofs.rows.Neighbours.{gap_turn}
 use Rattle.sched_model.proofs.sequence.follow_apart.Goals as goal
 
 pub loop-y-preserved : goal.loop-y-preserved

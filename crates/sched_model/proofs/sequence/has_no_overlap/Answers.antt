@@ -1,4 +1,4 @@
-use Rattle.sched_model.proofs.Neighbours.{disjoint_without}
+use Rattle.sched_model.proofs.rows.Neighbours.{disjoint_without}
 use Rattle.sched_model.proofs.sequence.has_no_overlap.Goals as goal
 
 pub returns-in-None : goal.returns-in-None

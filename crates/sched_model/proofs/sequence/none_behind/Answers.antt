@@ -1,7 +1,7 @@
 use Rattle.std.proofs.Common.{not, sym, ap, ◌∙◌}
 use Rattle.std.specs.List.{list_all}
 use Rattle.sched_model.specs.Sequence.{stands_before}
-use Rattle.sched_model.proofs.Orders.{none_behind_last}
+use Rattle.sched_model.proofs.walks.Orders.{none_behind_last}
 use Rattle.sched_model.proofs.sequence.none_behind.Goals as goal
 
 pub returns-in-Some : goal.returns-in-Some

@@ -1,4 +1,4 @@
-use Rattle.sched_model.proofs.Orders.{before_here}
+use Rattle.sched_model.proofs.walks.Orders.{before_here}
 use Rattle.sched_model.proofs.sequence.stands_before.Goals as goal
 
 pub returns-in-loop-i : goal.returns-in-loop-i

@@ -1,5 +1,5 @@
 use Rattle.std.proofs.Common.{sym, ◌∙◌, arith}
-use Rattle.sched_model.proofs.Orders.{next_end}
+use Rattle.sched_model.proofs.walks.Orders.{next_end}
 use Rattle.sched_model.proofs.sequence.stands_next.Goals as goal
 
 pub returns : goal.returns

@@ -1,6 +1,6 @@
 use Rattle.std.proofs.Common.{arith, rules}
 use Rattle.sched_model.specs.Data.{type_of}
-use Rattle.sched_model.proofs.Lists.{cached_more}
+use Rattle.sched_model.proofs.walks.Lists.{cached_more}
 use Rattle.sched_model.proofs.sequence.types_in.Goals as goal
 
 pub loop-i-preserved : goal.loop-i-preserved

@@ -1,7 +1,7 @@
 use Rattle.std.proofs.Common.{rules}
 use Rattle.std.specs.Prelude.{int_le}
 use Rattle.std.proofs.lemmas.List.Sorted.{IsPartitionPoint-from_clause}
-use Rattle.sched_model.proofs.Behind.{ended_first}
+use Rattle.sched_model.proofs.rows.Behind.{ended_first}
 use Rattle.sched_model.proofs.states.count_ended.Goals as goal
 
 pub returns : goal.returns

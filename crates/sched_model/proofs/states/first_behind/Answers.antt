@@ -1,6 +1,6 @@
 use Rattle.std.proofs.Common.{◌≡◌, ◌∙◌, ap, rules, to_z, of_z, w64}
 use Rattle.sched_model.specs.States.{first_behind}
-use Rattle.sched_model.proofs.Behind.{behind_point}
+use Rattle.sched_model.proofs.rows.Behind.{behind_point}
 use Rattle.sched_model.proofs.states.first_behind.Goals as goal
 
 pub returns : goal.returns

@@ -1,7 +1,7 @@
 use Rattle.std.proofs.Common.{◌∙◌, not, ap, sym}
 use Rattle.sched_model.specs.Words.{passes}
 use Rattle.sched_model.specs.States.{shares_moment}
-use Rattle.sched_model.proofs.Behind.{free_of_first}
+use Rattle.sched_model.proofs.rows.Behind.{free_of_first}
 use Rattle.sched_model.proofs.states.is_free_of.Goals as goal
 
 pub returns-in-None : goal.returns-in-None

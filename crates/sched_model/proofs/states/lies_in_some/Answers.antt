@@ -1,7 +1,7 @@
 use Rattle.std.proofs.Common.{◌≡◌, ◌∙◌, ap, sym, rules, to_z, of_z, w64}
 use Rattle.sched_model.specs.Words.{passes}
 use Rattle.sched_model.specs.States.{lies_in}
-use Rattle.sched_model.proofs.Behind.{lies_in_first}
+use Rattle.sched_model.proofs.rows.Behind.{lies_in_first}
 use Rattle.sched_model.proofs.states.lies_in_some.Goals as goal
 
 pub returns-in-None : goal.returns-in-None

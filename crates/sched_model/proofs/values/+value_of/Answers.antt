@@ -1,8 +1,8 @@
 use Rattle.std.proofs.Common.{◌≡◌, ◌∙◌, arith, rules, to_z, of_z, w64}
 use Rattle.std.specs.Int.{w128}
 use Rattle.std.proofs.lemmas.Int.{ints}
-use Rattle.sched_model.specs.Saturated.{saturated_value}
-use Rattle.sched_model.proofs.Valued.{total_turn, product_turn, greatest_turn, least_turn}
+use Rattle.sched_model.specs.code.Saturated.{saturated_value}
+use Rattle.sched_model.proofs.walks.Valued.{total_turn, product_turn, greatest_turn, least_turn}
 use Rattle.sched_model.proofs.values.+value_of.Goals as goal
 
 pub sum_of-loop-part-preserved : goal.sum_of-loop-part-preserved

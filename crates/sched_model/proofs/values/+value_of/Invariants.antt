@@ -4,7 +4,7 @@ use Rattle.std.specs.List.{list_all, list_any}
 use Rattle.std.specs.Option.{option_to_list}
 use Rattle.sched_model.specs.Words.{total, greatest, least}
 use Rattle.sched_model.specs.Value.{is_true}
-use Rattle.sched_model.specs.Saturated.{saturated_product, saturated_value}
+use Rattle.sched_model.specs.code.Saturated.{saturated_product, saturated_value}
 use Rattle.sched_model.proofs.values.+value_of.Given as goal
 
 abbrev pub invariant-sum_of-loop-part : goal.invariant-sum_of-loop-part

@@ -1,5 +1,5 @@
 use Rattle.std.proofs.Common.{◌≡◌, ◌∙◌, rules, to_z, of_z, w64}
-use Rattle.sched_model.proofs.Saturating.{value_by_saturation}
+use Rattle.sched_model.proofs.rows.Saturating.{value_by_saturation}
 use Rattle.sched_model.proofs.values.value_in.Goals as goal
 
 pub returns : goal.returns

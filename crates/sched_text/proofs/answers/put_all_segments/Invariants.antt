@@ -2,7 +2,7 @@ use Rattle.std.proofs.Common.{drop}
 use Rattle.std.specs.List.{flat_map}
 use Rattle.textline.specs.Lines.{spaced}
 use Rattle.sched_text.specs.Answers.{segment_words}
-use Rattle.sched_text.specs.Printing.{Leaves}
+use Rattle.sched_text.specs.code.Printing.{Leaves}
 use Rattle.sched_text.proofs.answers.put_all_segments.Given as goal
 
 abbrev pub invariant-loop-s : goal.invariant-loop-s

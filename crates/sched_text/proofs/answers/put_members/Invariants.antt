@@ -1,7 +1,7 @@
 use Rattle.std.proofs.Common.{◌∷◌, drop}
 use Rattle.std.specs.List.{flat_map}
 use Rattle.sched_text.specs.Pieces.{interval_name}
-use Rattle.sched_text.specs.Printing.{Leaves}
+use Rattle.sched_text.specs.code.Printing.{Leaves}
 use Rattle.sched_text.proofs.answers.put_members.Given as goal
 
 abbrev pub invariant-loop-x : goal.invariant-loop-x

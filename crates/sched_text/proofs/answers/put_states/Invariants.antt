@@ -1,7 +1,7 @@
 use Rattle.std.proofs.Common.{drop}
 use Rattle.sched_text.specs.Pieces.{at_places}
 use Rattle.sched_text.specs.Answers.{segments_line}
-use Rattle.sched_text.specs.Printing.{Leaves}
+use Rattle.sched_text.specs.code.Printing.{Leaves}
 use Rattle.sched_text.proofs.answers.put_states.Given as goal
 
 abbrev pub invariant-loop-i : goal.invariant-loop-i

@@ -1,7 +1,7 @@
 use Rattle.std.proofs.Common.{drop}
 use Rattle.std.specs.List.{flat_map}
 use Rattle.sched_text.specs.Canonical.{interval_text}
-use Rattle.sched_text.specs.Printing.{Leaves}
+use Rattle.sched_text.specs.code.Printing.{Leaves}
 use Rattle.sched_text.proofs.canonical.put_intervals.Given as goal
 
 abbrev pub invariant-loop-d : goal.invariant-loop-d

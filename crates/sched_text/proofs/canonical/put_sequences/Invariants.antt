@@ -1,7 +1,7 @@
 use Rattle.std.proofs.Common.{drop}
 use Rattle.std.specs.List.{flat_map}
 use Rattle.sched_text.specs.Canonical.{named_sequence_text}
-use Rattle.sched_text.specs.Printing.{Leaves}
+use Rattle.sched_text.specs.code.Printing.{Leaves}
 use Rattle.sched_text.proofs.canonical.put_sequences.Given as goal
 
 abbrev pub invariant-loop-d : goal.invariant-loop-d

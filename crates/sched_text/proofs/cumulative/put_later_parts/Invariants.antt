@@ -1,7 +1,7 @@
 use Rattle.std.proofs.Common.{drop}
 use Rattle.std.specs.List.{flat_map}
 use Rattle.sched_text.specs.Canonical.{later_part}
-use Rattle.sched_text.specs.Printing.{Leaves}
+use Rattle.sched_text.specs.code.Printing.{Leaves}
 use Rattle.sched_text.proofs.cumulative.put_later_parts.Given as goal
 
 abbrev pub invariant-loop-part : goal.invariant-loop-part

@@ -2,7 +2,7 @@ use Rattle.std.proofs.Common.{codes}
 use Rattle.sched_text.specs.Pieces.{commas}
 use Rattle.sched_text.specs.Canonical.{rows}
 use Rattle.sched_text.proofs.Lists.{from_here}
-use Rattle.sched_text.specs.Printing.{Leaves}
+use Rattle.sched_text.specs.code.Printing.{Leaves}
 use Rattle.sched_text.proofs.definitions.put_rows.Given as goal
 
 abbrev pub invariant-loop-left : goal.invariant-loop-left

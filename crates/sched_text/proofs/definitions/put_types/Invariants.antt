@@ -2,7 +2,7 @@ use Rattle.std.proofs.Common.{codes, map, drop}
 use Rattle.std.specs.Fmt.{decimal}
 use Rattle.sched_text.specs.Pieces.{between}
 use Rattle.sched_text.proofs.Lists.{from_here}
-use Rattle.sched_text.specs.Printing.{Leaves}
+use Rattle.sched_text.specs.code.Printing.{Leaves}
 use Rattle.sched_text.proofs.definitions.put_types.Given as goal
 
 abbrev pub invariant-loop-n : goal.invariant-loop-n

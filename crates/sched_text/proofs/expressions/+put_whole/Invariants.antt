@@ -3,7 +3,7 @@ use Rattle.sched_text.specs.Pieces.{between, commas}
 use Rattle.sched_text.specs.Shown.{shown, wholes, operands, terms}
 use Rattle.sched_text.proofs.Lists.{from_here}
 use Rattle.sched_text.proofs.Terms.{terms_from}
-use Rattle.sched_text.specs.Printing.{Leaves}
+use Rattle.sched_text.specs.code.Printing.{Leaves}
 use Rattle.sched_text.proofs.expressions.+put_whole.Given as goal
 
 abbrev pub invariant-put_operands-loop-x : goal.invariant-put_operands-loop-x

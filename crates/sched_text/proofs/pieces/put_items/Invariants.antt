@@ -1,6 +1,6 @@
 use Rattle.std.proofs.Common.{codes, map, drop}
 use Rattle.sched_text.specs.Pieces.{commas, interval_name}
-use Rattle.sched_text.specs.Printing.{Leaves}
+use Rattle.sched_text.specs.code.Printing.{Leaves}
 use Rattle.sched_text.proofs.Lists.{from_here}
 use Rattle.sched_text.proofs.pieces.put_items.Given as goal
 

@@ -1,6 +1,6 @@
 use Rattle.std.proofs.Common.{arith}
 use Rattle.std.proofs.lemmas.Int.{ints, to_z-of_z}
-use Rattle.solver.proofs.Branching.{fixed_present}
+use Rattle.solver.proofs.cutting.Branching.{fixed_present}
 use Rattle.solver.proofs.branch.cut_bounds.Goals as goal
 
 pub returns-clause-none : goal.returns-clause-none

@@ -1,5 +1,5 @@
 use Rattle.std.proofs.Common.{rules}
-use Rattle.solver.proofs.Branching.{early_end, late_end}
+use Rattle.solver.proofs.cutting.Branching.{early_end, late_end}
 use Rattle.solver.proofs.branch.cut_end.Goals as goal
 
 pub returns-in-Some-Present : goal.returns-in-Some-Present

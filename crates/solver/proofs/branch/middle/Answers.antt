@@ -1,5 +1,5 @@
 use Rattle.std.proofs.Common.{rules}
-use Rattle.solver.proofs.Branching.{middle_from, middle_small}
+use Rattle.solver.proofs.cutting.Branching.{middle_from, middle_small}
 use Rattle.solver.proofs.branch.middle.Goals as goal
 
 pub returns : goal.returns

@@ -1,6 +1,6 @@
 use Rattle.std.proofs.Common.{rules, ◌≡◌, ◌++◌, ◌∷◌, [], List, ℕ, length, ap, ◌∙◌, arith}
 use Rattle.std.specs.List.{range_with_len}
-use Rattle.solver.proofs.Sifting.{range_push}
+use Rattle.solver.proofs.cutting.Sifting.{range_push}
 use Rattle.solver.proofs.open_intervals.numbers.Goals as goal
 
 pub loop-x-preserved : goal.loop-x-preserved

@@ -1,6 +1,6 @@
 use Rattle.std.proofs.Common.{arith, ◌+◌, ◌<◌, length, length-drop, get_or}
 use Rattle.std.proofs.lemmas.List.{get_or_default, take_all}
-use Rattle.solver.proofs.OpenOrders.{later_of}
+use Rattle.solver.proofs.cutting.OpenOrders.{later_of}
 use Rattle.solver.proofs.order.cut_members.Goals as goal
 
 pub cut_with-requires : goal.cut_with-requires

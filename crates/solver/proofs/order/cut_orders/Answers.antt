@@ -1,6 +1,6 @@
 use Rattle.std.proofs.Common.{rules, sym, subst}
-use Rattle.solver.specs.Searching.{AreMembers}
-use Rattle.solver.proofs.OpenOrders.{members_of_region}
+use Rattle.solver.specs.code.Searching.{AreMembers}
+use Rattle.solver.proofs.cutting.OpenOrders.{members_of_region}
 use Rattle.solver.proofs.order.cut_orders.Goals as goal
 
 pub cut_members-requires : goal.cut_members-requires

@@ -1,5 +1,5 @@
 use Rattle.std.proofs.Common.{◌≡◌}
-use Rattle.solver.specs.Searching.{IsReady}
+use Rattle.solver.specs.code.Searching.{IsReady}
 use Rattle.solver.proofs.preparing.rehearse.Given as goal
 
 abbrev pub invariant-loop : goal.invariant-loop

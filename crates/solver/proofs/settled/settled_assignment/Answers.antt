@@ -1,6 +1,6 @@
 use Rattle.std.proofs.Common.{rules, ap, ◌∙◌}
-use Rattle.refute_state.specs.Canonical.{canonical}
-use Rattle.solver.proofs.Assigned.{assigned}
+use Rattle.refute_state.specs.code.Canonical.{canonical}
+use Rattle.solver.proofs.kept.Assigned.{assigned}
 use Rattle.solver.proofs.settled.settled_assignment.Goals as goal
 
 pub returns : goal.returns

@@ -1,5 +1,5 @@
 use Rattle.std.proofs.Common.{◌≡◌, ◌++◌, drop, map}
-use Rattle.refute_seq.specs.Order.{settled_order, settled_orders}
+use Rattle.refute_seq.specs.code.Order.{settled_order, settled_orders}
 use Rattle.solver.proofs.settled.settled_orders.Given as goal
 
 abbrev pub invariant-loop-p : goal.invariant-loop-p

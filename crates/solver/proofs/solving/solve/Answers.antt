@@ -1,5 +1,5 @@
 use Rattle.solver.specs.declared.fault.SolveFault.TheVariants.{NoMemory}
-use Rattle.solver.proofs.Whole.{begun, stops_solve}
+use Rattle.solver.proofs.logged.Whole.{begun, stops_solve}
 use Rattle.solver.proofs.solving.solve.Goals as goal
 
 pub returns-in_err-engine : goal.returns-in_err-engine

@@ -1,15 +1,15 @@
 use Rattle.std.proofs.Common.{Ok, Err, refl, sym, ap, subst}
 use Rattle.solver.specs.declared.fault.SolveFault.TheVariants.{Fault, NoMemory}
 use Rattle.sched_base.specs.State.{State}
-use Rattle.solver.specs.Putting.{Puts}
-use Rattle.solver.specs.Solving.{Gives, Solves}
-use Rattle.solver.specs.Searching.{state_in}
+use Rattle.solver.specs.code.Putting.{Puts}
+use Rattle.solver.specs.code.Solving.{Gives, Solves}
+use Rattle.solver.specs.code.Searching.{state_in}
 use Rattle.solver.specs.laws.Putting.{gathered, broken, named_none}
-use Rattle.solver.proofs.Answering.{ended_is, solved_with}
-use Rattle.solver.proofs.Whole.{begun, head_breaks, stops_solve, stopped_gives, stopped_named, logged_none, end_breaks, end_puts}
+use Rattle.solver.proofs.logged.Answering.{ended_is, solved_with}
+use Rattle.solver.proofs.logged.Whole.{begun, head_breaks, stops_solve, stopped_gives, stopped_named, logged_none, end_breaks, end_puts}
 use Rattle.logtext.specs.Spelling.{head_text, end_text}
 use Rattle.textline.specs.Lines.{Bytes}
-use Rattle.logtext.specs.Writing.{Gathers}
+use Rattle.logtext.specs.code.Writing.{Gathers}
 use Rattle.solver.proofs.solving.solve_with.Goals as goal
 
 pub returns-in_err-search : goal.returns-in_err-search

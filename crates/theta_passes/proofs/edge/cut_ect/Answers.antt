@@ -1,5 +1,5 @@
 use Rattle.std.proofs.Common.{rules, to_z, of_z, w64}
-use Rattle.theta_passes.proofs.Falling.{cut_is, cut_white, cut_value}
+use Rattle.theta_passes.proofs.trees.Falling.{cut_is, cut_white, cut_value}
 use Rattle.theta_passes.proofs.edge.cut_ect.Goals as goal
 
 pub returns-in-Some : goal.returns-in-Some

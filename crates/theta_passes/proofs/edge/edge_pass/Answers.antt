@@ -1,6 +1,6 @@
 use Rattle.std.proofs.Common.{rules, refl, to_z, of_z, w64}
-use Rattle.theta_passes.specs.Rows.{lct_in}
-use Rattle.theta_passes.proofs.Falling.{pass_more, pass_end, none_is}
+use Rattle.theta_passes.specs.code.Rows.{lct_in}
+use Rattle.theta_passes.proofs.trees.Falling.{pass_more, pass_end, none_is}
 use Rattle.theta_passes.proofs.edge.edge_pass.Goals as goal
 
 pub loop-m-preserved : goal.loop-m-preserved

@@ -1,5 +1,5 @@
-use Rattle.theta_passes.specs.Rows.{Fits}
-use Rattle.theta_passes.specs.Edge.{IsPassed}
+use Rattle.theta_passes.specs.code.Rows.{Fits}
+use Rattle.theta_passes.specs.code.Edge.{IsPassed}
 use Rattle.theta_passes.proofs.edge.edge_pass.Given as goal
 
 abbrev pub invariant-loop-m : goal.invariant-loop-m

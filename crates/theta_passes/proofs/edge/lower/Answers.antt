@@ -1,5 +1,5 @@
 use Rattle.std.proofs.Common.{rules, to_z, of_z, w64}
-use Rattle.theta_passes.proofs.Falling.{fallen_end, level_at}
+use Rattle.theta_passes.proofs.trees.Falling.{fallen_end, level_at}
 use Rattle.theta_passes.proofs.edge.lower.Goals as goal
 
 pub returns-clause-at : goal.returns-clause-at

@@ -1,5 +1,5 @@
-use Rattle.theta_passes.specs.Rows.{Fits}
-use Rattle.theta_passes.specs.Edge.{IsFallen}
+use Rattle.theta_passes.specs.code.Rows.{Fits}
+use Rattle.theta_passes.specs.code.Edge.{IsFallen}
 use Rattle.theta_passes.proofs.edge.lower.Given as goal
 
 abbrev pub invariant-loop-k : goal.invariant-loop-k

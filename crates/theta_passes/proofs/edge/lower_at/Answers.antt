@@ -1,6 +1,6 @@
 use Rattle.std.proofs.Common.{rules, refl}
-use Rattle.theta_passes.specs.Rows.{row_at}
-use Rattle.theta_passes.proofs.Falling.{fallen_painted, fallen_kept}
+use Rattle.theta_passes.specs.code.Rows.{row_at}
+use Rattle.theta_passes.proofs.trees.Falling.{fallen_painted, fallen_kept}
 use Rattle.theta_passes.proofs.edge.lower_at.Goals as goal
 
 pub returns-then-falls_between-clause-fallen : goal.returns-then-falls_between-clause-fallen

@@ -1,5 +1,5 @@
 use Rattle.std.proofs.Common.{rules, to_z, of_z, w64}
-use Rattle.theta_passes.proofs.Falling.{level_at, late_within, late_then, late_after, late_smaller, late_none}
+use Rattle.theta_passes.proofs.trees.Falling.{level_at, late_within, late_then, late_after, late_smaller, late_none}
 use Rattle.theta_passes.proofs.edge.try_level.Goals as goal
 
 pub bounds-rows-k : goal.bounds-rows-k

@@ -1,6 +1,6 @@
-use Rattle.theta_passes.specs.Edge.{IsLevel}
-use Rattle.theta_passes.specs.Rows.{Fits}
-use Rattle.theta_passes.specs.Edge.{grays}
+use Rattle.theta_passes.specs.code.Edge.{IsLevel}
+use Rattle.theta_passes.specs.code.Rows.{Fits}
+use Rattle.theta_passes.specs.code.Edge.{grays}
 use Rattle.theta_passes.proofs.edge.try_level.Given as goal
 
 abbrev pub invariant-loop-k : goal.invariant-loop-k

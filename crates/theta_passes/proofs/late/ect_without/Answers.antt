@@ -1,6 +1,6 @@
 use Rattle.std.proofs.Common.{rules}
-use Rattle.theta_passes.specs.Rows.{row_at}
-use Rattle.theta_passes.proofs.Filling.{late_ect, filled_back, filled_out}
+use Rattle.theta_passes.specs.code.Rows.{row_at}
+use Rattle.theta_passes.proofs.trees.Filling.{late_ect, filled_back, filled_out}
 use Rattle.theta_passes.proofs.late.ect_without.Goals as goal
 
 pub returns-then-starts_before-clause-value : goal.returns-then-starts_before-clause-value

@@ -1,5 +1,5 @@
 use Rattle.std.proofs.Common.{rules, to_z, of_z, w64}
-use Rattle.theta_passes.proofs.Filling.{filling_end, key_is}
+use Rattle.theta_passes.proofs.trees.Filling.{filling_end, key_is}
 use Rattle.theta_passes.proofs.late.fill.Goals as goal
 
 pub returns-clause-at : goal.returns-clause-at

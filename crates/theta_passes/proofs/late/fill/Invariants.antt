@@ -1,5 +1,5 @@
-use Rattle.theta_passes.specs.Rows.{Fits}
-use Rattle.theta_passes.specs.Late.{IsFilling}
+use Rattle.theta_passes.specs.code.Rows.{Fits}
+use Rattle.theta_passes.specs.code.Late.{IsFilling}
 use Rattle.theta_passes.proofs.late.fill.Given as goal
 
 abbrev pub invariant-loop-k : goal.invariant-loop-k

@@ -1,7 +1,7 @@
 use Rattle.std.proofs.Common.{rules, to_z, of_z, w64}
-use Rattle.theta_passes.specs.Rows.{row_at}
-use Rattle.theta_passes.proofs.Filling.{late_is}
-use Rattle.theta_passes.proofs.Filling.{key_is}
+use Rattle.theta_passes.specs.code.Rows.{row_at}
+use Rattle.theta_passes.proofs.trees.Filling.{late_is}
+use Rattle.theta_passes.proofs.trees.Filling.{key_is}
 use Rattle.theta_passes.proofs.late.is_late.Goals as goal
 
 pub ect_without-ect-requires-clause-at : goal.ect_without-ect-requires-clause-at

@@ -1,6 +1,6 @@
 use Rattle.std.proofs.Common.{rules, to_z, of_z, w64}
-use Rattle.theta_passes.proofs.Filling.{late_more, key_is}
-use Rattle.theta_passes.specs.Late.{key_in}
+use Rattle.theta_passes.proofs.trees.Filling.{late_more, key_is}
+use Rattle.theta_passes.specs.code.Late.{key_in}
 use Rattle.theta_passes.proofs.late.late_pass.Goals as goal
 
 pub loop-i-preserved : goal.loop-i-preserved

@@ -1,5 +1,5 @@
-use Rattle.theta_passes.specs.Rows.{Fits}
-use Rattle.theta_passes.specs.Late.{IsLatePassed}
+use Rattle.theta_passes.specs.code.Rows.{Fits}
+use Rattle.theta_passes.specs.code.Late.{IsLatePassed}
 use Rattle.theta_passes.proofs.late.late_pass.Given as goal
 
 abbrev pub invariant-loop-i : goal.invariant-loop-i

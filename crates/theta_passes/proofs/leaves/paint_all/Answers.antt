@@ -1,4 +1,4 @@
-use Rattle.theta_passes.proofs.Painting.{one_painted}
+use Rattle.theta_passes.proofs.trees.Painting.{one_painted}
 use Rattle.theta_passes.proofs.leaves.paint_all.Goals as goal
 
 pub loop-k-preserved : goal.loop-k-preserved

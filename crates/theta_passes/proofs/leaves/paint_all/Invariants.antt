@@ -1,6 +1,6 @@
 use Rattle.std.proofs.Common.{◌≡◌, ◌<◌, ℕ}
-use Rattle.thetatree.specs.Leaves.{colour_at}
-use Rattle.theta_passes.specs.Rows.{row_at, colour_by, Fits}
+use Rattle.thetatree.specs.code.Leaves.{colour_at}
+use Rattle.theta_passes.specs.code.Rows.{row_at, colour_by, Fits}
 use Rattle.theta_passes.proofs.leaves.paint_all.Given as goal
 
 abbrev pub invariant-loop-k : goal.invariant-loop-k

@@ -1,5 +1,5 @@
 use Rattle.std.proofs.Common.{rules}
-use Rattle.theta_passes.proofs.Painting.{one_made, all_made}
+use Rattle.theta_passes.proofs.trees.Painting.{one_made, all_made}
 use Rattle.theta_passes.proofs.leaves.tasks_of.Goals as goal
 
 pub loop-row-preserved : goal.loop-row-preserved

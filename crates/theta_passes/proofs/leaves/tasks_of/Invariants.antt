@@ -1,5 +1,5 @@
 use Rattle.std.proofs.Common.{◌≡◌, ◌++◌, map, drop}
-use Rattle.theta_passes.specs.Rows.{task_of}
+use Rattle.theta_passes.specs.code.Rows.{task_of}
 use Rattle.theta_passes.proofs.leaves.tasks_of.Given as goal
 
 abbrev pub invariant-loop-row : goal.invariant-loop-row

@@ -1,5 +1,5 @@
 use Rattle.std.proofs.Common.{rules}
-use Rattle.theta_passes.proofs.Dropping.{full_painted, full_left}
+use Rattle.theta_passes.proofs.trees.Dropping.{full_painted, full_left}
 use Rattle.theta_passes.proofs.over.drop_at.Goals as goal
 
 pub returns-then-falls_between-clause-falling : goal.returns-then-falls_between-clause-falling

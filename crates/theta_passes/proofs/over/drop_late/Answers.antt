@@ -1,5 +1,5 @@
 use Rattle.std.proofs.Common.{rules, to_z, of_z, w64}
-use Rattle.theta_passes.proofs.Dropping.{full_end, full_is}
+use Rattle.theta_passes.proofs.trees.Dropping.{full_end, full_is}
 use Rattle.theta_passes.proofs.over.drop_late.Goals as goal
 
 pub returns-clause-at : goal.returns-clause-at

@@ -1,5 +1,5 @@
-use Rattle.theta_passes.specs.Rows.{Fits}
-use Rattle.theta_passes.specs.Over.{IsFullFalling}
+use Rattle.theta_passes.specs.code.Rows.{Fits}
+use Rattle.theta_passes.specs.code.Over.{IsFullFalling}
 use Rattle.theta_passes.proofs.over.drop_late.Given as goal
 
 abbrev pub invariant-loop-k : goal.invariant-loop-k

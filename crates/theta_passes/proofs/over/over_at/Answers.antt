@@ -1,5 +1,5 @@
 use Rattle.std.proofs.Common.{rules}
-use Rattle.theta_passes.proofs.Dropping.{over_is, over_at}
+use Rattle.theta_passes.proofs.trees.Dropping.{over_is, over_at}
 use Rattle.theta_passes.proofs.over.over_at.Goals as goal
 
 pub returns : goal.returns

@@ -1,6 +1,6 @@
 use Rattle.std.proofs.Common.{rules, to_z, of_z, w64}
-use Rattle.theta_passes.specs.Rows.{lct_in}
-use Rattle.theta_passes.proofs.Dropping.{over_more, over_end, none_over}
+use Rattle.theta_passes.specs.code.Rows.{lct_in}
+use Rattle.theta_passes.proofs.trees.Dropping.{over_more, over_end, none_over}
 use Rattle.theta_passes.proofs.over.over_pass.Goals as goal
 
 pub loop-m-preserved : goal.loop-m-preserved

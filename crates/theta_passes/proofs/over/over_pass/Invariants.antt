@@ -1,5 +1,5 @@
-use Rattle.theta_passes.specs.Rows.{Fits}
-use Rattle.theta_passes.specs.Over.{IsOverPassed}
+use Rattle.theta_passes.specs.code.Rows.{Fits}
+use Rattle.theta_passes.specs.code.Over.{IsOverPassed}
 use Rattle.theta_passes.proofs.over.over_pass.Given as goal
 
 abbrev pub invariant-loop-m : goal.invariant-loop-m

@@ -1,6 +1,6 @@
 use Rattle.std.proofs.Common.{rules, ◌+◌}
-use Rattle.theta_passes.specs.Parts.{part_has}
-use Rattle.theta_passes.proofs.Tops.{scan_passed, scan_more, sum_small}
+use Rattle.theta_passes.specs.code.Parts.{part_has}
+use Rattle.theta_passes.proofs.scans.Tops.{scan_passed, scan_more, sum_small}
 use Rattle.theta_passes.proofs.parts.scan_at.Goals as goal
 
 pub added-requires-clause-to : goal.added-requires-clause-to

@@ -1,6 +1,6 @@
 use Rattle.std.proofs.Common.{◌≡◌, ◌++◌, ◌-◌, ◌≤◌, length}
-use Rattle.task_sets.specs.Ects.{up_from, keep}
-use Rattle.theta_passes.specs.Parts.{part_has}
+use Rattle.task_sets.specs.laws.Ects.{up_from, keep}
+use Rattle.theta_passes.specs.code.Parts.{part_has}
 use Rattle.theta_passes.proofs.parts.set_from.Given as goal
 
 abbrev pub invariant-loop-k : goal.invariant-loop-k

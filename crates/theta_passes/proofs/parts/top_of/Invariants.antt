@@ -1,5 +1,5 @@
 use Rattle.std.proofs.Common.{◌≤◌, length}
-use Rattle.theta_passes.specs.Parts.{IsScanned, part_has}
+use Rattle.theta_passes.specs.code.Parts.{IsScanned, part_has}
 use Rattle.theta_passes.proofs.parts.top_of.Given as goal
 
 abbrev pub invariant-loop-k : goal.invariant-loop-k

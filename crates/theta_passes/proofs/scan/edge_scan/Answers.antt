@@ -1,5 +1,5 @@
 use Rattle.std.proofs.Common.{rules}
-use Rattle.theta_passes.proofs.CutScans.{more_cuts, all_cuts}
+use Rattle.theta_passes.proofs.scans.CutScans.{more_cuts, all_cuts}
 use Rattle.theta_passes.proofs.scan.edge_scan.Goals as goal
 
 pub loop-m-preserved : goal.loop-m-preserved

@@ -1,6 +1,6 @@
 use Rattle.std.proofs.Common.{ℕ, ◌<◌}
-use Rattle.theta_passes.specs.Rows.{lct_in}
-use Rattle.theta_passes.specs.Edge.{NoneAt}
+use Rattle.theta_passes.specs.code.Rows.{lct_in}
+use Rattle.theta_passes.specs.code.Edge.{NoneAt}
 use Rattle.theta_passes.proofs.scan.edge_scan.Given as goal
 
 abbrev pub invariant-loop-m : goal.invariant-loop-m

@@ -1,5 +1,5 @@
 use Rattle.std.proofs.Common.{rules, to_z, of_z, w64}
-use Rattle.theta_passes.proofs.CutScans.{cut_found, none_pushed}
+use Rattle.theta_passes.proofs.scans.CutScans.{cut_found, none_pushed}
 use Rattle.theta_passes.proofs.scan.finds.Goals as goal
 
 pub returns : goal.returns

@@ -1,5 +1,5 @@
 use Rattle.std.proofs.Common.{rules, to_z, of_z, w64}
-use Rattle.theta_passes.proofs.CutScans.{more_tried, all_tried}
+use Rattle.theta_passes.proofs.scans.CutScans.{more_tried, all_tried}
 use Rattle.theta_passes.proofs.scan.found_at.Goals as goal
 
 pub loop-k-preserved : goal.loop-k-preserved

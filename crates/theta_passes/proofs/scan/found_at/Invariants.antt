@@ -1,5 +1,5 @@
 use Rattle.std.proofs.Common.{ℕ, ◌<◌, false}
-use Rattle.theta_passes.specs.Edge.{FoundBy}
+use Rattle.theta_passes.specs.code.Edge.{FoundBy}
 use Rattle.theta_passes.proofs.scan.found_at.Given as goal
 
 abbrev pub invariant-loop-k : goal.invariant-loop-k

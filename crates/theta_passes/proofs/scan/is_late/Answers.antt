@@ -1,6 +1,6 @@
 use Rattle.std.proofs.Common.{rules, to_z, of_z, w64}
-use Rattle.theta_passes.specs.Rows.{row_at}
-use Rattle.theta_passes.proofs.Scanned.{late_scanned}
+use Rattle.theta_passes.specs.code.Rows.{row_at}
+use Rattle.theta_passes.proofs.scans.Scanned.{late_scanned}
 use Rattle.theta_passes.proofs.scan.is_late.Goals as goal
 
 pub returns : goal.returns

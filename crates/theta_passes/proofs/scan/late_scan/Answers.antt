@@ -1,5 +1,5 @@
 use Rattle.std.proofs.Common.{rules}
-use Rattle.theta_passes.proofs.Scanned.{more_scanned}
+use Rattle.theta_passes.proofs.scans.Scanned.{more_scanned}
 use Rattle.theta_passes.proofs.scan.late_scan.Goals as goal
 
 pub loop-k-preserved : goal.loop-k-preserved

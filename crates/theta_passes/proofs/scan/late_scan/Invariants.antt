@@ -1,4 +1,4 @@
-use Rattle.theta_passes.specs.Late.{NoneScanned}
+use Rattle.theta_passes.specs.code.Late.{NoneScanned}
 use Rattle.theta_passes.proofs.scan.late_scan.Given as goal
 
 abbrev pub invariant-loop-k : goal.invariant-loop-k

@@ -1,7 +1,7 @@
 use Rattle.std.proofs.Common.{◌≡◌, rules, subst, to_z, of_z, w64, ℤ}
 use Rattle.theta_passes.specs.declared.parts.Part.TheVariants.{Before}
-use Rattle.theta_passes.specs.Rows.{row_at}
-use Rattle.theta_passes.specs.Parts.{part_has, GivesTop}
+use Rattle.theta_passes.specs.code.Rows.{row_at}
+use Rattle.theta_passes.specs.code.Parts.{part_has, GivesTop}
 use Rattle.theta_passes.proofs.scan.top_before.Goals as goal
 
 pub returns : goal.returns

@@ -1,5 +1,5 @@
 use Rattle.std.proofs.Common.{rules, to_z, of_z, w64}
-use Rattle.theta_passes.proofs.Edging.{edge_said}
+use Rattle.theta_passes.proofs.shown.Edging.{edge_said}
 use Rattle.theta_passes.proofs.witnesses.edge_at.Goals as goal
 
 pub returns : goal.returns

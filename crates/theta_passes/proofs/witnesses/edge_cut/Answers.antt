@@ -1,6 +1,6 @@
 use Rattle.std.proofs.Common.{rules, to_z, of_z, w64}
-use Rattle.theta_passes.specs.Rows.{lct_in}
-use Rattle.theta_passes.proofs.Edging.{edge_more, edge_end}
+use Rattle.theta_passes.specs.code.Rows.{lct_in}
+use Rattle.theta_passes.proofs.shown.Edging.{edge_more, edge_end}
 use Rattle.theta_passes.proofs.witnesses.edge_cut.Goals as goal
 
 pub loop-m-preserved : goal.loop-m-preserved

@@ -1,6 +1,6 @@
 use Rattle.std.proofs.Common.{ℕ, ◌<◌, None}
-use Rattle.theta_passes.specs.Rows.{lct_in}
-use Rattle.theta_passes.specs.Witnesses.{EdgeAt}
+use Rattle.theta_passes.specs.code.Rows.{lct_in}
+use Rattle.theta_passes.specs.code.Witnesses.{EdgeAt}
 use Rattle.theta_passes.proofs.witnesses.edge_cut.Given as goal
 
 abbrev pub invariant-loop-m : goal.invariant-loop-m

@@ -1,5 +1,5 @@
 use Rattle.std.proofs.Common.{rules, to_z, of_z, w64}
-use Rattle.theta_passes.proofs.Edging.{no_edge, edge_shown}
+use Rattle.theta_passes.proofs.shown.Edging.{no_edge, edge_shown}
 use Rattle.theta_passes.proofs.witnesses.edge_sets.Goals as goal
 
 pub returns-in_default : goal.returns-in_default

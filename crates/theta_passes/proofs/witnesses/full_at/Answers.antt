@@ -1,5 +1,5 @@
 use Rattle.std.proofs.Common.{rules, to_z, of_z, w64}
-use Rattle.theta_passes.proofs.Showing.{full_said}
+use Rattle.theta_passes.proofs.shown.Showing.{full_said}
 use Rattle.theta_passes.proofs.witnesses.full_at.Goals as goal
 
 pub returns : goal.returns

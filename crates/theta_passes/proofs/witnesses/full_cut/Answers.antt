@@ -1,6 +1,6 @@
 use Rattle.std.proofs.Common.{rules, to_z, of_z, w64}
-use Rattle.theta_passes.specs.Rows.{row_at}
-use Rattle.theta_passes.proofs.Showing.{full_more}
+use Rattle.theta_passes.specs.code.Rows.{row_at}
+use Rattle.theta_passes.proofs.shown.Showing.{full_more}
 use Rattle.theta_passes.proofs.witnesses.full_cut.Goals as goal
 
 pub loop-m-preserved : goal.loop-m-preserved

@@ -1,6 +1,6 @@
 use Rattle.std.proofs.Common.{ℕ, ◌<◌, None}
-use Rattle.theta_passes.specs.Rows.{row_at}
-use Rattle.theta_passes.specs.Witnesses.{FullAt}
+use Rattle.theta_passes.specs.code.Rows.{row_at}
+use Rattle.theta_passes.specs.code.Witnesses.{FullAt}
 use Rattle.theta_passes.proofs.witnesses.full_cut.Given as goal
 
 abbrev pub invariant-loop-m : goal.invariant-loop-m

@@ -1,6 +1,6 @@
 use Rattle.std.proofs.Common.{rules, to_z, of_z, w64}
-use Rattle.theta_passes.specs.Rows.{row_at}
-use Rattle.theta_passes.proofs.Showing.{no_late, late_said}
+use Rattle.theta_passes.specs.code.Rows.{row_at}
+use Rattle.theta_passes.proofs.shown.Showing.{no_late, late_said}
 use Rattle.std.proofs.lemmas.Result.{IfOk-weaker}
 use Rattle.theta_passes.proofs.witnesses.late_set.Goals as goal
 

@@ -1,5 +1,5 @@
 use Rattle.std.proofs.Common.{rules, to_z, of_z, w64}
-use Rattle.theta_passes.proofs.Showing.{no_full, full_shown}
+use Rattle.theta_passes.proofs.shown.Showing.{no_full, full_shown}
 use Rattle.std.proofs.lemmas.Result.{IfOk-weaker}
 use Rattle.theta_passes.proofs.witnesses.overload_set.Goals as goal
 

@@ -1,6 +1,6 @@
 use Rattle.std.proofs.Common.{arith, ap, ◌∙◌}
 use Rattle.std.proofs.lemmas.Int.{ints}
-use Rattle.thetatree.specs.Nodes.{greater_of, best_of}
+use Rattle.thetatree.specs.code.Nodes.{greater_of, best_of}
 use Rattle.thetatree.proofs.Made.{made}
 use Rattle.thetatree.proofs.node.join.Goals as goal
 

@@ -1,5 +1,5 @@
 use Rattle.std.proofs.Common.{◌≡◌, ◌≢◌, ℕ, ◌/◌, ◌<◌, ◌≤◌, length}
-use Rattle.thetatree.specs.Trees.{node_at, IsJoin, AreSmall}
+use Rattle.thetatree.specs.code.Trees.{node_at, IsJoin, AreSmall}
 use Rattle.thetatree.proofs.tree.refresh.Given as goal
 
 abbrev pub invariant-loop-at : goal.invariant-loop-at

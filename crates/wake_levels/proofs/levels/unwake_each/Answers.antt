@@ -1,6 +1,6 @@
 use Rattle.std.proofs.Common.{◌≡◌, ◌<◌, ℕ, List, get_or, length, set, subst, sym, ap, ◌∙◌, rules}
-use Rattle.iqueue.specs.Queue.{Queue}
-use Rattle.wake_levels.specs.Queues.{AreBelow, queue_without}
+use Rattle.iqueue.specs.code.Queue.{Queue}
+use Rattle.wake_levels.specs.code.Queues.{AreBelow, queue_without}
 use Rattle.wake_levels.proofs.Queueing.{unwoken_all, unwoken_more, below_at, below_unwoken}
 use Rattle.wake_levels.proofs.levels.unwake_each.Goals as goal
 

@@ -1,6 +1,6 @@
 use Rattle.std.proofs.Common.{ap, ◌∙◌, is_some}
 use Rattle.cpo_elab.specs.Named.{is_defined}
-use Rattle.cpo_elab.proofs.Meanings.{defined_by_name}
+use Rattle.cpo_elab.proofs.named.Meanings.{defined_by_name}
 use Rattle.cpo_elab.proofs.draft.Draft.is_defined.Goals as goal
 
 pub returns : goal.returns

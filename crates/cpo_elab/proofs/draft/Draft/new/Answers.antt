@@ -1,4 +1,4 @@
-use Rattle.cpo_elab.proofs.Meanings.{first_draft}
+use Rattle.cpo_elab.proofs.named.Meanings.{first_draft}
 use Rattle.cpo_elab.proofs.draft.Draft.new.Goals as goal
 
 pub invariant_of-result : goal.invariant_of-result

@@ -1,7 +1,7 @@
 use Rattle.std.proofs.Common.{sym, ap, ◌∙◌}
 use Rattle.cpo_elab.specs.Named.{number_of}
-use Rattle.cpo_elab.specs.Drafts.{number_if}
-use Rattle.cpo_elab.proofs.Meanings.{number_when, none_when}
+use Rattle.cpo_elab.specs.code.Drafts.{number_if}
+use Rattle.cpo_elab.proofs.named.Meanings.{number_when, none_when}
 use Rattle.cpo_elab.proofs.draft.Draft.number_of.Goals as goal
 
 pub returns-in-None : goal.returns-in-None

@@ -2,9 +2,9 @@ use Rattle.std.proofs.Common.{sym, subst, arith}
 use Rattle.sched_model.specs.Data.{with_constraint}
 use Rattle.sched_model.specs.Valid.{IsValid}
 use Rattle.sched_model.specs.laws.Limits.{limits_of}
-use Rattle.cpo_elab.specs.Items.{with_any}
-use Rattle.cpo_elab.proofs.Grown.{room_for_constraint, grown_constraint}
-use Rattle.cpo_elab.proofs.Gained.{few_any, room_for_any, grown_any}
+use Rattle.cpo_elab.specs.code.Items.{with_any}
+use Rattle.cpo_elab.proofs.adding.Grown.{room_for_constraint, grown_constraint}
+use Rattle.cpo_elab.proofs.adding.Gained.{few_any, room_for_any, grown_any}
 use Rattle.cpo_elab.proofs.draft.Draft.with_constraint.Goals as goal
 
 pub any_cells-more-requires : goal.any_cells-more-requires

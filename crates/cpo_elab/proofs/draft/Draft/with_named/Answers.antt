@@ -1,9 +1,9 @@
 use Rattle.std.proofs.Common.{refl, sym, subst, arith}
 use Rattle.sched_model.specs.Valid.{IsValid}
 use Rattle.sched_model.specs.laws.Limits.{limits_of}
-use Rattle.cpo_elab.specs.Items.{with_item}
-use Rattle.cpo_elab.proofs.Grown.{absent_key}
-use Rattle.cpo_elab.proofs.Gained.{few_paired, room_for_item, grown_named}
+use Rattle.cpo_elab.specs.code.Items.{with_item}
+use Rattle.cpo_elab.proofs.adding.Grown.{absent_key}
+use Rattle.cpo_elab.proofs.adding.Gained.{few_paired, room_for_item, grown_named}
 use Rattle.cpo_elab.proofs.draft.Draft.with_named.Goals as goal
 
 pub cells-more-requires : goal.cells-more-requires

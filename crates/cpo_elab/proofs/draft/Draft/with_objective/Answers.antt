@@ -1,7 +1,7 @@
 use Rattle.std.proofs.Common.{sym, ap, subst, ◌∙◌, arith}
 use Rattle.sched_model.specs.Data.{with_objective}
 use Rattle.sched_model.specs.Valid.{IsValid}
-use Rattle.cpo_elab.proofs.Grown.{room_for_objective, grown_objective}
+use Rattle.cpo_elab.proofs.adding.Grown.{room_for_objective, grown_objective}
 use Rattle.cpo_elab.proofs.draft.Draft.with_objective.Goals as goal
 
 pub set_objective-requires : goal.set_objective-requires

@@ -1,6 +1,6 @@
 use Rattle.std.proofs.Common.{◌≡◌, ◌+◌, None, sym, subst, arith}
 use Rattle.cpo_elab.specs.Judged.{number_in}
-use Rattle.cpo_elab.proofs.Stepped.{few}
+use Rattle.cpo_elab.proofs.judging.Stepped.{few}
 use Rattle.cpo_elab.proofs.elaborator.Elaborator.with.Goals as goal
 
 pub with_statement-requires-clause-clear : goal.with_statement-requires-clause-clear

@@ -1,7 +1,7 @@
 use Rattle.std.proofs.Common.{sym, ap, ◌∙◌}
 use Rattle.std.specs.Str.{bytes_eq}
 use Rattle.std.specs.Map.{lookup}
-use Rattle.cpo_elab.proofs.Meanings.{lookup_in_map}
+use Rattle.cpo_elab.proofs.named.Meanings.{lookup_in_map}
 use Rattle.cpo_elab.proofs.names.Names.find.Goals as goal
 
 pub returns-in-None : goal.returns-in-None

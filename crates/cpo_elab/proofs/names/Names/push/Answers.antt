@@ -1,7 +1,7 @@
 use Rattle.std.proofs.Common.{ap, ◌∙◌, ◌++◌, ◌∷◌, [], map}
 use Rattle.std.specs.Str.{bytes_eq}
 use Rattle.std.specs.Map.{lookup}
-use Rattle.cpo_elab.proofs.Meanings.{pushed_entry}
+use Rattle.cpo_elab.proofs.named.Meanings.{pushed_entry}
 use Rattle.cpo_elab.proofs.names.Names.push.Goals as goal
 
 pub returns : goal.returns

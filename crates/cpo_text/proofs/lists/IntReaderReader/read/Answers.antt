@@ -1,6 +1,6 @@
 use Rattle.cpo_text.specs.Parts.{int_words}
-use Rattle.cpo_text.specs.Rules.{int_at}
-use Rattle.cpo_text.proofs.Listed.{int_spells, spells_later}
+use Rattle.cpo_text.specs.code.Rules.{int_at}
+use Rattle.cpo_text.proofs.listing.Listed.{int_spells, spells_later}
 use Rattle.cpo_text.proofs.lists.IntReaderReader.read.Goals as goal
 
 pub returns-clause-later : goal.returns-clause-later

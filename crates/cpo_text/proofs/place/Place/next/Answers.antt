@@ -1,6 +1,6 @@
 use Rattle.std.proofs.Common.{sym, ◌∙◌}
-use Rattle.cpo_text.specs.Places.{left}
-use Rattle.cpo_text.proofs.Steps.{no_tokens, said_step}
+use Rattle.cpo_text.specs.code.Places.{left}
+use Rattle.cpo_text.proofs.pieces.Steps.{no_tokens, said_step}
 use Rattle.cpo_text.proofs.place.Place.next.Goals as goal
 
 pub returns-in_err-piece-clause-tokens : goal.returns-in_err-piece-clause-tokens

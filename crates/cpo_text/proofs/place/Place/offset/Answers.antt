@@ -1,6 +1,6 @@
 use Rattle.std.proofs.Common.{refl, sym, arith, ◌∙◌}
-use Rattle.cpo_text.specs.Places.{left}
-use Rattle.cpo_text.proofs.Gaps.{gap_part, gap_step, gap_end}
+use Rattle.cpo_text.specs.code.Places.{left}
+use Rattle.cpo_text.proofs.pieces.Gaps.{gap_part, gap_step, gap_end}
 use Rattle.cpo_text.proofs.place.Place.offset.Goals as goal
 
 pub loop-at-init : goal.loop-at-init

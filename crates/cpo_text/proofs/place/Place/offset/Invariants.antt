@@ -1,6 +1,6 @@
 use Rattle.std.proofs.Common.{◌≡◌, ◌≤◌, ◌-◌, length, drop}
-use Rattle.cpo_text.specs.Lexing.{tokens_from}
-use Rattle.cpo_text.specs.Places.{left}
+use Rattle.cpo_text.specs.code.Lexing.{tokens_from}
+use Rattle.cpo_text.specs.code.Places.{left}
 use Rattle.cpo_text.proofs.place.Place.offset.Given as goal
 
 abbrev pub invariant-loop-at : goal.invariant-loop-at

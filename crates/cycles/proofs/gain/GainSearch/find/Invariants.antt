@@ -1,5 +1,5 @@
 use Rattle.std.proofs.Common.{Bool, length}
-use Rattle.cycles.specs.Search.{IsSearch, IsShort, IsBehind}
+use Rattle.cycles.specs.code.Search.{IsSearch, IsShort, IsBehind}
 use Rattle.cycles.proofs.gain.GainSearch.find.Given as goal
 
 abbrev pub invariant-loop-r : goal.invariant-loop-r

@@ -1,9 +1,9 @@
 use Rattle.std.proofs.Common.{rules, ◌≡◌, ℕ, List, [], ◌∷◌, ◌++◌, sym, subst, ap, ◌∙◌, arith}
 use Rattle.std.proofs.lemmas.List.{length_push}
 use Rattle.cycles.specs.declared.node.Node.{Node}
-use Rattle.cycles.specs.Walks.{IsGain}
-use Rattle.cycles.specs.Search.{node_at}
-use Rattle.cycles.specs.Ways.{IsRead, IsReading}
+use Rattle.cycles.specs.code.Walks.{IsGain}
+use Rattle.cycles.specs.code.Search.{node_at}
+use Rattle.cycles.specs.code.Ways.{IsRead, IsReading}
 use Rattle.cycles.specs.laws.Looping.{read_more, reads_on, read_gains}
 use Rattle.cycles.proofs.search.Search.arcs_between.Goals as goal
 

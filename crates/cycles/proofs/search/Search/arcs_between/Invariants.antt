@@ -1,4 +1,4 @@
-use Rattle.cycles.specs.Ways.{IsReading}
+use Rattle.cycles.specs.code.Ways.{IsReading}
 use Rattle.cycles.proofs.search.Search.arcs_between.Given as goal
 
 abbrev pub invariant-loop-walk : goal.invariant-loop-walk

@@ -1,5 +1,5 @@
 use Rattle.std.proofs.Common.{rules, ◌≡◌, ℕ, length, [], ◌∷◌, ◌++◌, subst, arith}
-use Rattle.cycles.specs.Search.{IsSearch, IsShort}
+use Rattle.cycles.specs.code.Search.{IsSearch, IsShort}
 use Rattle.cycles.specs.laws.Beginning.{begun_more, begun_search, begun_short}
 use Rattle.cycles.proofs.search.Search.begin.Goals as goal
 

@@ -1,4 +1,4 @@
-use Rattle.cycles.specs.Begun.{IsBegun}
+use Rattle.cycles.specs.code.Begun.{IsBegun}
 use Rattle.cycles.proofs.search.Search.begin.Given as goal
 
 abbrev pub invariant-loop-v : goal.invariant-loop-v

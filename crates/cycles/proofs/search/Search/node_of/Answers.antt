@@ -1,6 +1,6 @@
 use Rattle.std.proofs.Common.{rules, ◌≡◌, ◌+◌, ◌<◌, ◌≤ℤ◌, ◌^◌, pos, neg_ℤ, length, subst}
 use Rattle.cycles.specs.declared.node.Node.{Node}
-use Rattle.cycles.specs.Search.{last_of, node_at}
+use Rattle.cycles.specs.code.Search.{last_of, node_at}
 use Rattle.cycles.specs.laws.Reads.{len_enough, low_enough, high_enough}
 use Rattle.cycles.proofs.search.Search.node_of.Goals as goal
 

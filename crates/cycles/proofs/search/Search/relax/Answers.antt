@@ -1,6 +1,6 @@
 use Rattle.std.proofs.Common.{rules, ◌≡◌, ◌+◌, true, length, sym, subst}
-use Rattle.cycles.specs.Walks.{arc_at}
-use Rattle.cycles.specs.Search.{Search, IsSearch, IsBehind, is_late, turn_of}
+use Rattle.cycles.specs.code.Walks.{arc_at}
+use Rattle.cycles.specs.code.Search.{Search, IsSearch, IsBehind, is_late, turn_of}
 use Rattle.cycles.specs.laws.Pushed.{search_pushed}
 use Rattle.cycles.specs.laws.Behind.{behind_pushed}
 use Rattle.cycles.proofs.search.Search.relax.Goals as goal

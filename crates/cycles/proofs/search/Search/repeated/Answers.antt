@@ -1,8 +1,8 @@
 use Rattle.std.proofs.Common.{rules, ◌≡◌, ◌≤◌, get_or, sym, subst, arith}
 use Rattle.std.specs.Prelude.{slice_set}
 use Rattle.cycles.specs.declared.node.Node.{Node}
-use Rattle.cycles.specs.Search.{node_at}
-use Rattle.cycles.specs.Ways.{IsMarked}
+use Rattle.cycles.specs.code.Search.{node_at}
+use Rattle.cycles.specs.code.Ways.{IsMarked}
 use Rattle.cycles.specs.laws.Marking.{marked_more, marked_end}
 use Rattle.cycles.proofs.search.Search.repeated.Goals as goal
 

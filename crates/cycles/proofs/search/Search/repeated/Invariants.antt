@@ -1,4 +1,4 @@
-use Rattle.cycles.specs.Ways.{IsMarked}
+use Rattle.cycles.specs.code.Ways.{IsMarked}
 use Rattle.cycles.proofs.search.Search.repeated.Given as goal
 
 abbrev pub invariant-loop-node : goal.invariant-loop-node

@@ -1,7 +1,7 @@
 use Rattle.std.proofs.Common.{rules, ◌≡◌, ℕ, ◌+◌, ◌<◌, false, None, Some, length, sym, subst, ap, arith}
 use Rattle.cycles.specs.declared.node.Node.{Node}
-use Rattle.cycles.specs.Walks.{arc_at}
-use Rattle.cycles.specs.Search.{Search, IsShort, IsBehind, is_late, node_at, turn_of}
+use Rattle.cycles.specs.code.Walks.{arc_at}
+use Rattle.cycles.specs.code.Search.{Search, IsShort, IsBehind, is_late, node_at, turn_of}
 use Rattle.cycles.specs.laws.Behind.{if_some, behind_round, still_next}
 use Rattle.cycles.proofs.search.Search.round.Goals as goal
 

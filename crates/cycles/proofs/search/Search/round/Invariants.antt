@@ -1,6 +1,6 @@
 use Rattle.std.proofs.Common.{◌≡◌, ℕ, ◌<◌, false, None, Some, length}
-use Rattle.cycles.specs.Walks.{arc_at}
-use Rattle.cycles.specs.Search.{IsSearch, IsShort, IsBehind, is_late, turn_of}
+use Rattle.cycles.specs.code.Walks.{arc_at}
+use Rattle.cycles.specs.code.Search.{IsSearch, IsShort, IsBehind, is_late, turn_of}
 use Rattle.cycles.proofs.search.Search.round.Given as goal
 
 abbrev pub invariant-loop-turn : goal.invariant-loop-turn

@@ -1,6 +1,6 @@
 use Rattle.std.proofs.Common.{rules, arith, refl, ap, ◌∙◌}
-use Rattle.region.specs.Held.{Held}
-use Rattle.engine.specs.Engines.{AreQuiet}
+use Rattle.region.specs.code.Held.{Held}
+use Rattle.engine.specs.code.Engines.{AreQuiet}
 use Rattle.engine.proofs.Leading.{led_none, led_more, broke_more, broke_led, ran_turn, ran_last, ran_capped, on_err}
 use Rattle.engine.proofs.Counting.{few_lines, all_lines}
 use Rattle.engine.proofs.engine.Engine.drive.Goals as goal

@@ -1,6 +1,6 @@
 use Rattle.std.proofs.Common.{◌≡◌, ◌≤◌, ◌-◌}
-use Rattle.region.specs.Held.{IsHeldOf}
-use Rattle.engine.specs.Engines.{IsFor, IsCalm}
+use Rattle.region.specs.code.Held.{IsHeldOf}
+use Rattle.engine.specs.code.Engines.{IsFor, IsCalm}
 use Rattle.engine.specs.Runs.{cap_at, Led}
 use Rattle.engine.proofs.engine.Engine.drive.Given as goal
 

@@ -1,5 +1,5 @@
 use Rattle.std.proofs.Common.{ap}
-use Rattle.region.specs.Held.{Held}
+use Rattle.region.specs.code.Held.{Held}
 use Rattle.kernel.specs.NoExtra.{is_valid, refutes_none}
 use Rattle.kernel.specs.laws.NoExtra.{valid_lem}
 use Rattle.kernel.specs.laws.Fits.{fit_derived}

@@ -1,4 +1,4 @@
-use Rattle.engine.specs.Watching.{Watching}
+use Rattle.engine.specs.code.Watching.{Watching}
 use Rattle.engine.proofs.Noting.{listed_more}
 use Rattle.engine.proofs.watchers.Watchers.new.Goals as goal
 

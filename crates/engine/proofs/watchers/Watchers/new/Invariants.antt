@@ -1,4 +1,4 @@
-use Rattle.engine.specs.Noted.{AreListed}
+use Rattle.engine.specs.code.Noted.{AreListed}
 use Rattle.engine.proofs.watchers.Watchers.new.Given as goal
 
 abbrev pub invariant-loop-k : goal.invariant-loop-k

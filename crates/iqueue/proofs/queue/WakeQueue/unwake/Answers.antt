@@ -1,7 +1,7 @@
 use Rattle.std.proofs.Common.{◌≡◌, false, sym, ap, ◌∙◌, rules}
 use Rattle.std.specs.Vec.{vec_ptr}
-use Rattle.iqueue.specs.Queue.{is_in, without}
-use Rattle.iqueue.specs.Links.{numbers}
+use Rattle.iqueue.specs.code.Queue.{is_in, without}
+use Rattle.iqueue.specs.code.Links.{numbers}
 use Rattle.iqueue.proofs.Links.{queue_linked, queue_read, view_read, unwoken_is, without_absent}
 use Rattle.iqueue.proofs.queue.WakeQueue.unwake.Goals as goal
 

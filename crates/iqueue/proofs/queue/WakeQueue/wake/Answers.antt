@@ -1,7 +1,7 @@
 use Rattle.std.proofs.Common.{◌≡◌, ◌++◌, ◌∷◌, [], length, false, sym, ap, ◌∙◌, rules}
 use Rattle.std.specs.Vec.{vec_ptr}
-use Rattle.iqueue.specs.Queue.{is_in}
-use Rattle.iqueue.specs.Links.{numbers}
+use Rattle.iqueue.specs.code.Queue.{is_in}
+use Rattle.iqueue.specs.code.Links.{numbers}
 use Rattle.iqueue.proofs.Links.{queue_linked, woken_is, only_first, still_first}
 use Rattle.iqueue.proofs.queue.WakeQueue.wake.Goals as goal
 use Rattle.iqueue.proofs.queue.WakeQueue.wake.Goals.{then-is_none, else-is_none}

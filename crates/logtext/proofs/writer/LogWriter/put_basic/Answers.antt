@@ -4,7 +4,7 @@ use Rattle.std.specs.Fmt.{signed_decimal}
 use Rattle.std.proofs.lemmas.Int.{to_z-of_z}
 use Rattle.refute_basic.specs.Witness.{numbers_of}
 use Rattle.logtext.specs.Spelling.{basic_kinds}
-use Rattle.logtext.specs.Writing.{Gathers}
+use Rattle.logtext.specs.code.Writing.{Gathers}
 use Rattle.logtext.specs.laws.Kinds.{basic_placed}
 use Rattle.logtext.proofs.Witnesses.{kind_place, some_number}
 use Rattle.logtext.proofs.writer.LogWriter.put_basic.Goals as goal

@@ -5,7 +5,7 @@ use Rattle.std.proofs.lemmas.Int.{to_z-of_z}
 use Rattle.refute_cumul.specs.Witness.{numbers_of as cumul_numbers}
 use Rattle.logtext.specs.Spelling.{cumul_kinds}
 use Rattle.textline.specs.Lines.{spaced}
-use Rattle.logtext.specs.Writing.{Gathers}
+use Rattle.logtext.specs.code.Writing.{Gathers}
 use Rattle.logtext.specs.laws.Kinds.{cumul_placed}
 use Rattle.logtext.proofs.Witnesses.{kind_place, some_number}
 use Rattle.logtext.proofs.writer.LogWriter.put_cumul.Goals as goal

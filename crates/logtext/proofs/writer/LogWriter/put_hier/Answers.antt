@@ -4,7 +4,7 @@ use Rattle.std.specs.Fmt.{signed_decimal}
 use Rattle.std.proofs.lemmas.Int.{to_z-of_z}
 use Rattle.refute_hier.specs.Witness.{numbers_of as hier_numbers}
 use Rattle.logtext.specs.Spelling.{hier_kinds}
-use Rattle.logtext.specs.Writing.{Gathers}
+use Rattle.logtext.specs.code.Writing.{Gathers}
 use Rattle.logtext.specs.laws.Kinds.{hier_placed}
 use Rattle.logtext.proofs.Witnesses.{kind_place, some_number}
 use Rattle.logtext.proofs.writer.LogWriter.put_hier.Goals as goal

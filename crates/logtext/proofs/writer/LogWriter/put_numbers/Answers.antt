@@ -1,7 +1,7 @@
 use Rattle.std.proofs.Common.{◌≡◌, ◌+◌, ◌-◌, ◌<◌, ◌≤◌, length, drop, subst, rules, arith, SFits, w64, length-drop}
 use Rattle.std.specs.Fmt.{signed_decimal}
 use Rattle.std.proofs.lemmas.Int.{to_z-of_z}
-use Rattle.logtext.specs.Reads.{moment_words}
+use Rattle.logtext.specs.code.Reads.{moment_words}
 use Rattle.logtext.proofs.Spaced.{SoFar, all_put, as_map, item_behind, last_word, none_so_far, one_more, stops_at}
 use Rattle.logtext.proofs.writer.LogWriter.put_numbers.Goals as goal
 

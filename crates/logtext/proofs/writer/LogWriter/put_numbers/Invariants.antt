@@ -1,5 +1,5 @@
 use Rattle.std.proofs.Common.{◌-◌, ◌≤◌, drop}
-use Rattle.logtext.specs.Reads.{moment_words}
+use Rattle.logtext.specs.code.Reads.{moment_words}
 use Rattle.logtext.proofs.Spaced.{SoFar}
 use Rattle.logtext.proofs.writer.LogWriter.put_numbers.Given as goal
 

@@ -5,7 +5,7 @@ use Rattle.std.proofs.lemmas.Int.{to_z-of_z}
 use Rattle.refute_state.specs.Witness.{numbers_of as state_numbers}
 use Rattle.logtext.specs.Spelling.{state_kinds}
 use Rattle.textline.specs.Lines.{spaced}
-use Rattle.logtext.specs.Writing.{Gathers}
+use Rattle.logtext.specs.code.Writing.{Gathers}
 use Rattle.logtext.specs.laws.Kinds.{state_placed}
 use Rattle.logtext.proofs.Witnesses.{kind_place, some_number}
 use Rattle.logtext.proofs.writer.LogWriter.put_state.Goals as goal

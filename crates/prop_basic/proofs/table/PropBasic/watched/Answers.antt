@@ -1,6 +1,6 @@
 use Rattle.std.proofs.Common.{◌≡◌, ◌<◌, ◌+◌, ◌-◌, suc, ◌∙◌, None, length, ap, rules, arith}
 use Rattle.std.proofs.lemmas.List.{get_or_default}
-use Rattle.prop_basic.specs.Tables.{tree_at}
+use Rattle.prop_basic.specs.code.Tables.{tree_at}
 use Rattle.prop_basic.proofs.Watching.{watched_objective, watched_size, watched_constraint}
 use Rattle.prop_basic.proofs.table.PropBasic.watched.Goals as goal
 

@@ -1,7 +1,7 @@
 use Rattle.std.proofs.Common.{ap, ◌∙◌, refl}
 use Rattle.region.specs.Cells.{bounds_of}
 use Rattle.region.specs.Guesses.{topic, with_guess}
-use Rattle.prop_hier.specs.Counts.{counts_refute}
+use Rattle.prop_hier.specs.code.Counts.{counts_refute}
 use Rattle.prop_hier.proofs.Counting.{part_told, quick_parts}
 use Rattle.prop_hier.proofs.member_test.MemberTest.quick.Goals as goal
 

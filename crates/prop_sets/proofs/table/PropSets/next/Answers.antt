@@ -3,10 +3,10 @@ use Rattle.std.specs.Prelude.{IfNone}
 use Rattle.std.proofs.lemmas.List.{get_or_default}
 use Rattle.sched_base.specs.declared.ids.Itv.{Itv}
 use Rattle.sched_model.specs.Data.{members_of}
-use Rattle.findings.specs.Tables.{members_in}
+use Rattle.findings.specs.code.Tables.{members_in}
 use Rattle.prop_sets.specs.declared.known.Numbers.{Numbers}
-use Rattle.prop_sets.specs.Tasks.{sequence_at}
-use Rattle.prop_sets.specs.Known.{AreNumbers, IsStill}
+use Rattle.prop_sets.specs.code.Tasks.{sequence_at}
+use Rattle.prop_sets.specs.code.Known.{AreNumbers, IsStill}
 use Rattle.prop_sets.specs.laws.Known.{known_at, still_again, still_quiet}
 use Rattle.prop_sets.proofs.table.PropSets.next.Goals as goal
 

@@ -1,6 +1,6 @@
 use Rattle.std.proofs.Common.{◌≡◌, ◌∙◌, ◌<◌, [], length, slice_index_or, ap, arith, rules}
 use Rattle.std.proofs.lemmas.List.{get_or_default}
-use Rattle.prop_sets.specs.Tasks.{size_of}
+use Rattle.prop_sets.specs.code.Tasks.{size_of}
 use Rattle.prop_sets.proofs.Watching.{bound_watched}
 use Rattle.prop_sets.proofs.table.PropSets.watched_bounds.Goals as goal
 

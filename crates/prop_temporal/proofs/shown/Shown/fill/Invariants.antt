@@ -1,5 +1,5 @@
 use Rattle.std.proofs.Common.{length}
-use Rattle.prop_temporal.specs.Shown.{AreShown, HasTried}
+use Rattle.prop_temporal.specs.code.Shown.{AreShown, HasTried}
 use Rattle.prop_temporal.proofs.shown.Shown.fill.Given as goal
 
 abbrev pub invariant-loop-u : goal.invariant-loop-u

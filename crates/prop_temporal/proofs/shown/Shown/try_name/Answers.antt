@@ -1,5 +1,5 @@
 use Rattle.std.proofs.Common.{◌++◌, ◌∷◌, [], subst, sym}
-use Rattle.prop_temporal.specs.Shown.{Shown, Tries}
+use Rattle.prop_temporal.specs.code.Shown.{Shown, Tries}
 use Rattle.prop_temporal.specs.laws.Named.{named, point_within}
 use Rattle.prop_temporal.specs.laws.Collecting.{one_shown}
 use Rattle.prop_temporal.proofs.shown.Shown.try_name.Goals as goal

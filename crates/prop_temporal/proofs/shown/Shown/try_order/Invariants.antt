@@ -1,5 +1,5 @@
 use Rattle.std.proofs.Common.{take}
-use Rattle.prop_temporal.specs.Shown.{TriesAll, IsOfOrderFrom}
+use Rattle.prop_temporal.specs.code.Shown.{TriesAll, IsOfOrderFrom}
 use Rattle.prop_temporal.proofs.shown.Shown.try_order.Given as goal
 
 abbrev pub invariant-loop-x : goal.invariant-loop-x

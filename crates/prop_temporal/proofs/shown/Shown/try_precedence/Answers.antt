@@ -1,6 +1,6 @@
 use Rattle.std.proofs.Common.{subst}
 use Rattle.refute_basic.specs.declared.arc_name.ArcName.{ArcName}
-use Rattle.prop_temporal.specs.Shown.{Tries}
+use Rattle.prop_temporal.specs.code.Shown.{Tries}
 use Rattle.prop_temporal.specs.laws.Collecting.{of_precedence}
 use Rattle.prop_temporal.proofs.shown.Shown.try_precedence.Goals as goal
 

@@ -2,7 +2,7 @@ use Rattle.std.proofs.Common.{get_or, subst, arith}
 use Rattle.std.proofs.lemmas.List.{get_or_default}
 use Rattle.sched_base.specs.declared.ids.Itv.{Itv}
 use Rattle.refute_basic.specs.declared.arc_name.ArcName.{ArcName}
-use Rattle.prop_temporal.specs.Shown.{Tries}
+use Rattle.prop_temporal.specs.code.Shown.{Tries}
 use Rattle.prop_temporal.specs.laws.Collecting.{side_more, side_all}
 use Rattle.prop_temporal.proofs.shown.Shown.try_side.Goals as goal
 

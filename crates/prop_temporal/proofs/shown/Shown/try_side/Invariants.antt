@@ -1,5 +1,5 @@
 use Rattle.std.proofs.Common.{take}
-use Rattle.prop_temporal.specs.Shown.{TriesAll, IsOfSideOf}
+use Rattle.prop_temporal.specs.code.Shown.{TriesAll, IsOfSideOf}
 use Rattle.prop_temporal.proofs.shown.Shown.try_side.Given as goal
 
 abbrev pub invariant-loop-y : goal.invariant-loop-y

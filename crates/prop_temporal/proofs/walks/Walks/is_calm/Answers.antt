@@ -2,7 +2,7 @@ use Rattle.std.proofs.Common.{◌≡◌, ℕ, ℤ, true, List, [], get_or, subst
 use Rattle.std.proofs.lemmas.List.{get_or_default}
 use Rattle.region.specs.Guesses.{with_guess}
 use Rattle.region.specs.Looks.{Seen}
-use Rattle.prop_temporal.specs.Heights.{Kept, OwnKeep, height_in}
+use Rattle.prop_temporal.specs.code.Heights.{Kept, OwnKeep, height_in}
 use Rattle.prop_temporal.specs.laws.Collecting.{all_lose}
 use Rattle.prop_temporal.specs.laws.Quieting.{present_at}
 use Rattle.prop_temporal.specs.laws.Elsewhere.{calm}

@@ -1,4 +1,4 @@
-use Rattle.prop_temporal.specs.Heights.{IsReady}
+use Rattle.prop_temporal.specs.code.Heights.{IsReady}
 use Rattle.prop_temporal.specs.laws.Quieting.{AreQuietBelow}
 use Rattle.prop_temporal.proofs.walks.Walks.next.Given as goal
 

@@ -1,6 +1,6 @@
 use Rattle.std.proofs.Common.{◌≡◌, length, subst, sym, ap, arith}
-use Rattle.prop_temporal.specs.Shown.{Shown, HasTried}
-use Rattle.prop_temporal.specs.Heights.{Kept}
+use Rattle.prop_temporal.specs.code.Shown.{Shown, HasTried}
+use Rattle.prop_temporal.specs.code.Heights.{Kept}
 use Rattle.prop_temporal.specs.laws.Ready.{made_ready}
 use Rattle.prop_temporal.proofs.walks.Walks.search_with.Goals as goal
 

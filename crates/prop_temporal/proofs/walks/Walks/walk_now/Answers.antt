@@ -1,6 +1,6 @@
 use Rattle.std.proofs.Common.{◌≡◌, length, subst, ap, arith}
 use Rattle.region.specs.Looks.{Seen}
-use Rattle.prop_temporal.specs.Shown.{HasTried}
+use Rattle.prop_temporal.specs.code.Shown.{HasTried}
 use Rattle.prop_temporal.specs.laws.Ready.{made_ready}
 use Rattle.prop_temporal.proofs.walks.Walks.walk_now.Goals as goal
 

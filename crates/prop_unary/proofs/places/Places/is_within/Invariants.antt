@@ -1,5 +1,5 @@
 use Rattle.std.proofs.Common.{◌≡◌, ◌<◌, ℕ, true, get_or}
-use Rattle.prop_unary.specs.Rows.{has_word}
+use Rattle.prop_unary.specs.code.Rows.{has_word}
 use Rattle.prop_unary.proofs.places.Places.is_within.Given as goal
 
 abbrev pub invariant-loop-w : goal.invariant-loop-w

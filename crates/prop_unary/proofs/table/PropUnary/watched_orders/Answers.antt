@@ -1,6 +1,6 @@
 use Rattle.std.proofs.Common.{◌≡◌, ◌∙◌, ◌<◌, [], length, slice_index_or, ap, arith, rules}
 use Rattle.std.proofs.lemmas.List.{get_or_default}
-use Rattle.prop_unary.specs.Tasks.{size_of}
+use Rattle.prop_unary.specs.code.Tasks.{size_of}
 use Rattle.prop_unary.proofs.Watching.{order_watched}
 use Rattle.prop_unary.proofs.table.PropUnary.watched_orders.Goals as goal
 

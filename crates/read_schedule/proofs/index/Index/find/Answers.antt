@@ -1,7 +1,7 @@
 use Rattle.std.proofs.Common.{sym, ap, ◌∙◌}
 use Rattle.std.specs.Str.{bytes_eq}
 use Rattle.std.specs.Map.{lookup}
-use Rattle.read_schedule.proofs.Names.{lookup_in_map}
+use Rattle.read_schedule.proofs.spelling.Names.{lookup_in_map}
 use Rattle.read_schedule.proofs.index.Index.find.Goals as goal
 
 pub returns-in-None : goal.returns-in-None

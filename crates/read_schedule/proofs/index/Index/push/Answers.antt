@@ -1,7 +1,7 @@
 use Rattle.std.proofs.Common.{ap, ◌∙◌, ◌++◌, ◌∷◌, [], map}
 use Rattle.std.specs.Str.{bytes_eq}
 use Rattle.std.specs.Map.{lookup}
-use Rattle.read_schedule.proofs.Names.{pushed_entry}
+use Rattle.read_schedule.proofs.spelling.Names.{pushed_entry}
 use Rattle.read_schedule.proofs.index.Index.push.Goals as goal
 
 pub returns : goal.returns

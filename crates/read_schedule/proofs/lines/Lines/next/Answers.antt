@@ -1,7 +1,7 @@
 use Rattle.std.proofs.Common.{None, refl, rules, sym, subst}
 use Rattle.std.specs.Option.{option_copied}
-use Rattle.read_schedule.specs.Reads.{TakesLine}
-use Rattle.read_schedule.proofs.Texts.{line_taken, no_line}
+use Rattle.read_schedule.specs.code.Reads.{TakesLine}
+use Rattle.read_schedule.proofs.spelling.Texts.{line_taken, no_line}
 use Rattle.read_schedule.proofs.lines.Lines.next.Goals as goal
 
 pub returns-in_err-at : goal.returns-in_err-at

@@ -1,7 +1,7 @@
 use Rattle.std.proofs.Common.{◌≡◌, ◌+◌, ◌*◌, length, map, sym, subst, arith}
 use Rattle.std.proofs.lemmas.List.{length-map}
 use Rattle.region.specs.declared.frame.Row.{Row}
-use Rattle.region.specs.Flat.{IsRow, pairs_before}
+use Rattle.region.specs.code.Flat.{IsRow, pairs_before}
 use Rattle.region.proofs.Frames.{rows_at}
 use Rattle.region.proofs.frame.Frame.row.Goals as goal
 

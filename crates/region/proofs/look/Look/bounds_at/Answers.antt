@@ -1,7 +1,7 @@
 use Rattle.std.proofs.Common.{◌≡◌, length, ap, ◌∙◌, subst, sym, arith}
 use Rattle.region.specs.declared.types.Bounds.{Bounds}
 use Rattle.region.specs.Looks.{HasMoments}
-use Rattle.region.specs.Flat.{bounds_under}
+use Rattle.region.specs.code.Flat.{bounds_under}
 use Rattle.region.proofs.Places.{look_length}
 use Rattle.region.proofs.Shown.{shown_field, shown_bounds_moments}
 use Rattle.region.proofs.look.Look.bounds_at.Goals as goal

@@ -3,7 +3,7 @@ use Rattle.std.proofs.lemmas.Int.{to_z-of_z}
 use Rattle.sched_model.specs.Valid.{is_moment}
 use Rattle.region.specs.declared.types.Bounds.{Bounds}
 use Rattle.region.specs.Cells.{unknown}
-use Rattle.region.specs.Flat.{region_from, bounds_from}
+use Rattle.region.specs.code.Flat.{region_from, bounds_from}
 use Rattle.region.proofs.Places.{look_length, emin_read, looked_none}
 use Rattle.region.proofs.Shown.{shown_field, shown_bounds_moments}
 use Rattle.region.proofs.look.Look.emin.Goals as goal

@@ -1,5 +1,5 @@
 use Rattle.std.proofs.Common.{◌∙◌, ap}
-use Rattle.region.specs.Flat.{order_under}
+use Rattle.region.specs.code.Flat.{order_under}
 use Rattle.region.proofs.Shown.{shown_order}
 use Rattle.region.proofs.look.Look.order.Goals as goal
 

@@ -1,6 +1,6 @@
 use Rattle.std.proofs.Common.{◌≡◌, ◌∙◌, length, arith, w64, to_z, of_z}
 use Rattle.std.proofs.lemmas.Int.{to_z-of_z}
-use Rattle.region.specs.Flat.{region_from}
+use Rattle.region.specs.code.Flat.{region_from}
 use Rattle.region.proofs.Places.{look_length, length-bounds_from, looked_pmax}
 use Rattle.region.proofs.look.Look.pmax.Goals as goal
 

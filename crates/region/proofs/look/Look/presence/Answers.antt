@@ -1,6 +1,6 @@
 use Rattle.std.proofs.Common.{◌≡◌, sym, length, arith, get_or}
 use Rattle.region.specs.Cells.{unknown}
-use Rattle.region.specs.Flat.{bounds_from}
+use Rattle.region.specs.code.Flat.{bounds_from}
 use Rattle.region.proofs.Places.{look_length}
 use Rattle.region.proofs.Shown.{shown_field}
 use Rattle.region.proofs.look.Look.presence.Goals as goal

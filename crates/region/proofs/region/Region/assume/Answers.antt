@@ -1,7 +1,7 @@
 use Rattle.std.specs.Prelude.{◌≡◌, OnOk}
 use Rattle.std.proofs.Common.{sym, subst}
 use Rattle.region.specs.Guesses.{assumed, with_guess, guess_cell, guess_holds}
-use Rattle.region.specs.Held.{Held}
+use Rattle.region.specs.code.Held.{Held}
 use Rattle.region.specs.Narrows.{Narrows}
 use Rattle.region.specs.laws.Narrowing.{HasPairs, guess_narrows, guess_stays, splitting}
 use Rattle.region.proofs.Kept.{on_ok, either_way, held_changed, held_same}

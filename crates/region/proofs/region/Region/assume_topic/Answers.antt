@@ -1,8 +1,8 @@
 use Rattle.std.specs.Prelude.{◌<◌, ◌&&◌, IsTrue, length}
 use Rattle.std.proofs.Common.{sym, subst}
 use Rattle.region.specs.Guesses.{admits_topic, is_ready}
-use Rattle.region.specs.Held.{Held}
-use Rattle.region.specs.Flat.{IsKept, region_from}
+use Rattle.region.specs.code.Held.{Held}
+use Rattle.region.specs.code.Flat.{IsKept, region_from}
 use Rattle.region.specs.laws.Lists.{both_true}
 use Rattle.region.proofs.Places.{named, assumed_within}
 use Rattle.region.proofs.Kept.{on_ok, either_way, assumed_kept, assumed_view, none_saved, kept_pairs}

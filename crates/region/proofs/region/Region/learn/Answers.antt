@@ -1,7 +1,7 @@
 use Rattle.std.specs.Prelude.{◌≡◌, not, OnOk}
 use Rattle.std.proofs.Common.{sym, subst}
 use Rattle.region.specs.Guesses.{refused, with_fact, fact_cell, guess_holds}
-use Rattle.region.specs.Held.{Held}
+use Rattle.region.specs.code.Held.{Held}
 use Rattle.region.specs.Narrows.{Narrows}
 use Rattle.region.specs.laws.Narrowing.{HasPairs, fact_narrows, fact_stays}
 use Rattle.region.proofs.Kept.{on_ok, either_way, held_changed, held_same}

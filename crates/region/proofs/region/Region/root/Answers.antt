@@ -3,7 +3,7 @@ use Rattle.std.proofs.Common.{sym, subst, arith}
 use Rattle.sched_model.specs.declared.types.Assignment.{Assignment}
 use Rattle.sched_model.specs.Domain.{is_in_domain}
 use Rattle.region.specs.Cells.{Allows, root}
-use Rattle.region.specs.Held.{Held, IsHeldOf}
+use Rattle.region.specs.code.Held.{Held, IsHeldOf}
 use Rattle.region.specs.Narrows.{HasPoint}
 use Rattle.region.specs.laws.Rooted.{root_of, root_allows}
 use Rattle.region.specs.laws.Counts.{some_point}

@@ -1,6 +1,6 @@
 use Rattle.std.proofs.Common.{◌≡◌, true, sym, subst, arith}
-use Rattle.solver.specs.Searching.{is_ordered}
-use Rattle.solver.proofs.Branching.{ordered_at}
+use Rattle.solver.specs.code.Searching.{is_ordered}
+use Rattle.solver.proofs.cutting.Branching.{ordered_at}
 use Rattle.solver.proofs.open_intervals.OpenIntervals.cut_again.Goals as goal
 
 pub cut-requires-clause-ordered : goal.cut-requires-clause-ordered

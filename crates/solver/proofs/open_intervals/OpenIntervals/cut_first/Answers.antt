@@ -1,7 +1,7 @@
 use Rattle.std.proofs.Common.{rules, ◌≡◌, true, sym, subst}
-use Rattle.solver.specs.Searching.{is_ordered}
-use Rattle.solver.proofs.Branching.{ordered_at}
-use Rattle.solver.proofs.Sifting.{index_below, counts_in, counts_out, fewer_left, nearer, if_none, none_open}
+use Rattle.solver.specs.code.Searching.{is_ordered}
+use Rattle.solver.proofs.cutting.Branching.{ordered_at}
+use Rattle.solver.proofs.cutting.Sifting.{index_below, counts_in, counts_out, fewer_left, nearer, if_none, none_open}
 use Rattle.solver.proofs.open_intervals.OpenIntervals.cut_first.Goals as goal
 
 pub cut-requires-clause-ordered : goal.cut-requires-clause-ordered

@@ -1,7 +1,7 @@
 use Rattle.std.proofs.Common.{◌≡◌, ◌-◌, None}
 use Rattle.std.specs.Prelude.{IfSome}
-use Rattle.solver.specs.OpenIntervals.{IsOpenList, Sifts}
-use Rattle.solver.specs.Searching.{CutsRegion}
+use Rattle.solver.specs.code.OpenIntervals.{IsOpenList, Sifts}
+use Rattle.solver.specs.code.Searching.{CutsRegion}
 use Rattle.solver.proofs.open_intervals.OpenIntervals.cut_first.Given as goal
 
 abbrev pub invariant-places : goal.invariant-places

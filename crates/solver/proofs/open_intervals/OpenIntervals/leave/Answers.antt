@@ -1,4 +1,4 @@
-use Rattle.solver.proofs.Sifting.{leaves_by}
+use Rattle.solver.proofs.cutting.Sifting.{leaves_by}
 use Rattle.solver.proofs.open_intervals.OpenIntervals.leave.Goals as goal
 
 pub returns : goal.returns

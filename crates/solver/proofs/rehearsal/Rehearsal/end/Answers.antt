@@ -1,9 +1,9 @@
 use Rattle.std.proofs.Common.{sym, subst, ◌∙◌}
 use Rattle.kernel.specs.Steps.{best_of}
-use Rattle.engine.specs.Engines.{AreQuiet}
+use Rattle.engine.specs.code.Engines.{AreQuiet}
 use Rattle.solver.specs.declared.state.Search.{Search}
-use Rattle.solver.specs.Searching.{Closes, is_failed}
-use Rattle.solver.proofs.Ending.{ends_refute, quiet_split}
+use Rattle.solver.specs.code.Searching.{Closes, is_failed}
+use Rattle.solver.proofs.logged.Ending.{ends_refute, quiet_split}
 use Rattle.solver.proofs.rehearsal.Rehearsal.end.Goals as goal
 
 pub closing-requires-clause-stop : goal.closing-requires-clause-stop

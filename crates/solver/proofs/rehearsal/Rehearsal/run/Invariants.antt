@@ -1,5 +1,5 @@
 use Rattle.std.proofs.Common.{◌≡◌}
-use Rattle.solver.specs.Searching.{IsReady}
+use Rattle.solver.specs.code.Searching.{IsReady}
 use Rattle.solver.proofs.rehearsal.Rehearsal.run.Given as goal
 
 abbrev pub invariant-loop-n : goal.invariant-loop-n

@@ -1,5 +1,5 @@
 use Rattle.kernel.specs.Steps.{best_of}
-use Rattle.solver.proofs.Keeping.{adopted_ready}
+use Rattle.solver.proofs.kept.Keeping.{adopted_ready}
 use Rattle.solver.proofs.state.Search.adopt.Goals as goal
 
 pub returns-clause-ready : goal.returns-clause-ready

@@ -1,10 +1,10 @@
 use Rattle.std.proofs.Common.{rules, ◌≡◌, ◌<◌, refl, sym, ap, subst, true≢false}
 use Rattle.region.specs.Guesses.{turned}
 use Rattle.kernel.specs.Steps.{best_of}
-use Rattle.engine.specs.Engines.{IsCalm}
+use Rattle.engine.specs.code.Engines.{IsCalm}
 use Rattle.solver.specs.declared.state.Search.{Search}
-use Rattle.solver.specs.Searching.{IsReady}
-use Rattle.solver.proofs.Keeping.{none_behind, back_to, back_ready, none_in}
+use Rattle.solver.specs.code.Searching.{IsReady}
+use Rattle.solver.proofs.kept.Keeping.{none_behind, back_to, back_ready, none_in}
 use Rattle.solver.proofs.state.Search.back.Goals as goal
 
 pub returns-in_default-clause-left : goal.returns-in_default-clause-left

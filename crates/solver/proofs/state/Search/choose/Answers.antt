@@ -1,7 +1,7 @@
 use Rattle.std.proofs.Common.{sym, subst}
 use Rattle.region.specs.Looks.{Seen}
-use Rattle.solver.specs.OpenIntervals.{OpenList, IsOpenList, Sifts}
-use Rattle.solver.proofs.Keeping.{sifted_ready}
+use Rattle.solver.specs.code.OpenIntervals.{OpenList, IsOpenList, Sifts}
+use Rattle.solver.proofs.kept.Keeping.{sifted_ready}
 use Rattle.solver.proofs.state.Search.choose.Goals as goal
 
 pub returns-clause-ready : goal.returns-clause-ready

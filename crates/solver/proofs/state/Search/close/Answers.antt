@@ -1,5 +1,5 @@
 use Rattle.std.proofs.Common.{◌+◌}
-use Rattle.solver.proofs.Keeping.{counted_ready}
+use Rattle.solver.proofs.kept.Keeping.{counted_ready}
 use Rattle.solver.proofs.state.Search.close.Goals as goal
 
 pub returns-in-Split-clause-ready : goal.returns-in-Split-clause-ready

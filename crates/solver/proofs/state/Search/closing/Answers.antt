@@ -1,8 +1,8 @@
 use Rattle.std.proofs.Common.{ap}
 use Rattle.kernel.specs.Steps.{best_of}
-use Rattle.engine.specs.Engines.{AreQuiet}
-use Rattle.solver.specs.Searching.{is_failed}
-use Rattle.solver.proofs.Ending.{unless_failed}
+use Rattle.engine.specs.code.Engines.{AreQuiet}
+use Rattle.solver.specs.code.Searching.{is_failed}
+use Rattle.solver.proofs.logged.Ending.{unless_failed}
 use Rattle.solver.proofs.state.Search.closing.Goals as goal
 
 pub leave-requires-clause-quiet : goal.leave-requires-clause-quiet

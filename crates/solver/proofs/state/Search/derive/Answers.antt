@@ -1,14 +1,14 @@
 use Rattle.std.proofs.Common.{sym, subst}
-use Rattle.kernel.specs.Pending.{after_saved}
-use Rattle.engine.specs.Engines.{IsCalm, AreQuiet}
+use Rattle.kernel.specs.code.Pending.{after_saved}
+use Rattle.engine.specs.code.Engines.{IsCalm, AreQuiet}
 use Rattle.engine.specs.declared.stops.EngineFault.TheVariants as fault
-use Rattle.solver.specs.Faults.{passed_on}
+use Rattle.solver.specs.code.Faults.{passed_on}
 use Rattle.solver.specs.declared.state.Search.{Search}
-use Rattle.solver.specs.Searching.{QuietUnlessFailed, IsSpent, IsAtNode}
-use Rattle.solver.proofs.Deriving.{ArePlaces, err_is, derived_to, broke_stops, engine_causes, spent_by, derive_stops, node_with}
-use Rattle.solver.proofs.Ending.{settled_quiet}
-use Rattle.solver.proofs.Fixing.{derives_keep}
-use Rattle.solver.proofs.Keeping.{derived_ready}
+use Rattle.solver.specs.code.Searching.{QuietUnlessFailed, IsSpent, IsAtNode}
+use Rattle.solver.proofs.logged.Deriving.{ArePlaces, err_is, derived_to, broke_stops, engine_causes, spent_by, derive_stops, node_with}
+use Rattle.solver.proofs.logged.Ending.{settled_quiet}
+use Rattle.solver.proofs.cutting.Fixing.{derives_keep}
+use Rattle.solver.proofs.kept.Keeping.{derived_ready}
 use Rattle.solver.proofs.state.Search.derive.Goals as goal
 
 pub returns-in_err-run-clause-derived : goal.returns-in_err-run-clause-derived

@@ -1,9 +1,9 @@
 use Rattle.std.proofs.Common.{ap, ◌∙◌}
 use Rattle.region.specs.Looks.{Seen}
 use Rattle.kernel.specs.Steps.{best_of}
-use Rattle.solver.specs.Leaves.{settled_assignment}
-use Rattle.solver.proofs.Ending.{settled_closes}
-use Rattle.solver.proofs.Keeping.{chosen_is}
+use Rattle.solver.specs.code.Leaves.{settled_assignment}
+use Rattle.solver.proofs.logged.Ending.{settled_closes}
+use Rattle.solver.proofs.kept.Keeping.{chosen_is}
 use Rattle.solver.proofs.state.Search.leave.Goals as goal
 
 pub returns : goal.returns

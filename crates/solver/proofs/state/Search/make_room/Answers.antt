@@ -1,8 +1,8 @@
 use Rattle.std.proofs.Common.{sym, subst}
-use Rattle.region.specs.Held.{Held}
+use Rattle.region.specs.code.Held.{Held}
 use Rattle.solver.specs.declared.state.Search.{Search}
-use Rattle.solver.specs.Searching.{IsReady}
-use Rattle.solver.proofs.Keeping.{roomy_ready}
+use Rattle.solver.specs.code.Searching.{IsReady}
+use Rattle.solver.proofs.kept.Keeping.{roomy_ready}
 use Rattle.solver.proofs.state.Search.make_room.Goals as goal
 
 pub returns-clause-ready : goal.returns-clause-ready

@@ -1,5 +1,5 @@
 use Rattle.std.proofs.Common.{◌≡◌, true}
-use Rattle.solver.specs.Searching.{IsReady, IsLogged, state_in}
+use Rattle.solver.specs.code.Searching.{IsReady, IsLogged, state_in}
 use Rattle.solver.proofs.state.Search.run.Given as goal
 
 abbrev pub invariant-loop-n : goal.invariant-loop-n

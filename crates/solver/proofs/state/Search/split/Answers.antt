@@ -1,9 +1,9 @@
 use Rattle.std.proofs.Common.{rules, ◌≡◌, refl, sym, subst}
 use Rattle.region.specs.Guesses.{turned}
-use Rattle.engine.specs.Engines.{AreQuiet}
+use Rattle.engine.specs.code.Engines.{AreQuiet}
 use Rattle.kernel.specs.Steps.{best_of}
 use Rattle.solver.specs.declared.mark.Mark.{Mark}
-use Rattle.solver.proofs.Keeping.{split_ready, split_of}
+use Rattle.solver.proofs.kept.Keeping.{split_ready, split_of}
 use Rattle.solver.proofs.state.Search.split.Goals as goal
 
 pub returns-clause-ready : goal.returns-clause-ready

@@ -1,12 +1,12 @@
 use Rattle.std.proofs.Common.{◌≡◌, Ok, sym, subst, ◌∙◌, true≢false}
 use Rattle.kernel.specs.Steps.{best_of, step_at}
-use Rattle.engine.specs.Engines.{AreQuiet}
+use Rattle.engine.specs.code.Engines.{AreQuiet}
 use Rattle.engine.specs.Plain.{refutes_plain}
 use Rattle.solver.specs.declared.fault.SolveFault.TheVariants.{Fault, NoMemory}
 use Rattle.solver.specs.declared.state.Search.{Search}
-use Rattle.solver.specs.Searching.{Closes, between, is_failed, node_in, state_in}
-use Rattle.solver.proofs.Deriving.{ArePlaces, visit_stops, closed_to, closed_break, causes_from}
-use Rattle.solver.proofs.Ending.{closes_line, closes_ends, closes_well, closes_step, spent_well, quiet_split}
+use Rattle.solver.specs.code.Searching.{Closes, between, is_failed, node_in, state_in}
+use Rattle.solver.proofs.logged.Deriving.{ArePlaces, visit_stops, closed_to, closed_break, causes_from}
+use Rattle.solver.proofs.logged.Ending.{closes_line, closes_ends, closes_well, closes_step, spent_well, quiet_split}
 use Rattle.solver.proofs.state.Search.visit.Goals as goal
 
 pub returns-in_err-stop-clause-logged : goal.returns-in_err-stop-clause-logged

@@ -1,5 +1,5 @@
 use Rattle.std.proofs.Common.{subst}
-use Rattle.thetatree.specs.Leaves.{Leaves, GivesEct}
+use Rattle.thetatree.specs.code.Leaves.{Leaves, GivesEct}
 use Rattle.thetatree.proofs.Tops.{top_gives_ect}
 use Rattle.thetatree.proofs.tree.ThetaTree.ect.Goals as goal
 

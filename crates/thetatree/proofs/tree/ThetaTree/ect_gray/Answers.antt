@@ -1,6 +1,6 @@
 use Rattle.std.proofs.Common.{◌≡◌, rules, sym, subst}
 use Rattle.std.specs.Option.{option_map}
-use Rattle.thetatree.specs.Leaves.{Leaves, GivesEctGray}
+use Rattle.thetatree.specs.code.Leaves.{Leaves, GivesEctGray}
 use Rattle.thetatree.proofs.Tops.{answer_of, top_gives_gray}
 use Rattle.thetatree.proofs.tree.ThetaTree.ect_gray.Goals as goal
 

@@ -1,8 +1,8 @@
 use Rattle.std.proofs.Common.{◌≡◌, ◌+◌, arith, rules, sym, ap, subst, ◌<◌, ◌∙◌, length, length-set}
 use Rattle.std.specs.Prelude.{slice_set}
-use Rattle.thetatree.specs.Leaves.{Leaves, task_at}
-use Rattle.thetatree.specs.Nodes.{leaf_node}
-use Rattle.thetatree.specs.Trees.{node_at, AreSmall, IsTree}
+use Rattle.thetatree.specs.code.Leaves.{Leaves, task_at}
+use Rattle.thetatree.specs.code.Nodes.{leaf_node}
+use Rattle.thetatree.specs.code.Trees.{node_at, AreSmall, IsTree}
 use Rattle.thetatree.proofs.Writes.{JoinBut, joins_leaf, whole, painted, leaf_is, paint_small}
 use Rattle.thetatree.proofs.tree.ThetaTree.paint.Goals as goal
 

@@ -1,5 +1,5 @@
 use Rattle.std.proofs.Common.{◌≡◌, inl, inr, ℕ, ◌<◌, List, [], get_or, slice_get, length, subst, sym, ap, ◌∙◌, arith, rules}
-use Rattle.wake_levels.specs.Queues.{lists_of}
+use Rattle.wake_levels.specs.code.Queues.{lists_of}
 use Rattle.wake_levels.proofs.Queueing.{turn_at, no_turn, list_at, below_at, lists_count, first_below, empty_list}
 use Rattle.wake_levels.proofs.levels.WakeLevels.first.Goals as goal
 use Rattle.base_laws.specs.laws.Numbers.{below_or_last}

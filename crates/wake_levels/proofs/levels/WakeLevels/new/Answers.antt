@@ -1,6 +1,6 @@
 use Rattle.std.proofs.Common.{◌<◌, List, [], length, subst, sym, ap, ◌∙◌}
-use Rattle.iqueue.specs.Queue.{Queue}
-use Rattle.wake_levels.specs.Queues.{lists_of, AreBelow}
+use Rattle.iqueue.specs.code.Queue.{Queue}
+use Rattle.wake_levels.specs.code.Queues.{lists_of, AreBelow}
 use Rattle.wake_levels.proofs.Queueing.{below_all, some_all, lists_all, waking}
 use Rattle.wake_levels.proofs.levels.WakeLevels.new.Goals as goal
 

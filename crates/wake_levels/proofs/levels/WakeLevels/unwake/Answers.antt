@@ -1,7 +1,7 @@
 use Rattle.std.proofs.Common.{◌≡◌, map, subst, sym, ap, ◌∙◌, rules}
 use Rattle.std.proofs.lemmas.List.{with_items_is}
 use Rattle.std.specs.Vec.{with_items}
-use Rattle.wake_levels.specs.Queues.{lists_of, AreBelow, queue_without}
+use Rattle.wake_levels.specs.code.Queues.{lists_of, AreBelow, queue_without}
 use Rattle.wake_levels.proofs.Queueing.{lists_without, below_without, some_without, waking}
 use Rattle.wake_levels.proofs.levels.WakeLevels.unwake.Goals as goal
 

@@ -1,6 +1,6 @@
 use Rattle.std.proofs.Common.{◌≡◌, ◌<◌, ℕ, length, subst, sym, ap, ◌∙◌, arith, rules}
-use Rattle.iqueue.specs.Queue.{Queue}
-use Rattle.wake_levels.specs.Queues.{lists_of}
+use Rattle.iqueue.specs.code.Queue.{Queue}
+use Rattle.wake_levels.specs.code.Queues.{lists_of}
 use Rattle.wake_levels.proofs.Queueing.{woken_at, below_at, below_set, some_queues, lists_count, waking}
 use Rattle.wake_levels.proofs.levels.WakeLevels.wake.Goals as goal
 

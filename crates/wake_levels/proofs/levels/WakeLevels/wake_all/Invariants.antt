@@ -1,6 +1,6 @@
 use Rattle.std.proofs.Common.{◌≡◌, ◌<◌, ℕ, length}
 use Rattle.std.specs.Prelude.{IsTrue}
-use Rattle.wake_levels.specs.Waking.{is_awake}
+use Rattle.wake_levels.specs.code.Waking.{is_awake}
 use Rattle.wake_levels.proofs.levels.WakeLevels.wake_all.Given as goal
 
 abbrev pub invariant-loop-k : goal.invariant-loop-k

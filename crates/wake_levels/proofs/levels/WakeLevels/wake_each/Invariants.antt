@@ -1,5 +1,5 @@
 use Rattle.std.proofs.Common.{take}
-use Rattle.wake_levels.specs.Calm.{WakesEach}
+use Rattle.wake_levels.specs.code.Calm.{WakesEach}
 use Rattle.wake_levels.proofs.levels.WakeLevels.wake_each.Given as goal
 
 abbrev pub invariant-loop-k : goal.invariant-loop-k

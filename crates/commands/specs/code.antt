@@ -1,0 +1,3 @@
+pub mod AnswersVerify
+pub mod Stops
+pub mod Tries

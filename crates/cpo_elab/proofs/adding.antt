@@ -1,0 +1,9 @@
+pub mod Capped
+pub mod Extends
+pub mod Gained
+pub mod Growing
+pub mod Grown
+pub mod Kept
+pub mod Lists
+pub mod Parted
+pub mod Rooms

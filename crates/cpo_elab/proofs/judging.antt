@@ -1,0 +1,15 @@
+pub mod Clear
+pub mod Defined
+pub mod Defining
+pub mod Determined
+pub mod Facts
+pub mod Given
+pub mod OnlyWords
+pub mod Spelt
+pub mod Stated
+pub mod Stepped
+pub mod Told
+pub mod Total
+pub mod Truth
+pub mod Valid
+pub mod Written

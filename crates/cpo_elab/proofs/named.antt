@@ -1,0 +1,10 @@
+pub mod Alike
+pub mod Distinct
+pub mod Entries
+pub mod Ids
+pub mod InPlace
+pub mod Inserted
+pub mod Meanings
+pub mod NumberedValid
+pub mod Places
+pub mod Tables

@@ -1,0 +1,3 @@
+pub mod Adding
+pub mod PartsAgain
+pub mod PartsTaken

@@ -1,0 +1,4 @@
+pub mod Ivargs
+pub mod Listed
+pub mod Listing
+pub mod Ones

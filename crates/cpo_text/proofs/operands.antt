@@ -1,0 +1,11 @@
+pub mod Binds
+pub mod Climbs
+pub mod Ends
+pub mod Nodes
+pub mod Onwards
+pub mod Openings
+pub mod Owns
+pub mod Takes
+pub mod Takings
+pub mod Took
+pub mod Turns

@@ -1,0 +1,14 @@
+pub mod Answered
+pub mod Classes
+pub mod Closing
+pub mod Covers
+pub mod Determined
+pub mod Digits
+pub mod Fronts
+pub mod Gaps
+pub mod Lone
+pub mod Pieces
+pub mod Scans
+pub mod Shorts
+pub mod Steps
+pub mod Walks

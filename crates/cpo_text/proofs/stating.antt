@@ -1,0 +1,10 @@
+pub mod Again
+pub mod Called
+pub mod Firsts
+pub mod Forms
+pub mod Recalled
+pub mod Rereads
+pub mod Spells
+pub mod Spelt
+pub mod Surveyed
+pub mod Tables

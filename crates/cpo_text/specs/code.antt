@@ -1,0 +1,13 @@
+pub mod CallWords
+pub mod Calls
+pub mod Contributions
+pub mod Gives
+pub mod Laws
+pub mod Levels
+pub mod Lexing
+pub mod Lists
+pub mod Onward
+pub mod Places
+pub mod Rules
+pub mod Statements
+pub mod Surveys

@@ -1,0 +1,3 @@
+mod Alike
+mod Deserved
+mod Judged

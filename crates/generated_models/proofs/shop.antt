@@ -1,0 +1,7 @@
+mod Apart
+mod Lists
+mod Looked
+mod Objective
+mod ShopValid
+mod ShopWritten
+mod Sizes

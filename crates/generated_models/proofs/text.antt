@@ -1,0 +1,6 @@
+mod Bytes
+mod Names
+mod Said
+mod SaidShops
+mod Shallow
+mod ShopSaid

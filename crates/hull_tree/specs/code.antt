@@ -1,0 +1,4 @@
+pub mod Atoms
+pub mod Meaning
+pub mod Nodes
+pub mod Trees

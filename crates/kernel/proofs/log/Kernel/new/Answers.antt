@@ -1,5 +1,0 @@
-use Rattle.kernel.proofs.Readies.{new_ready}
-use Rattle.kernel.proofs.log.Kernel.new.Goals as goal
-
-pub returns-clause-ready : goal.returns-clause-ready
-returns-clause-ready g c = new_ready c.args.model.now c.open.result c.open.ensures.state c.open.ensures.valid

@@ -1,7 +1,0 @@
-use Rattle.kernel.specs.Refuting.{refutes_with}
-use Rattle.kernel.proofs.Readies.{gives_keeps, sound_with}
-use Rattle.kernel.proofs.log.Kernel.step.Goals as goal
-
-pub returns-clause-ready : goal.returns-clause-ready
-returns-clause-ready g c = gives_keeps c.args.model.now (refutes_with g.X.Refuter.refuting) _ c.args.self.now _ c.args.line
-    (sound_with c.args.model.now g.X.Refuter.refuting (g.met.X.Refuter.sound c.args.model.now)) c.apply.ensures.step c.requires.ready

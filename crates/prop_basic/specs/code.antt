@@ -1,0 +1,4 @@
+pub mod Goals
+pub mod Ready
+pub mod Tables
+pub mod Tasks

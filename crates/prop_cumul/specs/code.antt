@@ -1,0 +1,5 @@
+pub mod Asking
+pub mod Extra
+pub mod Silence
+pub mod Tables
+pub mod Tasks

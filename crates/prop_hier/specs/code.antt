@@ -1,0 +1,9 @@
+pub mod Counts
+pub mod Few
+pub mod Possible
+pub mod Presences
+pub mod Ready
+pub mod Related
+pub mod Rows
+pub mod Tables
+pub mod Tasks

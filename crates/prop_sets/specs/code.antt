@@ -1,0 +1,9 @@
+pub mod Busy
+pub mod Given
+pub mod Known
+pub mod Orders
+pub mod Reordered
+pub mod Rows
+pub mod Sides
+pub mod Tables
+pub mod Tasks

@@ -1,0 +1,4 @@
+pub mod Silence
+pub mod Tables
+pub mod Tasks
+pub mod Walks

@@ -1,0 +1,51 @@
+-- Heights of points, as they are kept and with the two points of one interval set.
+use Rattle.std.specs.Prelude.{◌≡◌, ◌⊎◌, ℕ, ◌+◌, ◌*◌, ◌<◌, ℤ, pos, ◌+ℤ◌, ◌≤ℤ◌, Bool, true, List, [], length, get_or, Some, slice_get, nat_eq, if◌then◌else◌}
+use Rattle.std.specs.List.{list_any}
+use Rattle.sched_base.specs.declared.ids.Itv.{Itv}
+use Rattle.sched_model.specs.Data.{Data, has}
+use Rattle.region.specs.Cells.{Region}
+use Rattle.cycles.specs.code.Walks.{arc_at}
+use Rattle.refute_basic.specs.declared.edge.Arc.{Arc as Edge}
+use Rattle.refute_basic.specs.declared.arc_name.ArcName.{ArcName}
+use Rattle.refute_basic.specs.Cycle.{edge_of}
+use Rattle.prop_temporal.specs.code.Members.{touched_by}
+use Rattle.prop_temporal.specs.code.Shown.{Shown, HasTried, OfConstraint, OfOne}
+
+abbrev pub height_in : List ℤ → ℕ → ℤ
+height_in hs p = get_or hs p (pos 0)
+
+abbrev pub height_with : List ℤ → ℕ → ℤ → ℤ → ℕ → ℤ
+height_with hs x start end p = if nat_eq p (2 * x) then start else if nat_eq p (2 * x + 1) then end else height_in hs p
+
+-- along each of these arcs the height falls by its weight at least
+abbrev pub AllKeep : (ℕ → ℤ) → List Edge → Type 0
+AllKeep h arcs = (k : ℕ) → k < length arcs → ((arc_at arcs k).weight +ℤ h (arc_at arcs k).head) ≤ℤ h (arc_at arcs k).tail
+
+-- the constraints between whose intervals each interval is
+abbrev pub is_touched : List (List ℕ) → ℕ → ℕ → Bool
+is_touched ts x c = list_any (λ k. nat_eq c k) (get_or ts x [])
+
+pub record AreTouched (m : Data) (ts : List (List ℕ)) : Type 0 where
+  pub size : length ts ≡ length m.intervals
+  pub each : (x : Itv) (c : ℕ) → x.0 < length m.intervals → has (touched_by m (slice_get m.constraints c)) x ≡ true → is_touched ts x.0 c ≡ true
+
+-- the names of the arcs of one interval
+abbrev pub IsOwn : ℕ → List ℕ → ArcName → Type 0
+IsOwn x cs i = (OfOne x i × (list_any (λ k. nat_eq i.x k) cs ≡ true)) ⊎ ((OfConstraint i → ⊥) × (i.x ≡ x))
+
+-- along each of them the height falls
+pub record OwnKeep (m : Data) (r : Region) (x : ℕ) (cs : List ℕ) (hs : List ℤ) : Type 0 where
+  pub start : ℤ
+  pub end : ℤ
+  pub keep : (i : ArcName) (e : Edge) → IsOwn x cs i → edge_of m r i ≡ Some e → (e.weight +ℤ height_with hs x start end e.head) ≤ℤ height_with hs x start end e.tail
+
+-- the arcs between present intervals, heights, and whether these are known to fall along those
+pub record Kept : Type 0 where
+  pub present : Shown
+  pub heights : List ℤ
+  pub held : Bool
+
+pub record IsReady (m : Data) (r : Region) (w : Kept) : Type 0 where
+  pub tried : HasTried m r (length m.constraints) (length r.bounds) w.present
+  pub size : length w.heights ≡ 2 * length r.bounds
+  pub keep : w.held ≡ true → AllKeep (height_in w.heights) w.present.arcs

@@ -1,0 +1,65 @@
+-- Where PAIR of two members is silent, by their numbers and their order alone.
+use Rattle.std.specs.Prelude.{◌≡◌, ℕ, ◌<◌, ℤ, pos, ◌+ℤ◌, Bool, true, not, ◌&&◌, ◌||◌, List, length, slice_index_or, Option, Some, slice_get, int_le}
+use Rattle.std.specs.Int.{int_max}
+use Rattle.sched_base.specs.declared.ids.Itv.{Itv}
+use Rattle.sched_base.specs.declared.ids.Seq.{Seq}
+use Rattle.sched_base.specs.declared.ids.Mat.{Mat}
+use Rattle.sched_model.specs.declared.types.Constraint.TheVariants.{NoOverlap}
+use Rattle.sched_model.specs.Data.{Data, gap}
+use Rattle.region.specs.declared.types.Bounds.{Bounds}
+use Rattle.region.specs.declared.types.OrderCell.{OrderCell}
+use Rattle.region.specs.declared.types.OrderCell.TheVariants.{Unknown, Forward, Backward}
+use Rattle.region.specs.Orders.{order_in}
+use Rattle.region.specs.Cells.{Region, bounds_of, cells_of, says_present, says_absent}
+use Rattle.findings.specs.declared.ends.Ends.{Ends}
+use Rattle.findings.specs.code.Numbers.{ends_of}
+use Rattle.refute_seq.specs.declared.witness.SeqWitness.TheVariants.{Pair}
+use Rattle.prop_unary.specs.declared.disjunctive.Disjunctive.{Disjunctive}
+use Rattle.prop_unary.specs.code.Tasks.{IsSilent}
+use Rattle.prop_unary.specs.code.Circles.{EachOf}
+
+-- a constraint without overlap, by its number
+abbrev pub IsDisjunctive : Data → Disjunctive → Type 0
+IsDisjunctive m d = slice_get m.constraints d.c ≡ Some (NoOverlap d.p d.matrix d.direct)
+
+-- one that stands before another isn't too late for it, under no guess on either of them
+abbrev pub are_in_time : Ends → Ends → ℤ → Bool
+are_in_time c d n = (not (says_present c.presence) || int_le (c.ect +ℤ n) d.lowest_start)
+    && (not (says_present d.presence) || int_le (c.highest_end +ℤ n) d.lst)
+
+-- n is the greatest distance that binds. Where the order is open only a guess on it can be refuted
+abbrev pub are_silent_ends : OrderCell → Ends → Ends → ℤ → Bool
+are_silent_ends Unknown c d n = int_le (c.ect +ℤ n) d.lst
+are_silent_ends Forward c d n = are_in_time c d n
+are_silent_ends Backward c d n = true
+
+abbrev pub stays_in_time : Bounds → Bounds → ℤ → Bool
+stays_in_time c d n = are_in_time (ends_of c) (ends_of d) n
+
+abbrev pub is_silent_order : OrderCell → Bounds → Bounds → ℤ → Bool
+is_silent_order o c d n = are_silent_ends o (ends_of c) (ends_of d) n
+
+abbrev pub is_silent_two : OrderCell → Bounds → Bounds → ℤ → Bool
+is_silent_two o c d n = says_absent c.presence || says_absent d.presence || is_silent_order o c d n
+
+-- the numbers of the members of a list, at their places
+abbrev pub AreEnds : Region → List Itv → List Ends → Type 0
+AreEnds r xs es = (k : ℕ) → k < length xs → (d : Ends) (e : Itv) → slice_index_or es k d ≡ ends_of (bounds_of r (slice_index_or xs k e))
+
+-- the distance of either case: 0, or what the sequence keeps
+abbrev pub reach : Data → Seq → Option Mat → Itv → Itv → ℤ
+reach m p matrix a b = int_max (pos 0) (gap m p matrix a b)
+
+abbrev pub is_silent_pair : Data → Region → Disjunctive → Itv → Itv → Bool
+is_silent_pair m r d a b = is_silent_two (order_in (cells_of r d.p) a b) (bounds_of r a) (bounds_of r b) (reach m d.p d.matrix a b)
+
+-- both cases of PAIR are silent of two members, and where the order of two is as it is asked for
+abbrev pub AreSilent : Data → Region → Option ℤ → Disjunctive → Itv → Itv → Type 0
+AreSilent m r best d a b = (k : ℕ) → IsSilent m r best (Pair d.c a.0 b.0 k)
+
+abbrev pub AreSilentWhere : Data → Region → Option ℤ → Disjunctive → OrderCell → Itv → Itv → Type 0
+AreSilentWhere m r best d o a b = order_in (cells_of r d.p) a b ≡ o → AreSilent m r best d a b
+
+-- the same of one member and each of a list
+abbrev pub SilentRow : Data → Region → Option ℤ → Disjunctive → OrderCell → List Itv → Itv → Type 0
+SilentRow m r best d o xs a = EachOf (AreSilentWhere m r best d o a) xs

@@ -1,0 +1,9 @@
+pub mod Bytes
+pub mod Follows
+pub mod Forms
+pub mod Numbers
+pub mod Pieces
+pub mod Reads
+pub mod Runs
+pub mod Tokens
+pub mod Words

@@ -1,0 +1,9 @@
+pub mod Constraints
+pub mod Definitions
+pub mod Functions
+pub mod Joined
+pub mod Lines
+pub mod Numbers
+pub mod Rows
+pub mod Uses
+pub mod Whole

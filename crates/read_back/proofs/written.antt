@@ -1,0 +1,10 @@
+pub mod Clear
+pub mod Defined
+pub mod Exprs
+pub mod Fine
+pub mod Halves
+pub mod Models
+pub mod Names
+pub mod Places
+pub mod Stated
+pub mod Texts

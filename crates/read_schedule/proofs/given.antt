@@ -1,0 +1,3 @@
+pub mod Assignments
+pub mod Defs
+pub mod Standing

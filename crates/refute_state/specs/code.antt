@@ -1,0 +1,3 @@
+pub mod Canonical
+pub mod Gathered
+pub mod Groups

@@ -1,0 +1,6 @@
+pub mod Cells
+pub mod Elements
+pub mod Joined
+pub mod Lists
+pub mod Orders
+pub mod Valued

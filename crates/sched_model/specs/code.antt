@@ -1,0 +1,4 @@
+pub mod Model
+pub mod Names
+pub mod Saturated
+pub mod Sweep

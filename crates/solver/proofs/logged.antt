@@ -1,0 +1,6 @@
+pub mod Answering
+pub mod Closing
+pub mod Deriving
+pub mod Ending
+pub mod Fitting
+pub mod Whole

@@ -1,0 +1,7 @@
+pub mod Faults
+pub mod Leaves
+pub mod Marks
+pub mod OpenIntervals
+pub mod Putting
+pub mod Searching
+pub mod Solving

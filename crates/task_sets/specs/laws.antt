@@ -1,0 +1,13 @@
+pub mod Back
+pub mod Cuts
+pub mod Ects
+pub mod EdgeCuts
+pub mod Laws
+pub mod Mirror
+pub mod Moved
+pub mod NotEndCuts
+pub mod Placing
+pub mod Sound
+pub mod Standing
+pub mod Sums
+pub mod Witnesses

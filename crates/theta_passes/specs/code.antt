@@ -1,0 +1,7 @@
+pub mod Edge
+pub mod Late
+pub mod Over
+pub mod Parts
+pub mod Quiet
+pub mod Rows
+pub mod Witnesses

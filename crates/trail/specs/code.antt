@@ -1,0 +1,4 @@
+pub mod Chain
+pub mod Entries
+pub mod Log
+pub mod Trail
