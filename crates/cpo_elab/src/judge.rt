@@ -12,7 +12,7 @@ use crate::factors::{Factor, factor_of};
 use crate::fits::{has_twice, misfits};
 use crate::flaws::{has_negative, has_reversed};
 use crate::limits::passes_limit;
-use crate::number;
+use crate::refusal_numbers;
 use crate::uses::{defines_again, uses_unknown, uses_wrong};
 use cpo_text::{Constrained, Logic, Statement};
 use sched_base::NoMemory;
@@ -95,16 +95,16 @@ fn late_number(draft: &Draft, before: u32, s: &Statement, written: &Option<Expr>
     ensures { result ≡ first_of ((passes_limit draft.now (before + 1) s.now, 11) ∷ (aims_again draft.now s.now, 12) ∷ (has_no_hull draft.now s.now, 13) ∷ (has_crowded s.now, 14) ∷ []) }
 {
     if passes_limit(draft, before, s, written) {
-        return Some(number::LIMIT_PASSED);
+        return Some(refusal_numbers::LIMIT_PASSED);
     }
     if aims_again(draft, s) {
-        return Some(number::SECOND_OBJECTIVE);
+        return Some(refusal_numbers::SECOND_OBJECTIVE);
     }
     if has_no_hull(draft, s, written) {
-        return Some(number::NO_HULL);
+        return Some(refusal_numbers::NO_HULL);
     }
     if has_crowded(s) {
-        return Some(number::TWO_FACTORS);
+        return Some(refusal_numbers::TWO_FACTORS);
     }
     None
 }
@@ -120,25 +120,25 @@ pub fn number_in(
     ensures { IfOk result (λ o. o ≡ number_in draft.now (before + 1) s.now) }
 {
     if defines_again(draft, s) {
-        return Ok(Some(number::DEFINED_AGAIN));
+        return Ok(Some(refusal_numbers::DEFINED_AGAIN));
     }
     if uses_unknown(draft, s) {
-        return Ok(Some(number::UNKNOWN_NAME));
+        return Ok(Some(refusal_numbers::UNKNOWN_NAME));
     }
     if uses_wrong(draft, s) {
-        return Ok(Some(number::WRONG_NAME));
+        return Ok(Some(refusal_numbers::WRONG_NAME));
     }
     if has_reversed(s) {
-        return Ok(Some(number::REVERSED_PAIR));
+        return Ok(Some(refusal_numbers::REVERSED_PAIR));
     }
     if has_negative(s) {
-        return Ok(Some(number::NEGATIVE_AMOUNT));
+        return Ok(Some(refusal_numbers::NEGATIVE_AMOUNT));
     }
     if misfits(draft, s) {
-        return Ok(Some(number::MISFIT));
+        return Ok(Some(refusal_numbers::MISFIT));
     }
     if has_twice(alloc, draft, s)? {
-        return Ok(Some(number::TWICE_IN_LIST));
+        return Ok(Some(refusal_numbers::TWICE_IN_LIST));
     }
     let written = written(alloc, draft, s)?;
     Ok(late_number(draft, before, s, &written))

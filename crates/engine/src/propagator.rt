@@ -44,7 +44,7 @@ pub trait Propagator: Drop {
         requires of { is_of self.old model.now }
         requires below { k < size model.now }
         requires region { IsRegionOf model.now region.now.region }
-        ensures kept { (m : Data) → is_of self.old m → is_of self.new m }
+        ensures kept { is_of self.new model.now }
         ensures none { IfOk result (λ o. IfNone o (quiet model.now k region.now.region best)) }
         ensures some { IfOk result (λ o. IfSome o (λ f. IsFinding refutes_plain model.now region.now.region best f)) }
         ensures busy { IfOk result (λ o. IfSome o (λ f. quiet model.now k region.now.region best → ⊥)) };

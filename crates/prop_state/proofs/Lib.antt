@@ -1,2 +1,3 @@
 pub mod Asked
 pub mod Making
+pub mod Remembering

@@ -1,3 +1,4 @@
+pub mod Known
 pub mod Silence
 pub mod Tables
 pub mod Tasks

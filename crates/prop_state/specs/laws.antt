@@ -4,3 +4,4 @@ pub mod Unwatched
 pub mod Moving
 pub mod Silence
 pub mod Quieting
+pub mod Again

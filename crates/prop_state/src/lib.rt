@@ -3,6 +3,7 @@
 #![tactic(auto)]
 
 mod demands;
+mod known;
 mod pairs;
 mod parts;
 mod silence;

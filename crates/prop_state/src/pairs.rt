@@ -5,9 +5,9 @@ ghost use Rattle.findings.specs.Found.{IsFinding};
 ghost use Rattle.refute_state.specs.declared.witness.StateWitness.TheVariants as witness;
 ghost use Rattle.refute_state.specs.OnState.{refutes};
 ghost use Rattle.prop_state.specs.code.Tasks.{IsSilent, quiet};
-ghost use Rattle.prop_state.specs.code.Walks.{AreNamed, EachOf, EachTwo, IsOf, SilentTwo};
+ghost use Rattle.prop_state.specs.code.Walks.{AreAll, AreNamed, EachOf, EachTwo, IsOf, SilentTwo};
 
-use crate::demands::Named;
+use crate::demands::{Named, Noted};
 use crate::silence::may_refute_pair;
 use findings::{Finding, ask};
 use refute_state::{OnState, StateWitness};
@@ -96,24 +96,25 @@ fn ask_row(
     None
 }
 
-/// What STATE finds of some demands of a state function. It looks at each two of them once.
+/// What STATE finds of some demands of a state function, each with some others.
 pub fn ask_pairs(
     model: &Model,
     region: &Region,
     best: Option<i64>,
     k: u32,
-    cs: &[u32],
-    notes: &[Named],
+    first: &Noted<'_>,
+    second: &Noted<'_>,
 ) -> Option<Finding<StateWitness>>
     requires of { IsRegionOf model.now region.now.region }
-    requires room { length cs.now ≤ length notes.now }
-    requires noted { AreNamed model.now region.now.region k cs.now notes.now }
-    ensures none { IfNone result (EachTwo model.now region.now.region best k cs.now) }
+    requires first { AreAll model.now region.now.region k first.now.cs.now first.now.notes.now }
+    requires second { AreAll model.now region.now.region k second.now.cs.now second.now.notes.now }
+    ensures none { IfNone result (EachTwo model.now region.now.region best k first.now.cs.now second.now.cs.now) }
     ensures some { IfSome result (IsFinding refutes model.now region.now.region best) }
     ensures busy { IfSome result (λ f. quiet model.now k region.now.region best → ⊥) }
 {
-    for i in 0..cs.len() {
-        if let Some(found) = ask_row(model, region, best, k, notes[i], cs, notes) {
+    for i in 0..first.cs.len() {
+        let a = first.notes[i];
+        if let Some(found) = ask_row(model, region, best, k, a, second.cs, second.notes) {
             return Some(found);
         }
     }

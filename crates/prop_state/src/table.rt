@@ -10,26 +10,36 @@ ghost use Rattle.refute_state.specs.code.Gathered.{demands_of};
 ghost use Rattle.refute_state.specs.OnState.{refutes};
 ghost use Rattle.prop_state.specs.code.Tasks.{size_of, intervals_at, quiet, watching, watching_best, is_bound, is_bound_of};
 ghost use Rattle.prop_state.specs.code.Tables.{AreDemands, AreIntervals, IsFor};
+ghost use Rattle.prop_state.specs.code.Known.{IfKnown, AreUnknown};
+ghost use Rattle.prop_state.specs.code.Walks.{AreAll, AreAsked};
 
-use crate::demands::{NONE, Named, note_demands};
+use crate::demands::{NONE, Named, Noted, note_demands};
+use crate::known::{note_fresh, remember};
 use crate::pairs::ask_pairs;
 use crate::triples::ask_triples;
 use findings::Finding;
 use refute_state::{StateWitness, demand_at, demands_of};
-use region::Region;
+use region::{Bounds, Region};
 use sched_base::{Itv, List, NoMemory};
 use sched_model::Model;
 use std::alloc::Global;
 
 /// One propagator for each state function.
-#[derive(Debug, Drop)]
+#[derive(Drop)]
 pub struct PropState {
+    alloc: Global,
     /// The constraints that are each one's demands.
     demands: Vec<List<u32>>,
     /// Their intervals.
     intervals: Vec<List<Itv>>,
     /// Room for the demands of one, with the numbers of their intervals.
     notes: Vec<Named>,
+    /// Room for those of them that are asked again.
+    fresh: Vec<u32>,
+    others: Vec<Named>,
+    /// What was known of each one's intervals when nothing was found of them last: of demands whose
+    /// intervals are known so still, nothing is found.
+    known: Vec<Option<List<Bounds>>>,
 }
 
 impl std::marker::Model for PropState {
@@ -38,7 +48,7 @@ impl std::marker::Model for PropState {
 
     ghost Value = { Table };
 
-    ghost view = { λ p. record { demands = p.demands.items; intervals = p.intervals.items } };
+    ghost view = { λ p. record { demands = p.demands.items; intervals = p.intervals.items; known = p.known.items } };
 
     ghost invariant = { λ p. (length p.demands.items < 2 ^ 32) × HasRoom p.demands.items (length p.notes.items) };
 }
@@ -87,32 +97,87 @@ fn intervals_of_each(alloc: Global, model: &Model, n: u32) -> Result<Vec<List<It
     Ok(lists)
 }
 
-/// What STATE and STATE3 find of the demands of a state function.
+/// Nothing is remembered of so many.
+#[tactic(auto, using(crate::proofs::Remembering::none_known, crate::proofs::Remembering::none_more))]
+fn unknown(alloc: Global, n: usize) -> Result<Vec<Option<List<Bounds>>>, NoMemory>
+    ensures { IfOk result (λ v. AreUnknown n v.items) }
+{
+    let mut known = Vec::new(alloc);
+    for k in 0..n {
+        let _ = k;
+        known.push(None)?;
+    }
+    Ok(known)
+}
+
+/// What STATE and STATE3 find of some demands of a state function together with all of them.
+fn ask_fresh(
+    model: &Model,
+    region: &Region,
+    best: Option<i64>,
+    k: u32,
+    all: &Noted<'_>,
+    fresh: &Noted<'_>,
+) -> Option<Finding<StateWitness>>
+    requires of { IsRegionOf model.now region.now.region }
+    requires all { AreAll model.now region.now.region k all.now.cs.now all.now.notes.now }
+    requires fresh { AreAll model.now region.now.region k fresh.now.cs.now fresh.now.notes.now }
+    ensures none { IfNone result (AreAsked model.now region.now.region best k all.now.cs.now fresh.now.cs.now) }
+    ensures some { IfSome result (IsFinding refutes model.now region.now.region best) }
+    ensures busy { IfSome result (λ f. quiet model.now k region.now.region best → ⊥) }
+{
+    if let Some(found) = ask_pairs(model, region, best, k, fresh, all) {
+        return Some(found);
+    }
+    if let Some(found) = ask_pairs(model, region, best, k, all, fresh) {
+        return Some(found);
+    }
+    if let Some(found) = ask_triples(model, region, best, k, fresh, all, all) {
+        return Some(found);
+    }
+    if let Some(found) = ask_triples(model, region, best, k, all, fresh, all) {
+        return Some(found);
+    }
+    ask_triples(model, region, best, k, all, all, fresh)
+}
+
+/// What they find of the demands of a state function.
 fn ask_demands(
     model: &Model,
     region: &Region,
     best: Option<i64>,
     k: u32,
+    known: &Option<List<Bounds>>,
     cs: &[u32],
     notes: &mut [Named],
-) -> Option<Finding<StateWitness>>
+    fresh: &mut Vec<u32>,
+    others: &mut Vec<Named>,
+) -> Result<Option<Finding<StateWitness>>, NoMemory>
     requires of { IsRegionOf model.now region.now.region }
+    requires known { IfKnown model.now k known.now }
     requires demands { cs.now ≡ demands_of model.now k }
     requires room { length cs.now ≤ length notes.old }
     ensures same { length notes.new ≡ length notes.old }
-    ensures none { IfNone result (quiet model.now k region.now.region best) }
-    ensures some { IfSome result (IsFinding refutes model.now region.now.region best) }
-    ensures busy { IfSome result (λ f. quiet model.now k region.now.region best → ⊥) }
+    ensures noted { IfOk result (λ o. AreAll model.now region.now.region k cs.now notes.new) }
+    ensures none { IfOk result (λ o. IfNone o (quiet model.now k region.now.region best)) }
+    ensures some { IfOk result (λ o. IfSome o (IsFinding refutes model.now region.now.region best)) }
+    ensures busy { IfOk result (λ o. IfSome o (λ f. quiet model.now k region.now.region best → ⊥)) }
 {
     note_demands(model, region, k, cs, notes);
-    if let Some(found) = ask_pairs(model, region, best, k, cs, notes) {
-        return Some(found);
+    note_fresh(model, region, k, cs, notes, known, fresh, others)?;
+    if fresh.is_empty() {
+        return Ok(None);
     }
-    ask_triples(model, region, best, k, cs, notes)
+    let all = Noted { cs, notes };
+    let changed = Noted {
+        cs: fresh,
+        notes: others,
+    };
+    Ok(ask_fresh(model, region, best, k, &all, &changed))
 }
 
 impl PropState {
-    /// The propagators of a model. Only this call asks for memory, as much as there are constraints.
+    /// The propagators of a model.
     pub fn new(alloc: Global, model: &Model) -> Result<PropState, NoMemory>
         ensures { IfOk result (λ p. IsFor p model.now) }
     {
@@ -120,10 +185,15 @@ impl PropState {
         let demands = demands_of_each(alloc, model, n)?;
         let intervals = intervals_of_each(alloc, model, n)?;
         let notes = vec![in alloc; NONE; model.constraints().len()]?;
+        let known = unknown(alloc, demands.len())?;
         Ok(PropState {
+            alloc,
             demands,
             intervals,
             notes,
+            fresh: Vec::new(alloc),
+            others: Vec::new(alloc),
+            known,
         })
     }
 
@@ -141,17 +211,26 @@ impl PropState {
         model: &Model,
         region: &Region,
         best: Option<i64>,
-    ) -> Option<Finding<StateWitness>>
+    ) -> Result<Option<Finding<StateWitness>>, NoMemory>
         requires of { IsFor self.old model.now }
         requires below { k < size_of model.now }
         requires region { IsRegionOf model.now region.now.region }
-        ensures kept { (m : Data) → IsFor self.old m → IsFor self.new m }
-        ensures none { IfNone result (quiet model.now k region.now.region best) }
-        ensures some { IfSome result (IsFinding refutes model.now region.now.region best) }
-        ensures busy { IfSome result (λ f. quiet model.now k region.now.region best → ⊥) }
+        ensures kept { IsFor self.new model.now }
+        ensures none { IfOk result (λ o. IfNone o (quiet model.now k region.now.region best)) }
+        ensures some { IfOk result (λ o. IfSome o (IsFinding refutes model.now region.now.region best)) }
+        ensures busy { IfOk result (λ o. IfSome o (λ f. quiet model.now k region.now.region best → ⊥)) }
     {
-        let cs = self.demands[k as usize].as_slice();
-        ask_demands(model, region, best, k, cs, &mut self.notes)
+        let i = k as usize;
+        let cs = self.demands[i].as_slice();
+        let known = &self.known[i];
+        let (notes, fresh, others) = (&mut self.notes, &mut self.fresh, &mut self.others);
+        let Some(found) = ask_demands(model, region, best, k, known, cs, notes, fresh, others)?
+        else {
+            let now = remember(self.alloc, &self.notes, cs.len())?;
+            self.known[i] = Some(now);
+            return Ok(None);
+        };
+        Ok(Some(found))
     }
 
     /// The intervals whose presence and bounds it watches.

@@ -6,9 +6,9 @@ ghost use Rattle.refute_state.specs.declared.witness.StateWitness.TheVariants as
 ghost use Rattle.refute_state.specs.OnState.{refutes};
 ghost use Rattle.prop_state.specs.code.Tasks.{IsSilent, quiet};
 ghost use Rattle.prop_state.specs.code.Silence.{IsCovered};
-ghost use Rattle.prop_state.specs.code.Walks.{AreNamed, EachOf, EachThree, IsOf, SilentAround, SilentThree};
+ghost use Rattle.prop_state.specs.code.Walks.{AreAll, AreNamed, EachOf, EachThree, IsOf, SilentAround, SilentThree};
 
-use crate::demands::Named;
+use crate::demands::{Named, Noted};
 use crate::parts::longest_of;
 use crate::silence::{may_refute_around, may_refute_triple};
 use findings::{Finding, ask};
@@ -151,48 +151,60 @@ fn ask_row(
     k: u32,
     longest: i64,
     a: Named,
-    cs: &[u32],
-    notes: &[Named],
+    between: &Noted<'_>,
+    last: &Noted<'_>,
 ) -> Option<Finding<StateWitness>>
     requires of { IsRegionOf model.now region.now.region }
     requires first { IsOf model.now region.now.region k a }
-    requires covered { EachOf (IsCovered model.now region.now.region longest) cs.now }
-    requires room { length cs.now ≤ length notes.now }
-    requires noted { AreNamed model.now region.now.region k cs.now notes.now }
-    ensures none { IfNone result (EachOf (SilentAround model.now region.now.region best k a.c cs.now) cs.now) }
+    requires covered { EachOf (IsCovered model.now region.now.region longest) between.now.cs.now }
+    requires between { AreAll model.now region.now.region k between.now.cs.now between.now.notes.now }
+    requires last { AreAll model.now region.now.region k last.now.cs.now last.now.notes.now }
+    ensures none { IfNone result (EachOf (SilentAround model.now region.now.region best k a.c between.now.cs.now) last.now.cs.now) }
     ensures some { IfSome result (IsFinding refutes model.now region.now.region best) }
     ensures busy { IfSome result (λ f. quiet model.now k region.now.region best → ⊥) }
 {
-    for i in 0..cs.len() {
-        let b = notes[i];
-        if let Some(found) = ask_around(model, region, best, k, longest, a, b, cs, notes) {
+    for i in 0..last.cs.len() {
+        let b = last.notes[i];
+        if let Some(found) = ask_around(
+            model,
+            region,
+            best,
+            k,
+            longest,
+            a,
+            b,
+            between.cs,
+            between.notes,
+        ) {
             return Some(found);
         }
     }
     None
 }
 
-/// What STATE3 finds of some demands of a state function. It looks at each two of them, and at others
-/// between two only where these are of one state and stand near each other.
+/// What STATE3 finds of some demands of a state function, some others, and some between them. It looks
+/// at the third only where the two are of one state and stand near each other.
 pub fn ask_triples(
     model: &Model,
     region: &Region,
     best: Option<i64>,
     k: u32,
-    cs: &[u32],
-    notes: &[Named],
+    first: &Noted<'_>,
+    between: &Noted<'_>,
+    last: &Noted<'_>,
 ) -> Option<Finding<StateWitness>>
     requires of { IsRegionOf model.now region.now.region }
-    requires room { length cs.now ≤ length notes.now }
-    requires noted { AreNamed model.now region.now.region k cs.now notes.now }
-    ensures none { IfNone result (EachThree model.now region.now.region best k cs.now) }
+    requires first { AreAll model.now region.now.region k first.now.cs.now first.now.notes.now }
+    requires between { AreAll model.now region.now.region k between.now.cs.now between.now.notes.now }
+    requires last { AreAll model.now region.now.region k last.now.cs.now last.now.notes.now }
+    ensures none { IfNone result (EachThree model.now region.now.region best k first.now.cs.now between.now.cs.now last.now.cs.now) }
     ensures some { IfSome result (IsFinding refutes model.now region.now.region best) }
     ensures busy { IfSome result (λ f. quiet model.now k region.now.region best → ⊥) }
 {
-    let longest = longest_of(model, region, cs);
-    for i in 0..cs.len() {
-        let a = notes[i];
-        if let Some(found) = ask_row(model, region, best, k, longest, a, cs, notes) {
+    let longest = longest_of(model, region, between.cs);
+    for i in 0..first.cs.len() {
+        let a = first.notes[i];
+        if let Some(found) = ask_row(model, region, best, k, longest, a, between, last) {
             return Some(found);
         }
     }

@@ -7,7 +7,7 @@ use sched_base::{Itv, NoMemory, Seq};
 use sched_model::Model;
 
 /// The propagators of state functions, with their witnesses as a log has them.
-#[derive(Debug, Drop)]
+#[derive(Drop)]
 pub struct FromState(pub PropState);
 
 impl Propagator for FromState {
@@ -36,7 +36,7 @@ impl Propagator for FromState {
         region: &Region,
         best: Option<i64>,
     ) -> Result<Option<Finding<Witness<NoWitness>>>, NoMemory> {
-        let Some(Finding { guess, witness }) = self.0.next(k, model, region, best) else {
+        let Some(Finding { guess, witness }) = self.0.next(k, model, region, best)? else {
             return Ok(None);
         };
         Ok(Some(Finding {

@@ -12,16 +12,16 @@ use Rattle.prop_state.specs.code.Tasks.{IsSilent, quiet, looks_after}
 use Rattle.prop_state.specs.code.Walks.{EachTwo, EachThree}
 use Rattle.prop_state.specs.laws.Unwatched.{listed}
 
-pub demands_quiet : (m : Data) (k : ℕ) (r : Region) (best : Option ℤ) (cs : List ℕ) → cs ≡ demands_of m k → EachTwo m r best k cs → EachThree m r best k cs → quiet m k r best
+pub demands_quiet : (m : Data) (k : ℕ) (r : Region) (best : Option ℤ) (cs : List ℕ) → cs ≡ demands_of m k → EachTwo m r best k cs cs → EachThree m r best k cs cs cs → quiet m k r best
 demands_quiet m k r best cs is two three = record { unrefuted = λ w guess mine asked. at w mine guess asked }
   where
     at : (w : StateWitness) → looks_after m k w ≡ true → IsSilent m r best w
     at (State c1 c2) mine =
         let own = both_true (demands_at m k c1) (demands_at m k c2) mine in
-        subst (EachTwo m r best k) is two c1 (listed m k c1 own.0) c2 (listed m k c2 own.1) own.0 own.1
+        subst (λ ds. EachTwo m r best k ds ds) is two c1 (listed m k c1 own.0) c2 (listed m k c2 own.1) own.0 own.1
     at (State3 c1 c2 c3) mine =
         let own = three_true (demands_at m k c1) (demands_at m k c2) (demands_at m k c3) mine in
-        subst (EachThree m r best k) is three c1 (listed m k c1 own.0) c3 (listed m k c3 own.2) c2 (listed m k c2 own.1) own.0 own.1 own.2
+        subst (λ ds. EachThree m r best k ds ds ds) is three c1 (listed m k c1 own.0) c3 (listed m k c3 own.2) c2 (listed m k c2 own.1) own.0 own.1 own.2
 
 -- where it is quiet its witnesses are silent
 pub silent_two : (m : Data) (k c1 c2 : ℕ) (r : Region) (best : Option ℤ) → demands_at m k c1 ≡ true → demands_at m k c2 ≡ true → quiet m k r best → IsSilent m r best (State c1 c2)

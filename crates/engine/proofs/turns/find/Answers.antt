@@ -19,7 +19,7 @@ awake-preserved-in_default-2 g c =
     let now = asleep (g.P.Propagator.size c.args.model.now) (λ k. g.P.Propagator.quiet c.args.model.now k c.args.region.now.region c.args.best) c.awake.levels c.unwake.new.self _ c.in-Some.turn
     c.in-Some.ensures.turn refl c.unwake.ensures (rw c.in_default-2.is at c.in_ok-f.ensures.none) c.awake.invariant.calm in
     record {
-      of = c.next.ensures.kept c.args.model.now c.awake.invariant.of;
+      of = c.next.ensures.kept;
       below = now.below ∙ c.awake.invariant.below;
       count = now.count ∙ c.awake.invariant.count;
       calm = now.calm;
@@ -39,7 +39,7 @@ awake-preserved g c =
     let now = later (g.P.Propagator.size c.args.model.now) (c.levels-last.result - 1) (λ k. g.P.Propagator.quiet c.args.model.now k c.args.region.now.region c.args.best) c.awake.levels c.unwake-then-is_late.new.self c.wake.new.self _ c.in-Some.turn
     c.in-Some.ensures.turn refl c.awake.invariant.count c.if-turn-last.true c.unwake-then-is_late.ensures c.wake.ensures c.awake.invariant.calm in
     record {
-      of = c.next.ensures.kept c.args.model.now c.awake.invariant.of;
+      of = c.next.ensures.kept;
       below = now.below ∙ c.awake.invariant.below;
       count = now.count ∙ c.awake.invariant.count;
       calm = now.calm;

@@ -1,0 +1,96 @@
+-- Bounds that are noted one after the other.
+use Rattle.std.specs.Prelude.{◌≡◌, ◌⊎◌, ℕ, zero, suc, ◌+◌, ◌<◌, ◌≤◌, true, List, [], ◌∷◌, ◌++◌, length, Option, Some, None, slice_get}
+use Rattle.std.proofs.Common.{refl, sym, ap, subst, ◌∙◌, arith, get_or, inl, inr}
+use Rattle.std.proofs.lemmas.List.{get_or_append_left, get_or_default, length_push}
+use Rattle.base_laws.specs.laws.Numbers.{below_or_last}
+use Rattle.base_laws.specs.laws.Places.{newest, at_left, at_right}
+use Rattle.sched_model.specs.Data.{Data}
+use Rattle.region.specs.declared.types.Bounds.{Bounds}
+use Rattle.region.specs.Cells.{Region}
+use Rattle.refute_state.specs.laws.Settled.{In}
+use Rattle.prop_state.specs.declared.demands.Named.{Named}
+use Rattle.prop_state.specs.code.Walks.{AreNamed, IsNamed}
+use Rattle.prop_state.specs.code.Known.{AreKnown, AreUnknown, IfKnown, remembered, AreFresh, Remembers}
+
+pub same_bounds : (a b : Bounds) → a.presence ≡ b.presence → a.smin ≡ b.smin → a.smax ≡ b.smax → a.emin ≡ b.emin → a.emax ≡ b.emax → a.pmin ≡ b.pmin → a.pmax ≡ b.pmax → a ≡ b
+same_bounds a b presence smin smax emin emax pmin pmax =
+    ap (λ z. record { presence = z; smin = a.smin; smax = a.smax; emin = a.emin; emax = a.emax; pmin = a.pmin; pmax = a.pmax }) presence
+    ∙ ap (λ z. record { presence = b.presence; smin = z; smax = a.smax; emin = a.emin; emax = a.emax; pmin = a.pmin; pmax = a.pmax }) smin
+    ∙ ap (λ z. record { presence = b.presence; smin = b.smin; smax = z; emin = a.emin; emax = a.emax; pmin = a.pmin; pmax = a.pmax }) smax
+    ∙ ap (λ z. record { presence = b.presence; smin = b.smin; smax = b.smax; emin = z; emax = a.emax; pmin = a.pmin; pmax = a.pmax }) emin
+    ∙ ap (λ z. record { presence = b.presence; smin = b.smin; smax = b.smax; emin = b.emin; emax = z; pmin = a.pmin; pmax = a.pmax }) emax
+    ∙ ap (λ z. record { presence = b.presence; smin = b.smin; smax = b.smax; emin = b.emin; emax = b.emax; pmin = z; pmax = a.pmax }) pmin
+    ∙ ap (λ z. record { presence = b.presence; smin = b.smin; smax = b.smax; emin = b.emin; emax = b.emax; pmin = b.pmin; pmax = z }) pmax
+
+-- at first nothing is remembered
+pub none_known : AreUnknown 0 []
+none_known = record { size = refl; each = λ k. refl }
+
+pub none_more : (n : ℕ) (ks : List (Option (List Bounds))) → AreUnknown n ks → AreUnknown (n + 1) (ks ++ None ∷ [])
+none_more n ks h = record { size = length_push ks None ∙ ap (λ k. k + 1) h.size; each = λ k. pushed ks k ∙ h.each k }
+  where
+    pushed : (ks : List (Option (List Bounds))) (k : ℕ) → get_or (ks ++ None ∷ []) k None ≡ get_or ks k None
+    pushed [] zero = refl
+    pushed [] (suc k) = refl
+    pushed (x ∷ xs) zero = refl
+    pushed (x ∷ xs) (suc k) = pushed xs k
+
+pub none_at_first : (m : Data) (n k : ℕ) (ks : List (Option (List Bounds))) → k ≡ n → AreUnknown k ks → AreKnown m n ks
+none_at_first m n k ks same h = record { size = h.size ∙ same; each = λ j low. subst (IfKnown m j) (sym (h.each j)) tt }
+
+-- what is fresh, one demand after the other
+pub fresh_none : (m : Data) (r : Region) (k : ℕ) (cs : List ℕ) (ns : List Named) (known : Option (List Bounds)) → AreFresh m r k cs ns known 0 [] []
+fresh_none m r k cs ns known = record { size = refl; named = λ i low c n. absurd (omega (arith, low)); all = λ i low c e. absurd (omega (arith, low)) }
+
+pub fresh_known : (m : Data) (r : Region) (k : ℕ) (cs : List ℕ) (ns : List Named) (known : Option (List Bounds)) (n : ℕ) (fs : List ℕ) (os : List Named) (e : Named) → n < length ns → remembered known n ≡ Some (get_or ns n e).bounds
+    → AreFresh m r k cs ns known n fs os → AreFresh m r k cs ns known (n + 1) fs os
+fresh_known m r k cs ns known n fs os e within is before = record {
+  size = before.size;
+  named = before.named;
+  all = λ i low c f. elim (below_or_last i n low) [
+    | inl less ↦ before.all i less c f
+    | inr last ↦ inr (ap (remembered known) last ∙ is ∙ ap Some (ap (λ z. z.bounds) (get_or_default ns n e f within) ∙ ap (λ j. (get_or ns j f).bounds) (sym last)))
+  ];
+}
+
+in_pushed : (xs : List ℕ) (x y : ℕ) → In xs y → In (xs ++ x ∷ []) y
+in_pushed [] x y here = absurd here
+in_pushed (z ∷ zs) x y here = elim here [ inl e ↦ inl e | inr later ↦ inr (in_pushed zs x y later) ]
+
+in_last : (xs : List ℕ) (x : ℕ) → In (xs ++ x ∷ []) x
+in_last [] x = inl refl
+in_last (z ∷ zs) x = inr (in_last zs x)
+
+pub fresh_more : (m : Data) (r : Region) (k : ℕ) (cs : List ℕ) (ns : List Named) (known : Option (List Bounds)) (n : ℕ) (fs : List ℕ) (os : List Named) (x d : ℕ) (v e : Named) → n < length cs → n < length ns → x ≡ get_or cs n d → v ≡ get_or ns n e → IsNamed m r k x v
+    → AreFresh m r k cs ns known n fs os → AreFresh m r k cs ns known (n + 1) (fs ++ x ∷ []) (os ++ v ∷ [])
+fresh_more m r k cs ns known n fs os x d v e listed within at there named before = record {
+  size = length_push fs x ∙ ap (λ j. j + 1) before.size ∙ sym (length_push os v);
+  named = λ i low c f. elim (below_or_last i (length fs) (subst (λ (j : ℕ). i < j) (length_push fs x) low)) [
+    | inl less ↦ (let size = before.size in subst (λ z. IsNamed m r k z (get_or (os ++ v ∷ []) i f)) (sym (get_or_append_left fs (x ∷ []) c i less))
+        (subst (λ z. IsNamed m r k (get_or fs i c) z) (sym (get_or_append_left os (v ∷ []) f i (omega (arith, less, size)))) (before.named i less c f)))
+    | inr last ↦ subst (λ z. IsNamed m r k z (get_or (os ++ v ∷ []) i f)) (sym (newest i fs x c last)) (subst (λ z. IsNamed m r k x z) (sym (newest i os v f (last ∙ before.size))) named)
+  ];
+  all = λ i low c f. elim (below_or_last i n low) [
+    | inl less ↦ elim (before.all i less c f) [ inl fresh ↦ inl (in_pushed fs x (get_or cs i c) fresh) | inr old ↦ inr old ]
+    | inr last ↦ inl (subst (In (fs ++ x ∷ [])) (at ∙ get_or_default cs n d c listed ∙ ap (λ j. get_or cs j c) (sym last)) (in_last fs x))
+  ];
+}
+
+pub fresh_all : (m : Data) (r : Region) (k : ℕ) (cs : List ℕ) (ns : List Named) (known : Option (List Bounds)) (i n : ℕ) (fs : List ℕ) (os : List Named) → i ≡ n → AreFresh m r k cs ns known i fs os → AreFresh m r k cs ns known n fs os
+fresh_all m r k cs ns known i n fs os same h = subst (λ (j : ℕ). AreFresh m r k cs ns known j fs os) same h
+
+-- what is remembered, one demand after the other
+pub remembers_none : (ns : List Named) → Remembers 0 ns []
+remembers_none ns = record { size = refl; each = λ i low e. absurd (omega (arith, low)) }
+
+pub remembers_more : (n : ℕ) (ns : List Named) (bs : List Bounds) (e : Named) (b : Bounds) → n < length ns → b ≡ (get_or ns n e).bounds → Remembers n ns bs → Remembers (n + 1) ns (bs ++ b ∷ [])
+remembers_more n ns bs e b within is before = record {
+  size = length_push bs b ∙ ap (λ j. j + 1) before.size;
+  each = λ i low f. elim (below_or_last i n low) [
+    | inl less ↦ at_left bs (b ∷ []) i _ (before.each i less f)
+    | inr last ↦ ap (λ j. slice_get (bs ++ b ∷ []) j) (last ∙ sym before.size ∙ none_more (length bs)) ∙ at_right bs (b ∷ []) 0 ∙ ap Some (is ∙ ap (λ z. z.bounds) (get_or_default ns n e f within) ∙ ap (λ j. (get_or ns j f).bounds) (sym last))
+  ];
+}
+  where
+    none_more : (j : ℕ) → j ≡ j + 0
+    none_more j = omega arith
