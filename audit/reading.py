@@ -4,8 +4,13 @@ of each file, and their sum. These are the specs that `specs/Runs.antt` of `comm
 on. All other specs speak of code, or are laws: what they say is proved, and no promise rests on how they say it.
 
 usage: reading.py [--others] [CRATE]
+       reading.py --rooms
 
 CRATE is `commands`, or `gantt` for the promise of the other program. With --others the specs outside are listed too.
+
+With --rooms it tests where the specs stand: what a promise stands on is in specs/ itself, and what speaks of code, or is
+a law, in a folder there (code/, laws/, lemmas/). The promises are those of both programs and the files that
+docs/PROMISES.md names. It lists what stands in the wrong room, and ends with status 1 where something does.
 """
 
 import collections
@@ -14,6 +19,7 @@ import re
 import sys
 
 ROOT = os.path.dirname(os.path.dirname(os.path.abspath(__file__)))
+NAMED = re.compile(r"crates/([a-z_]+)/specs/([A-Za-z_/]+)\.antt")
 CITED = re.compile(r"^(?:pub )?use Rattle\.([\w.]+)", re.M)
 
 
@@ -68,7 +74,28 @@ def show(modules, files):
     return sum(lines.values())
 
 
+def misplaced(files):
+    """Returns the specs that don't stand where their readers look for them."""
+    promises = {f"{crate}.specs.{path.replace('/', '.')}" for crate, path in NAMED.findall(text_of(f"{ROOT}/docs/PROMISES.md"))}
+    read = set().union(*(behind(it, files) for it in promises & set(files) | {"commands.specs.Runs", "gantt.specs.Runs"}))
+    wrong = [f"docs/PROMISES.md names {it}, which isn't there" for it in sorted(promises - set(files))]
+    for module in sorted(files):
+        inside = module.split(".", 2)[2]
+        is_in_front = "." not in inside
+        if inside[0].islower() and is_in_front or inside == "Lib" or inside.startswith("formers."):
+            continue
+        if is_in_front and module not in read:
+            wrong.append(f"{module} stands in front, and no promise stands on it")
+        if not is_in_front and module in read:
+            wrong.append(f"{module} stands in a folder, and a promise stands on it")
+    return wrong
+
+
 def main(words):
+    if "--rooms" in words:
+        wrong = misplaced(specs_of(ROOT))
+        print("\n".join([*wrong, f"{len(wrong)} specs in the wrong room"]))
+        return 1 if wrong else 0
     crate = next((it for it in words if not it.startswith("--")), "commands")
     files = specs_of(ROOT)
     first = f"{crate}.specs.Runs"

@@ -12,7 +12,7 @@ use Rattle.logtext.specs.Spelling.{head_text, end_text}
 use Rattle.logtext.specs.Logs.{PlainLine, IsPlainLog, plain_lines, plain_log}
 use Rattle.checker.specs.Judgement.{BeginsWith, CantGoOn, IsAccepted, IsRefused}
 use Rattle.checker.specs.Judgement.IsRefused.{at_head, at_line, behind_end}
-use Rattle.checker.specs.code.Laws.{OneVerdict, OneLine, NotBoth, WholeLogIsAccepted, AcceptedMeans}
+use Rattle.checker.specs.Laws.{OneVerdict, OneLine, NotBoth, WholeLogIsAccepted, AcceptedMeans}
 use Rattle.checker.proofs.Spelt.{Spellings, begun}
 use Rattle.checker.proofs.Logs.{SameLog, PlainSteps, one_text, cant_stops, end_stops}
 use Rattle.checker.proofs.Judged.{end_spelt, begins_head}

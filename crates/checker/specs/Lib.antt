@@ -1,3 +1,4 @@
 pub mod Judgement
 pub mod Checking
 pub mod code
+pub mod Laws

@@ -1,4 +1,4 @@
-ghost use Rattle.checker.specs.code.Laws.{OneVerdict, OneLine, NotBoth, WholeLogIsAccepted, AcceptedMeans};
+ghost use Rattle.checker.specs.Laws.{OneVerdict, OneLine, NotBoth, WholeLogIsAccepted, AcceptedMeans};
 
 use kernel::{NoExtra, loses_nothing};
 use logtext::spelling_is_determined;

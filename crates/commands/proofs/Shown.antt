@@ -15,9 +15,9 @@ use Rattle.sched_model.specs.Valid.{IsValid}
 use Rattle.sched_model.specs.Value.{value_of}
 use Rattle.sched_model.specs.laws.Held.{held_small, value_held}
 use Rattle.sched_model.specs.laws.Listed.{hull_of_objective}
-use Rattle.read_schedule.specs.code.Promises.{AnswersAreSchedules, Shows}
+use Rattle.read_schedule.specs.Promises.{AnswersAreSchedules, Shows}
 use Rattle.solver.specs.Answers.{IsAnswer, shown_in}
-use Rattle.commands.specs.code.AnswersVerify.{AnswersVerify}
+use Rattle.commands.specs.AnswersVerify.{AnswersVerify}
 use Rattle.sched_model.specs.laws.Domain.{slots_fit}
 
 in_hull : (m : Data) (a : Assignment) (e : Expr) (h : Option Ends) → h ≡ hull_of m e → is_some h ≡ true → is_in_domain m a ≡ true → is_small (value_of a e) ≡ true

@@ -5,3 +5,4 @@ pub mod Runs
 pub mod Told
 pub mod VerifyText
 pub mod code
+pub mod AnswersVerify

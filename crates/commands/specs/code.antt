@@ -1,3 +1,2 @@
-pub mod AnswersVerify
 pub mod Stops
 pub mod Tries

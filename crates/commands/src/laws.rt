@@ -1,4 +1,4 @@
-ghost use Rattle.commands.specs.code.AnswersVerify.{AnswersVerify};
+ghost use Rattle.commands.specs.AnswersVerify.{AnswersVerify};
 
 use read_schedule::answer_is_schedule;
 

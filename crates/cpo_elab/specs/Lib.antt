@@ -9,3 +9,6 @@ pub mod Answers
 pub mod Deserves
 pub mod lemmas
 pub mod code
+pub mod Laws
+pub mod NamedFirstLaws
+pub mod Shaped

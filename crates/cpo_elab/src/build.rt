@@ -8,7 +8,7 @@ ghost use Rattle.cpo_elab.specs.Held.{some_amount, some_int, rows_in};
 ghost use Rattle.cpo_elab.specs.Elaborated.{types_in, sequence_named, matrix_named, state_named, cumul_named, defined, constraint_of, named_itself, with_unnamed, with_listed, with_written, objective_of, after};
 ghost use Rattle.cpo_elab.specs.code.Items.{with_item, item_name, with_any, IsUnnamed};
 ghost use Rattle.cpo_elab.specs.Judged.{is_large, is_negative, number_in};
-ghost use Rattle.cpo_elab.specs.code.Shaped.{is_shaped};
+ghost use Rattle.cpo_elab.specs.Shaped.{is_shaped};
 
 use crate::constraints::{constraint_of, is_unnamed, sense_of};
 use crate::copies::{cells_in, itvs_of, types_in};

@@ -3,7 +3,7 @@ ghost use Rattle.sched_model.specs.Valid.{IsValid};
 ghost use Rattle.cpo_text.specs.declared.text.ReadFault.TheVariants as fault;
 ghost use Rattle.cpo_elab.specs.Elaborated.{after};
 ghost use Rattle.cpo_elab.specs.Judged.{number_in};
-ghost use Rattle.cpo_elab.specs.code.Shaped.{is_shaped, is_shaped_form};
+ghost use Rattle.cpo_elab.specs.Shaped.{is_shaped, is_shaped_form};
 ghost use Rattle.cpo_elab.specs.code.Steps.{first_state, TakesStatement, Takes};
 
 use crate::build::with_statement;

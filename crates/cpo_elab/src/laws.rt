@@ -1,4 +1,4 @@
-ghost use Rattle.cpo_elab.specs.code.Laws.{AtMostOneAnswer, OnlyWordsCount, OnlyToldCount, SomeAnswer, TextsAreShaped};
+ghost use Rattle.cpo_elab.specs.Laws.{AtMostOneAnswer, OnlyWordsCount, OnlyToldCount, SomeAnswer, TextsAreShaped};
 
 use cpo_text::reading_is_determined;
 

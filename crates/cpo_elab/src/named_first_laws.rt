@@ -1,4 +1,4 @@
-ghost use Rattle.cpo_elab.specs.code.NamedFirstLaws.{NamedFirstIsValid, SequencesStay, CumulsStay, SequencesLookAlike, PartsLookAlike, NothingMoves};
+ghost use Rattle.cpo_elab.specs.NamedFirstLaws.{NamedFirstIsValid, SequencesStay, CumulsStay, SequencesLookAlike, PartsLookAlike, NothingMoves};
 
 /// Stands for laws of the numbers of sequences and cumulative functions.
 pub fn named_first_is_sound()

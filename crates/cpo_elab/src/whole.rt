@@ -2,7 +2,7 @@ ghost use Rattle.std.specs.Prelude.{◌≡◌, true};
 ghost use Rattle.sched_model.specs.Data.{empty_model};
 ghost use Rattle.cpo_elab.specs.Answers.{Gives, judged};
 ghost use Rattle.cpo_elab.specs.Deserves.{GivesDeserved};
-ghost use Rattle.cpo_elab.specs.code.Shaped.{are_shaped};
+ghost use Rattle.cpo_elab.specs.Shaped.{are_shaped};
 
 use crate::elaborator::Elaborator;
 use crate::named_first::named_first;

@@ -8,3 +8,4 @@ pub mod Spelling
 pub mod Reads
 pub mod lemmas
 pub mod code
+pub mod Laws

@@ -2,7 +2,6 @@ pub mod CallWords
 pub mod Calls
 pub mod Contributions
 pub mod Gives
-pub mod Laws
 pub mod Levels
 pub mod Lexing
 pub mod Lists

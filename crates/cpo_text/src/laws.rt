@@ -1,4 +1,4 @@
-ghost use Rattle.cpo_text.specs.code.Laws.{PiecesAreDetermined, EachByteInOnePiece, TokensAreDetermined, BadByteIsDetermined, EveryTextHasTokensOrBadByte, NotBoth, StatementsAreDetermined, GrammarIsDecided, ReadingsAreDetermined};
+ghost use Rattle.cpo_text.specs.Laws.{PiecesAreDetermined, EachByteInOnePiece, TokensAreDetermined, BadByteIsDetermined, EveryTextHasTokensOrBadByte, NotBoth, StatementsAreDetermined, GrammarIsDecided, ReadingsAreDetermined};
 
 /// Stands for laws of the definitions: what a text is read as is no choice of the reader.
 pub fn reading_is_determined()

@@ -1,4 +1,4 @@
-ghost use Rattle.generated_models.specs.code.Laws.{GeneratedDeserve, ShopsAreJudged, ShopsAreSaid, ShopsAreWritten};
+ghost use Rattle.generated_models.specs.Laws.{GeneratedDeserve, ShopsAreJudged, ShopsAreSaid, ShopsAreWritten};
 
 use read_back::{canonical_statements_are_judged, said_text_is_read};
 

@@ -2,9 +2,9 @@
 use Rattle.std.proofs.Common.{sym}
 use Rattle.cpo_elab.specs.Deserves.{judgement}
 use Rattle.sched_text.specs.Canonical.{canonical_text}
-use Rattle.read_back.specs.code.Trees.{canonical_statements}
+use Rattle.read_back.specs.Trees.{canonical_statements}
 use Rattle.read_back.proofs.judge.Few.{few_statements}
-use Rattle.read_back.specs.code.Laws.{DeservedAreWritten, CanonicalIsSaid, SaidIsRead, CanonicalIsJudged, ReadsBack}
+use Rattle.read_back.specs.Laws.{DeservedAreWritten, CanonicalIsSaid, SaidIsRead, CanonicalIsJudged, ReadsBack}
 
 pub reads_back : DeservedAreWritten → CanonicalIsSaid → SaidIsRead → CanonicalIsJudged → ReadsBack
 reads_back written said is_read judged text m deserved within =

@@ -2,7 +2,7 @@
 use Rattle.std.proofs.Common.{◌≡◌, ℕ, Bool, true, false, not, ◌||◌, ◌==◌, List, [], ◌∷◌, ◌++◌, refl, arith}
 use Rattle.std.proofs.lemmas.Bool.Decides.{nat_tests}
 use Rattle.cpo_text.specs.Tokens.{is_sign_pair}
-use Rattle.read_back.specs.code.Says.{Chunk, Chunk as chunk, makes_pair, is_apart}
+use Rattle.read_back.specs.Says.{Chunk, Chunk as chunk, makes_pair, is_apart}
 use Rattle.read_back.proofs.Joined.{meet}
 
 -- what an end of a text may stand beside: anything, any sign, or any word

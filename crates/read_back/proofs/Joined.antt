@@ -7,7 +7,7 @@ use Rattle.std.proofs.lemmas.Bool.{and_parts, and_from}
 use Rattle.base_laws.specs.laws.Items.{all_append}
 use Rattle.cpo_text.specs.Words.{Word, Word as word}
 use Rattle.cpo_text.specs.Tokens.{literal_limit}
-use Rattle.read_back.specs.code.Says.{Says, Chunk, Chunk as chunk, chunk_bytes, chunk_words, is_chunk, is_apart, are_apart}
+use Rattle.read_back.specs.Says.{Says, Chunk, Chunk as chunk, chunk_bytes, chunk_words, is_chunk, is_apart, are_apart}
 
 -- the last of some chunks may stand beside the first of others
 abbrev pub meet : List Chunk → List Chunk → Bool

@@ -7,7 +7,7 @@ use Rattle.sched_model.specs.Valid.{is_moment, is_span_of_moments, is_small, is_
 use Rattle.sched_model.specs.laws.Small.{moment_small, amount_small}
 use Rattle.cpo_text.specs.Tokens.{literal_limit}
 use Rattle.cpo_elab.specs.Literals.{size_of, int_of}
-use Rattle.read_back.specs.code.Trees.{int_tree}
+use Rattle.read_back.specs.Trees.{int_tree}
 
 -- no literal is larger
 abbrev pub is_literal : ℤ → Bool

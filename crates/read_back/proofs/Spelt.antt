@@ -12,9 +12,9 @@ use Rattle.sched_model.specs.Words.{pairwise, passes_if_any}
 use Rattle.sched_model.specs.Valid.{IsValid, all_names, is_name, is_letter, is_name_byte, is_itv, is_mat}
 use Rattle.sched_text.specs.Pieces.{interval_name, matrix_name, state_name, interval_names}
 use Rattle.cpo_text.specs.Runs.{left_out_words}
-use Rattle.read_back.specs.code.Written.{IsWritten}
-use Rattle.read_back.specs.code.Says.{is_chunk, is_spelt}
-use Rattle.read_back.specs.code.Says.Chunk.{name}
+use Rattle.read_back.specs.Written.{IsWritten}
+use Rattle.read_back.specs.Says.{is_chunk, is_spelt}
+use Rattle.read_back.specs.Says.Chunk.{name}
 use Rattle.read_back.proofs.Truth.{all_parts}
 
 -- the text may write the name

@@ -1,1 +1,4 @@
-pub mod code
+pub mod Laws
+pub mod Says
+pub mod Trees
+pub mod Written

@@ -1,4 +1,4 @@
-ghost use Rattle.read_back.specs.code.Laws.{CanonicalIsJudged, CanonicalIsSaid, DeservedAreWritten, ExpressionsAreFormed, ExpressionsAreSaid, ExpressionsNameIntervals, ExpressionsReturn, FactorsReturn, ReadsBack, SaidIsRead};
+ghost use Rattle.read_back.specs.Laws.{CanonicalIsJudged, CanonicalIsSaid, DeservedAreWritten, ExpressionsAreFormed, ExpressionsAreSaid, ExpressionsNameIntervals, ExpressionsReturn, FactorsReturn, ReadsBack, SaidIsRead};
 
 use cpo_elab::{answer_is_determined, named_first_is_sound, statements_keep_models_valid};
 

@@ -1,4 +1,4 @@
-ghost use Rattle.read_schedule.specs.code.Promises.{AnswersAreSchedules, SchedulesAreTold};
+ghost use Rattle.read_schedule.specs.Promises.{AnswersAreSchedules, SchedulesAreTold};
 
 /// Stands for a law of the definitions: a text spells one assignment of a model at most.
 pub fn schedule_is_told()

@@ -22,7 +22,7 @@ use Rattle.cpo_elab.specs.Named.{itv_of, itvs_of}
 use Rattle.cpo_elab.specs.Literals.{size_of, int_of}
 use Rattle.cpo_elab.specs.Elaborated.{plain_interval, interval_of, types_in, sequence_named, matrix_named, state_named, cumul_named, defined}
 use Rattle.cpo_elab.specs.Judged.{is_of_other_sort}
-use Rattle.cpo_elab.specs.code.Shaped.{is_spelt}
+use Rattle.cpo_elab.specs.Shaped.{is_spelt}
 use Rattle.cpo_elab.proofs.judging.Truth.{not_true}
 use Rattle.cpo_elab.proofs.named.Inserted.{Inserted, inserted_left, inserted_right, names_inserted, absent_name, map_inserted, named_inserted, unnamed_same}
 use Rattle.cpo_elab.proofs.named.Ids.{right_itvs, right_mat}

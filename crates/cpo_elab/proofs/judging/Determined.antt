@@ -6,7 +6,7 @@ use Rattle.cpo_text.specs.Tokens.{Token}
 use Rattle.cpo_text.specs.Runs.{runs, words_of, ended}
 use Rattle.cpo_text.specs.Reads.{IsRead, IsRefused, DeservesNumber, HasForm, AreReadings, text_limit, told}
 use Rattle.cpo_text.specs.Reads.IsRefused.{too_long, bad_byte}
-use Rattle.cpo_text.specs.code.Laws.{TokensAreDetermined, BadByteIsDetermined, NotBoth, StatementsAreDetermined}
+use Rattle.cpo_text.specs.Laws.{TokensAreDetermined, BadByteIsDetermined, NotBoth, StatementsAreDetermined}
 use Rattle.cpo_text.specs.declared.tree.Statement.{Statement}
 use Rattle.cpo_text.specs.declared.text.Form.{Form}
 use Rattle.cpo_text.specs.declared.text.Form.TheVariants.{Tree as Parsed, Number}
@@ -17,7 +17,7 @@ use Rattle.cpo_text.specs.lemmas.Deserved.{same_number}
 use Rattle.cpo_elab.specs.Answers.{judged}
 use Rattle.cpo_elab.specs.Answers.Answer.{Refused}
 use Rattle.cpo_elab.specs.Deserves.Deserves.{unread, judgement}
-use Rattle.cpo_elab.specs.code.Laws.{AtMostOneAnswer}
+use Rattle.cpo_elab.specs.Laws.{AtMostOneAnswer}
 
 -- nothing in the reading of a text is a choice
 pub record ReadingIsDetermined : Type 0 where

@@ -6,13 +6,13 @@ use Rattle.cpo_text.specs.Tokens.{Token, HasTokens}
 use Rattle.cpo_text.specs.Runs.{runs, words_of}
 use Rattle.cpo_text.specs.Reads.{IsRefused, HasForm, AreReadings, text_limit, told_limit, told}
 use Rattle.cpo_text.specs.Reads.IsRefused.{too_long, bad_byte}
-use Rattle.cpo_text.specs.code.Laws.{StatementsAreDetermined}
+use Rattle.cpo_text.specs.Laws.{StatementsAreDetermined}
 use Rattle.cpo_text.specs.declared.text.Reading.{Reading}
 use Rattle.cpo_text.specs.declared.text.Refusal.{Refusal}
 use Rattle.cpo_text.specs.lemmas.WordRuns.{words_of_runs, word_runs}
 use Rattle.cpo_elab.specs.Answers.{Answer, number_at, after_form, refused_or, judged}
 use Rattle.cpo_elab.specs.Deserves.Deserves.{unread, judgement}
-use Rattle.cpo_elab.specs.code.Laws.{SameButOffset, OnlyWordsCount}
+use Rattle.cpo_elab.specs.Laws.{SameButOffset, OnlyWordsCount}
 use Rattle.cpo_elab.proofs.judging.Determined.{ReadingIsDetermined, clash, same_form}
 
 -- the runs by their words

@@ -16,8 +16,8 @@ use Rattle.cpo_text.specs.declared.tree.Statement.TheVariants.{Empty, Define, Co
 use Rattle.cpo_text.specs.declared.text.Form.{Form}
 use Rattle.cpo_text.specs.declared.text.Form.TheVariants.{Tree as Parsed, Number}
 use Rattle.cpo_text.specs.declared.text.Reading.{Reading}
-use Rattle.cpo_elab.specs.code.Shaped.{is_spelt, is_shaped, is_shaped_form, are_shaped}
-use Rattle.cpo_elab.specs.code.Laws.{TextsAreShaped}
+use Rattle.cpo_elab.specs.Shaped.{is_spelt, is_shaped, is_shaped_form, are_shaped}
+use Rattle.cpo_elab.specs.Laws.{TextsAreShaped}
 use Rattle.cpo_elab.proofs.values.Operands.{grammar_operands}
 
 -- a word that is no name, or a name of the language

@@ -34,7 +34,7 @@ use Rattle.cpo_elab.specs.Literals.{int_of, int_or_zero}
 use Rattle.cpo_elab.specs.Held.{some_moments, some_height, logic_in}
 use Rattle.cpo_elab.specs.Elaborated.{sequence_named, cumul_named, hierarchy_of, extreme_of, order_of, bound_of, window_of, named_itself, cumul_id, constraint_of, with_unnamed, with_listed, with_written}
 use Rattle.cpo_elab.specs.Judged.{is_of_other_sort, is_no_member, is_reversed, is_outside, is_negative, is_large}
-use Rattle.cpo_elab.specs.code.Shaped.{has_operands}
+use Rattle.cpo_elab.specs.Shaped.{has_operands}
 use Rattle.cpo_elab.proofs.judging.Truth.{not_true}
 use Rattle.cpo_elab.proofs.named.Ids.{right_itv, right_itvs, right_seq, right_stf}
 use Rattle.cpo_elab.proofs.values.Amounts.{int_small, delay_small, ordered, spans, amount}

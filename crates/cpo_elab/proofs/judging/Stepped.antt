@@ -17,7 +17,7 @@ use Rattle.cpo_elab.specs.Named.{is_defined}
 use Rattle.cpo_elab.specs.Held.{some_amount, rows_in}
 use Rattle.cpo_elab.specs.Elaborated.{defined, constraint_of, with_written, objective_of}
 use Rattle.cpo_elab.specs.Judged.{is_large, is_negative, is_wide, leaves_room, statement_limit, number_in}
-use Rattle.cpo_elab.specs.code.Shaped.{is_shaped, is_shaped_form, are_shaped}
+use Rattle.cpo_elab.specs.Shaped.{is_shaped, is_shaped_form, are_shaped}
 use Rattle.cpo_elab.proofs.judging.Clear.{clear}
 use Rattle.cpo_elab.proofs.judging.Facts.{Facts, facts}
 use Rattle.cpo_elab.proofs.judging.Valid.{valid_after, valid_written}

@@ -7,7 +7,7 @@ use Rattle.cpo_text.specs.declared.text.Reading.{Reading}
 use Rattle.cpo_text.specs.declared.tree.Statement.{Statement}
 use Rattle.cpo_elab.specs.Judged.{statement_limit, number_in}
 use Rattle.cpo_elab.specs.Answers.{Answer, number_at, after_form, refused_or, judged}
-use Rattle.cpo_elab.specs.code.Laws.{OnlyToldCount}
+use Rattle.cpo_elab.specs.Laws.{OnlyToldCount}
 use Rattle.cpo_elab.proofs.judging.Stepped.{few}
 
 -- a statement beyond the limit deserves a number, so what is judged behind it says nothing

@@ -5,7 +5,7 @@ use Rattle.sched_model.specs.Data.{empty_model}
 use Rattle.cpo_text.specs.Words.{Word}
 use Rattle.cpo_text.specs.Tokens.{Token}
 use Rattle.cpo_text.specs.Runs.{runs, words_of, offset, ended, early, has_large}
-use Rattle.cpo_text.specs.code.Laws.{EveryTextHasTokensOrBadByte, GrammarIsDecided}
+use Rattle.cpo_text.specs.Laws.{EveryTextHasTokensOrBadByte, GrammarIsDecided}
 use Rattle.cpo_text.specs.Reads.{IsGrammatical, HasForm, AreReadings, text_limit, told, IsRead, IsRefused}
 use Rattle.cpo_text.specs.Reads.IsRefused.{too_long, bad_byte}
 use Rattle.cpo_text.specs.declared.text.Form.{Form}
@@ -16,7 +16,7 @@ use Rattle.cpo_text.specs.declared.text.Tree.{Tree}
 use Rattle.cpo_elab.specs.Answers.{judged}
 use Rattle.cpo_elab.specs.Answers.Answer.{Refused}
 use Rattle.cpo_elab.specs.Deserves.Deserves.{unread, judgement}
-use Rattle.cpo_elab.specs.code.Laws.{SomeAnswer}
+use Rattle.cpo_elab.specs.Laws.{SomeAnswer}
 
 abbrev Decided : List Word → Type 0
 Decided ws = IsGrammatical ws ⊎ (IsGrammatical ws → ⊥)

@@ -14,7 +14,7 @@ use Rattle.cpo_text.specs.declared.tree.Statement.TheVariants.{Empty, Define, Co
 use Rattle.cpo_elab.specs.Held.{logic_in}
 use Rattle.cpo_elab.specs.Elaborated.{after, objective_of, with_written}
 use Rattle.cpo_elab.specs.Judged.{number_in}
-use Rattle.cpo_elab.specs.code.Shaped.{is_shaped, is_spelt, has_operands}
+use Rattle.cpo_elab.specs.Shaped.{is_shaped, is_spelt, has_operands}
 use Rattle.cpo_elab.proofs.judging.Clear.{clear}
 use Rattle.cpo_elab.proofs.judging.Facts.{Facts, facts}
 use Rattle.cpo_elab.proofs.values.Expressions.{expr_made}

@@ -7,7 +7,7 @@ use Rattle.base_laws.specs.laws.Numbers.{one_less, none_below_zero}
 use Rattle.base_laws.specs.laws.Kept.{none_pass, all_pass, count_yes, count_no, filter_yes, filter_no}
 use Rattle.sched_model.specs.Words.{passes, pairwise}
 use Rattle.cpo_elab.specs.NamedFirst.{is_named_sequence, is_named_cumul, parted, new_place, sequence_place, cumul_place}
-use Rattle.cpo_elab.specs.code.NamedFirstLaws.{is_parted, NothingMoves}
+use Rattle.cpo_elab.specs.NamedFirstLaws.{is_parted, NothingMoves}
 use Rattle.cpo_elab.proofs.named.Alike.{constraints_alike, constraints_same}
 use Rattle.cpo_elab.specs.lemmas.Parted.{place_yes, place_no}
 

@@ -29,7 +29,7 @@ use Rattle.cpo_elab.specs.Named.{itv_of, logic_step, some_in_logic}
 use Rattle.cpo_elab.specs.Literals.{size_of, int_or_zero}
 use Rattle.cpo_elab.specs.Elaborated.{measure_of, gather_of, link_of, compare_of, expr_step, expr_of}
 use Rattle.cpo_elab.specs.Judged.{is_of_other_sort}
-use Rattle.cpo_elab.specs.code.Shaped.{operands_step, has_operands, gathers_some, all_true}
+use Rattle.cpo_elab.specs.Shaped.{operands_step, has_operands, gathers_some, all_true}
 use Rattle.cpo_elab.proofs.adding.Growing.{is_tree}
 use Rattle.cpo_elab.proofs.named.Ids.{right_itv}
 use Rattle.cpo_elab.proofs.values.Amounts.{literal_small, delay_small}

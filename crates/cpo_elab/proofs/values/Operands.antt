@@ -12,7 +12,7 @@ use Rattle.cpo_text.specs.declared.expression.Logic.TheFolds.{fold-roll-Logic, i
 use Rattle.cpo_text.specs.declared.expression.Logic.TheViews.{roll-Logic}
 use Rattle.cpo_text.specs.lemmas.Levels.{so, has_level}
 use Rattle.cpo_text.specs.lemmas.Folds.{composed}
-use Rattle.cpo_elab.specs.code.Shaped.{operands_step, has_operands, gathers_some, all_true}
+use Rattle.cpo_elab.specs.Shaped.{operands_step, has_operands, gathers_some, all_true}
 
 abbrev Levelled : Logic → Type 0
 Levelled e = is_some (level e) ≡ true → has_operands e ≡ true

@@ -7,7 +7,7 @@ use Rattle.cpo_text.specs.declared.tree.Statement.{Statement}
 use Rattle.cpo_text.specs.declared.tree.Statement.TheVariants.{Constrain}
 use Rattle.cpo_elab.specs.Elaborated.{after, with_written}
 use Rattle.cpo_elab.specs.Judged.{number_in}
-use Rattle.cpo_elab.specs.code.Shaped.{is_shaped}
+use Rattle.cpo_elab.specs.Shaped.{is_shaped}
 
 -- the model stays valid with the statement
 abbrev pub StatementsKeepValid : Type 0

@@ -13,7 +13,7 @@ use Rattle.cpo_text.specs.Spelling.{IsStatement, spelling}
 use Rattle.cpo_text.specs.code.Statements.{statement_at}
 use Rattle.cpo_text.specs.code.Lexing.{pieces, rest, tokens_from}
 use Rattle.cpo_text.specs.Reads.{IsGrammatical, DeservesNumber, HasForm}
-use Rattle.cpo_text.specs.code.Laws.{PiecesAreDetermined, TokensAreDetermined, BadByteIsDetermined, EveryTextHasTokensOrBadByte, NotBoth, StatementsAreDetermined, GrammarIsDecided, ReadingsAreDetermined}
+use Rattle.cpo_text.specs.Laws.{PiecesAreDetermined, TokensAreDetermined, BadByteIsDetermined, EveryTextHasTokensOrBadByte, NotBoth, StatementsAreDetermined, GrammarIsDecided, ReadingsAreDetermined}
 use Rattle.cpo_text.proofs.operands.Binds.{some_pair, both}
 use Rattle.cpo_text.proofs.pieces.Walks.{pieces_are, pieces_only, none_at_end}
 use Rattle.cpo_text.proofs.stating.Spells.{statement_takes}

@@ -4,7 +4,7 @@ use Rattle.std.proofs.lemmas.Bool.Decides.{nat_tests}
 use Rattle.cpo_text.specs.declared.piece.Piece.{Piece}
 use Rattle.cpo_text.specs.declared.piece.Piece.TheVariants.{Name, Int, Sign, Quoted, Blank, Line, Block}
 use Rattle.cpo_text.specs.Tokens.{IsAtFront, ArePieces}
-use Rattle.cpo_text.specs.code.Laws.{pieces_at, EachByteInOnePiece}
+use Rattle.cpo_text.specs.Laws.{pieces_at, EachByteInOnePiece}
 
 within : (bs : List ℕ) (p : Piece) (n : ℕ) → IsAtFront bs p n → n ≤ length bs
 within bs Name n front = front.0

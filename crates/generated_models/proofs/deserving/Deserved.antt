@@ -4,10 +4,10 @@ use Rattle.cpo_text.specs.declared.tree.Statement.{Statement}
 use Rattle.cpo_text.specs.declared.text.Form.TheVariants.{Tree as Parsed}
 use Rattle.cpo_text.specs.declared.text.Reading.{Reading}
 use Rattle.cpo_elab.specs.Deserves.Deserves.{judgement}
-use Rattle.read_back.specs.code.Trees.{canonical_statements}
-use Rattle.read_back.specs.code.Laws.{SaidIsRead, CanonicalIsJudged}
-use Rattle.generated_models.specs.code.Shops.{shop_model, shop_statements}
-use Rattle.generated_models.specs.code.Laws.{GeneratedDeserve, ShopsAreWritten, ShopsAreSaid, ShopsAreJudged}
+use Rattle.read_back.specs.Trees.{canonical_statements}
+use Rattle.read_back.specs.Laws.{SaidIsRead, CanonicalIsJudged}
+use Rattle.generated_models.specs.Shops.{shop_model, shop_statements}
+use Rattle.generated_models.specs.Laws.{GeneratedDeserve, ShopsAreWritten, ShopsAreSaid, ShopsAreJudged}
 
 -- readings of some statements, at whatever offsets
 readings : List Statement → List Reading

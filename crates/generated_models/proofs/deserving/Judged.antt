@@ -20,9 +20,9 @@ use Rattle.cpo_elab.specs.Elaborated.{expr_of, expr_step, objective_of}
 use Rattle.cpo_elab.specs.Factors.{factor_of, factor_step}
 use Rattle.cpo_elab.specs.Judged.{is_unknown, is_of_other_sort, defines_again, has_reversed, has_negative, misfits, has_twice, is_wide, statement_limit, node_limit, aims_again, is_crowded, first_of, number_in}
 use Rattle.modelgen.specs.Generated.{name}
-use Rattle.read_back.specs.code.Trees.{int_tree, interval_tree, canonical_statements}
-use Rattle.generated_models.specs.code.Shops.{interval, interval_statement, order_statement, machine_statement, end_tree, objective_statement, shop_model, shop_statements}
-use Rattle.generated_models.specs.code.Laws.{ShopsAreJudged}
+use Rattle.read_back.specs.Trees.{int_tree, interval_tree, canonical_statements}
+use Rattle.generated_models.specs.Shops.{interval, interval_statement, order_statement, machine_statement, end_tree, objective_statement, shop_model, shop_statements}
+use Rattle.generated_models.specs.Laws.{ShopsAreJudged}
 use Rattle.generated_models.proofs.deserving.Alike.{Alike, AllAlike, alike_both, alike_each, alike_lists, judged_alike}
 use Rattle.generated_models.proofs.shop.Looked.{order_spelt, end_spelt, objective_spelt, shop_spelt, spelt_out}
 

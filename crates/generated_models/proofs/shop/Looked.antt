@@ -21,8 +21,8 @@ use Rattle.cpo_text.specs.declared.tree.Statement.{Statement}
 use Rattle.cpo_text.specs.declared.tree.Statement.TheVariants.{Constrain, Aim}
 use Rattle.sched_text.specs.Pieces.{interval_name, interval_names}
 use Rattle.modelgen.specs.Generated.{name, operations_on}
-use Rattle.read_back.specs.code.Trees.{Told, told, told_step, wholes, int_tree, interval_tree, sequence_tree, constraint_tree, named_or_listed, canonical_statements}
-use Rattle.generated_models.specs.code.Shops.{by_jobs, interval, operation, sequence, order, last_end, shop_model, machine_statement}
+use Rattle.read_back.specs.Trees.{Told, told, told_step, wholes, int_tree, interval_tree, sequence_tree, constraint_tree, named_or_listed, canonical_statements}
+use Rattle.generated_models.specs.Shops.{by_jobs, interval, operation, sequence, order, last_end, shop_model, machine_statement}
 use Rattle.generated_models.proofs.shop.Lists.{same_made, same_joined, made_of_made, made_of_joined, at_number, at_block}
 
 -- an operation has the name of its job and its place

@@ -20,7 +20,7 @@ use Rattle.sched_model.specs.declared.types.Expr.TheViews.{roll-Expr}
 use Rattle.cpo_elab.specs.declared.factors.Factor.TheVariants.{Named}
 use Rattle.cpo_elab.specs.Factors.{beside, all_beside}
 use Rattle.cpo_elab.specs.Judged.{is_crowded}
-use Rattle.read_back.specs.code.Written.{written_step, factor_step, is_written_expr}
+use Rattle.read_back.specs.Written.{written_step, factor_step, is_written_expr}
 
 -- the end of each of some intervals, and the greatest of them
 abbrev pub end_of : Itv → Expr

@@ -28,7 +28,7 @@ use Rattle.sched_model.specs.declared.types.Expr.TheOpen.{Expr-F as expr}
 use Rattle.sched_model.specs.declared.types.Expr.TheViews.{roll-Expr}
 use Rattle.modelgen.specs.Draws.{draw}
 use Rattle.modelgen.specs.Generated.{name, operations_on}
-use Rattle.generated_models.specs.code.Shops.{by_jobs, interval, operation, sequence, order, last_end, shop_model}
+use Rattle.generated_models.specs.Shops.{by_jobs, interval, operation, sequence, order, last_end, shop_model}
 use Rattle.generated_models.proofs.shop.Lists.{made_pass, kept_pass, joined_pass, same_joined, made_of_made, made_of_joined, at_number, at_block}
 use Rattle.generated_models.proofs.shop.Sizes.{Sizes, draw_small, numbers_length, few_blocks}
 use Rattle.generated_models.proofs.shop.Apart.{pairs_joined, pairs_made, pairs_of_one, one_operation}

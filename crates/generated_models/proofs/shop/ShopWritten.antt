@@ -13,9 +13,9 @@ use Rattle.sched_model.specs.declared.types.SequenceDef.{SequenceDef}
 use Rattle.sched_model.specs.declared.types.Constraint.TheVariants as constraint
 use Rattle.cpo_text.specs.Runs.{left_out_words}
 use Rattle.cpo_elab.specs.NamedFirst.{is_named_sequence}
-use Rattle.read_back.specs.code.Written.{IsWritten, is_written_expr, is_written, sequences_in, cumuls_in, places, from_place}
-use Rattle.generated_models.specs.code.Shops.{by_jobs, sequence, order, shop_model}
-use Rattle.generated_models.specs.code.Laws.{ShopsAreWritten}
+use Rattle.read_back.specs.Written.{IsWritten, is_written_expr, is_written, sequences_in, cumuls_in, places, from_place}
+use Rattle.generated_models.specs.Shops.{by_jobs, sequence, order, shop_model}
+use Rattle.generated_models.specs.Laws.{ShopsAreWritten}
 use Rattle.generated_models.proofs.shop.Lists.{all_numbers, made_pass, joined_pass}
 use Rattle.generated_models.proofs.shop.Sizes.{Sizes, sizes}
 use Rattle.generated_models.proofs.shop.Apart.{pairs_made}

@@ -9,7 +9,7 @@ use Rattle.base_laws.specs.laws.Numbers.{at_most}
 use Rattle.base_laws.specs.laws.Truth.{five_true}
 use Rattle.modelgen.specs.Draws.{after, draw}
 use Rattle.modelgen.specs.Generated.{name, operations_on, are_within}
-use Rattle.generated_models.specs.code.Shops.{by_jobs}
+use Rattle.generated_models.specs.Shops.{by_jobs}
 use Rattle.generated_models.proofs.shop.Lists.{kept_pass, joined_pass}
 
 pub record Sizes (jobs machines : ℕ) : Type 0 where

@@ -12,7 +12,7 @@ use Rattle.cpo_text.specs.Reads.{text_limit}
 use Rattle.cpo_elab.specs.Judged.{statement_limit}
 use Rattle.modelgen.specs.Draws.{draw}
 use Rattle.modelgen.specs.Generated.{name, listed, ended, interval_line, order_line, operations_on, machine_line, objective_line, interval_lines, order_lines, machine_lines, generated_text}
-use Rattle.generated_models.specs.code.Shops.{by_jobs, interval_statement, order_statement, machine_statement, objective_statement, shop_statements}
+use Rattle.generated_models.specs.Shops.{by_jobs, interval_statement, order_statement, machine_statement, objective_statement, shop_statements}
 use Rattle.generated_models.proofs.shop.Lists.{made_pass, joined_pass}
 use Rattle.generated_models.proofs.shop.Sizes.{Sizes, draw_small, joined_length, numbers_length, few_blocks, operations_length, all_members}
 use Rattle.generated_models.proofs.text.Names.{name_length}

@@ -16,8 +16,8 @@ use Rattle.cpo_text.specs.Tokens.{is_letter, is_name_byte}
 use Rattle.cpo_text.specs.Runs.{left_out_words}
 use Rattle.modelgen.specs.Generated.{name}
 use Rattle.generated_models.proofs.shop.Apart.{fails}
-use Rattle.read_back.specs.code.Says.{is_chunk}
-use Rattle.read_back.specs.code.Says.Chunk.{name as named}
+use Rattle.read_back.specs.Says.{is_chunk}
+use Rattle.read_back.specs.Says.Chunk.{name as named}
 
 digits : (n : ℕ) → n < 1000 → all_ascii_digits (decimal n) ≡ true
 digits n small = digits_decimal digits_are_numerals n (omega (arith, small))

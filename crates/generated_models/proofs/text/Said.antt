@@ -7,8 +7,8 @@ use Rattle.std.proofs.lemmas.List.{append_assoc, append-nil}
 use Rattle.std.proofs.lemmas.List.Concat.{flat_map-append}
 use Rattle.base_laws.specs.laws.Items.{all_append}
 use Rattle.cpo_text.specs.Words.{Word, Word as word, commas}
-use Rattle.read_back.specs.code.Says.{Says, Chunk, chunk_bytes, chunk_words, is_chunk, are_apart}
-use Rattle.read_back.specs.code.Says.Chunk.{name, number, sign, blank}
+use Rattle.read_back.specs.Says.{Says, Chunk, chunk_bytes, chunk_words, is_chunk, are_apart}
+use Rattle.read_back.specs.Says.Chunk.{name, number, sign, blank}
 
 -- a text that says words, behind which any other may stand
 pub record Line (text : List ℕ) (words : List Word) : Type 0 where

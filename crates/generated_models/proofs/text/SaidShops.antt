@@ -22,9 +22,9 @@ use Rattle.cpo_text.specs.declared.tree.Constrained.TheVariants as constrained
 use Rattle.cpo_text.specs.declared.tree.Sense.TheVariants as sense
 use Rattle.cpo_text.specs.declared.tree.Statement.TheVariants.{Define, Constrain, Aim}
 use Rattle.modelgen.specs.Generated.{listed, ended}
-use Rattle.read_back.specs.code.Says.{Chunk, chunk_bytes, is_chunk, are_apart}
-use Rattle.read_back.specs.code.Says.Chunk.{name, number, sign, blank}
-use Rattle.read_back.specs.code.Trees.{int_tree}
+use Rattle.read_back.specs.Says.{Chunk, chunk_bytes, is_chunk, are_apart}
+use Rattle.read_back.specs.Says.Chunk.{name, number, sign, blank}
+use Rattle.read_back.specs.Trees.{int_tree}
 use Rattle.generated_models.proofs.text.Said.{Line, feed, row, IsItem, row_bytes, row_said, row_are, row_apart}
 
 pub interval_said : (n : List ℕ) (d : ℕ) → is_chunk (name n) ≡ true → is_chunk (number d) ≡ true

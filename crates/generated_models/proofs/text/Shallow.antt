@@ -21,7 +21,7 @@ use Rattle.cpo_text.specs.declared.tree.Over.TheVariants as over
 use Rattle.cpo_text.specs.declared.tree.Constrained.TheVariants as constrained
 use Rattle.cpo_text.specs.declared.tree.Sense.TheVariants as sense
 use Rattle.cpo_text.specs.declared.tree.Statement.TheVariants.{Constrain, Aim}
-use Rattle.read_back.specs.code.Laws.{is_shallow}
+use Rattle.read_back.specs.Laws.{is_shallow}
 use Rattle.generated_models.proofs.text.SaidShops.{overlap_words, overlap_spelt, end_words, end_of, aim_words, aim_spelt}
 
 module _ (d : ℤ) (words : List ℕ → List Word) (keeps : (n : List ℕ) (tail : List Word) → is_deep d tail ≡ false → is_deep d (words n ++ tail) ≡ false)

@@ -16,11 +16,11 @@ use Rattle.cpo_text.specs.declared.tree.Statement.{Statement}
 use Rattle.cpo_text.specs.declared.tree.Statement.TheVariants.{Aim}
 use Rattle.modelgen.specs.Draws.{draw}
 use Rattle.modelgen.specs.Generated.{name, listed, ended, interval_line, order_line, operations_on, machine_line, objective_line, interval_lines, order_lines, machine_lines, generated_text}
-use Rattle.read_back.specs.code.Says.{is_chunk}
-use Rattle.read_back.specs.code.Says.Chunk.{name as named}
-use Rattle.read_back.specs.code.Laws.{is_shallow}
-use Rattle.generated_models.specs.code.Shops.{by_jobs, interval_statement, order_statement, machine_statement, objective_statement, shop_statements}
-use Rattle.generated_models.specs.code.Laws.{ShopsAreSaid}
+use Rattle.read_back.specs.Says.{is_chunk}
+use Rattle.read_back.specs.Says.Chunk.{name as named}
+use Rattle.read_back.specs.Laws.{is_shallow}
+use Rattle.generated_models.specs.Shops.{by_jobs, interval_statement, order_statement, machine_statement, objective_statement, shop_statements}
+use Rattle.generated_models.specs.Laws.{ShopsAreSaid}
 use Rattle.generated_models.proofs.shop.Lists.{made_pass, joined_pass, made_of_made}
 use Rattle.generated_models.proofs.shop.Sizes.{Sizes, sizes, draw_small, all_members}
 use Rattle.generated_models.proofs.text.Names.{name_told}

@@ -15,8 +15,8 @@ use Rattle.cpo_text.specs.declared.expression.Logic.TheViews.{roll-Logic}
 use Rattle.cpo_elab.specs.declared.factors.Factor.{Factor}
 use Rattle.cpo_elab.specs.Factors as tree
 use Rattle.cpo_elab.specs.Factors.{beside, all_beside, linked, factor_of}
-use Rattle.read_back.specs.code.Trees.{Told, composed, wholes, operands, summed, comparison_tree, told_step, told}
-use Rattle.read_back.specs.code.Written.{factor_step, factor}
+use Rattle.read_back.specs.Trees.{Told, composed, wholes, operands, summed, comparison_tree, told_step, told}
+use Rattle.read_back.specs.Written.{factor_step, factor}
 use Rattle.read_back.proofs.expr.Folds.{Known, made, folded, by_levels, Thrice, of_plain, of_composed, of_negated}
 
 abbrev Has : Factor → Logic → Type 0

@@ -9,10 +9,10 @@ use Rattle.sched_model.specs.declared.types.Expr.TheViews.{roll-Expr}
 use Rattle.cpo_text.specs.declared.expression.Logic.{Logic}
 use Rattle.cpo_text.specs.declared.expression.Logic.TheOpen.Logic-F.{Group}
 use Rattle.cpo_text.specs.declared.expression.Logic.TheViews.{roll-Logic}
-use Rattle.read_back.specs.code.Trees.{Told, plain, composed, negated}
+use Rattle.read_back.specs.Trees.{Told, plain, composed, negated}
 use Rattle.sched_model.specs.Data.{Data}
 use Rattle.sched_model.specs.Valid.{expr_step}
-use Rattle.read_back.specs.code.Written.{written_step}
+use Rattle.read_back.specs.Written.{written_step}
 
 -- the tests of an expression but for its hull, and for the intervals that it multiplies
 abbrev pub is_tree : Data → Expr → Bool

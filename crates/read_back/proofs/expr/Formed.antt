@@ -19,8 +19,8 @@ use Rattle.cpo_text.specs.declared.expression.Logic.TheOpen.{Logic-F}
 use Rattle.cpo_text.specs.declared.expression.Logic.TheOpen.Logic-F.{Lit, Group, PresenceOf, Measured, Gathered, Linked, Neg, Sum, Compare, Not, Implies}
 use Rattle.cpo_text.specs.declared.expression.Logic.TheFolds.{fold-roll-Logic, map-Logic}
 use Rattle.cpo_text.specs.declared.expression.Logic.TheViews.{roll-Logic}
-use Rattle.read_back.specs.code.Trees.{Told, plain, composed, negated, wholes, operands, summed, comparison_tree, told_step, told}
-use Rattle.read_back.specs.code.Written.{written_step, is_written_expr}
+use Rattle.read_back.specs.Trees.{Told, plain, composed, negated, wholes, operands, summed, comparison_tree, told_step, told}
+use Rattle.read_back.specs.Written.{written_step, is_written_expr}
 use Rattle.read_back.proofs.expr.Folds.{Known, folded, by_levels, is_tree, is_written_tree}
 
 -- how tightly each way of telling an expression holds together

@@ -8,8 +8,8 @@ use Rattle.sched_model.specs.Words.{is_empty}
 use Rattle.cpo_text.specs.Tokens.{literal_limit}
 use Rattle.cpo_text.specs.Parts.{int_words}
 use Rattle.sched_text.specs.Pieces as pieces
-use Rattle.read_back.specs.code.Trees.{int_tree}
-use Rattle.read_back.specs.code.Says.{Says, Chunk, Chunk as chunk, chunk_bytes, chunk_words, is_sign, is_chunk}
+use Rattle.read_back.specs.Trees.{int_tree}
+use Rattle.read_back.specs.Says.{Says, Chunk, Chunk as chunk, chunk_bytes, chunk_words, is_sign, is_chunk}
 use Rattle.read_back.proofs.Numbers.{small_literal}
 use Rattle.read_back.proofs.Joined.{meet, says_joined, nothing, a_chunk}
 use Rattle.read_back.proofs.Edges.{Edge, Edge.{Free, Signs, Words}, meets, fits_front, fits_back, begins, ends, begins_more, ends_more, seam}

@@ -28,8 +28,8 @@ use Rattle.cpo_text.specs.declared.expression.Logic.TheViews.{roll-Logic}
 use Rattle.cpo_elab.specs.Elaborated as meant
 use Rattle.cpo_elab.specs.Elaborated.{measure_of, link_of, compare_of, expr_of}
 use Rattle.sched_text.specs.Pieces.{interval_name}
-use Rattle.read_back.specs.code.Trees.{int_tree, Told, composed, wholes, operands, summed, comparison_tree, measured, told_step, told}
-use Rattle.read_back.specs.code.Written.{written_step, is_written_expr}
+use Rattle.read_back.specs.Trees.{int_tree, Told, composed, wholes, operands, summed, comparison_tree, measured, told_step, told}
+use Rattle.read_back.specs.Written.{written_step, is_written_expr}
 use Rattle.read_back.proofs.Names.{itv_back}
 use Rattle.read_back.proofs.expr.Folds.{Known, made, folded, by_levels, Thrice, of_plain, of_composed, of_negated, is_tree, is_written_tree}
 use Rattle.read_back.proofs.Numbers.{size_back, int_back, small_literal}

@@ -32,10 +32,10 @@ use Rattle.sched_text.specs.Pieces.{interval_name}
 use Rattle.sched_text.specs.Pieces as pieces
 use Rattle.sched_text.specs.Shown.{Shown, shown_step, shown}
 use Rattle.sched_text.specs.Shown as text
-use Rattle.read_back.specs.code.Trees.{int_tree, Told, plain, composed, negated, wholes, operands, summed, comparison_tree, measured, told_step, told}
-use Rattle.read_back.specs.code.Written.{IsWritten, written_step, is_written_expr}
-use Rattle.read_back.specs.code.Says as says
-use Rattle.read_back.specs.code.Says.{Says, Chunk as chunk, is_chunk}
+use Rattle.read_back.specs.Trees.{int_tree, Told, plain, composed, negated, wholes, operands, summed, comparison_tree, measured, told_step, told}
+use Rattle.read_back.specs.Written.{IsWritten, written_step, is_written_expr}
+use Rattle.read_back.specs.Says as says
+use Rattle.read_back.specs.Says.{Says, Chunk as chunk, is_chunk}
 use Rattle.read_back.proofs.expr.Folds.{Known, folded, by_levels, is_tree, is_written_tree}
 use Rattle.read_back.proofs.Spelt.{interval_told, are_told}
 use Rattle.read_back.proofs.Edges.{Edge.{Free, Signs, Words}}

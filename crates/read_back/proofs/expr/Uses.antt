@@ -20,7 +20,7 @@ use Rattle.cpo_text.specs.declared.expression.Logic.TheViews.{roll-Logic}
 use Rattle.cpo_elab.specs.declared.names.Sort.TheVariants.{Interval}
 use Rattle.cpo_elab.specs.Named.{NameTest, logic_step, some_in_logic}
 use Rattle.sched_text.specs.Pieces.{interval_name}
-use Rattle.read_back.specs.code.Trees.{Told, composed, wholes, operands, summed, comparison_tree, told_step, told}
+use Rattle.read_back.specs.Trees.{Told, composed, wholes, operands, summed, comparison_tree, told_step, told}
 use Rattle.read_back.proofs.expr.Folds.{Known, folded, by_levels, Thrice, of_plain, of_composed, of_negated, is_tree}
 
 module _ (m : Data) (test : NameTest) (intervals : (x : Itv) → is_itv m x ≡ true → test Interval (interval_name m x) ≡ false) where

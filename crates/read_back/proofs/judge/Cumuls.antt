@@ -15,7 +15,7 @@ use Rattle.cpo_elab.specs.Judged.{is_large}
 use Rattle.cpo_elab.specs.Held.{some_moments, some_height}
 use Rattle.cpo_elab.specs.Judged.{is_outside, is_reversed}
 use Rattle.cpo_elab.specs.NamedFirst.{is_named_sequence, is_named_cumul, parted}
-use Rattle.read_back.specs.code.Trees.{cumul_tree, parts_tree}
+use Rattle.read_back.specs.Trees.{cumul_tree, parts_tree}
 use Rattle.read_back.proofs.Items.{item}
 use Rattle.read_back.proofs.judge.Frame.{StepBy}
 use Rattle.read_back.proofs.judge.Limits.{made, Fronts, front_none, front_all, made_within}

@@ -16,7 +16,7 @@ use Rattle.cpo_elab.specs.Literals.{range_of}
 use Rattle.cpo_elab.specs.Held.{some_range, some_in_rows}
 use Rattle.cpo_elab.specs.Elaborated.{plain_interval, with_ivargs, interval_of, matrix_named, after}
 use Rattle.cpo_elab.specs.Judged.{is_negative, is_reversed, is_outside, is_large}
-use Rattle.read_back.specs.code.Trees.{optional_args, range_tree, interval_tree, matrix_tree}
+use Rattle.read_back.specs.Trees.{optional_args, range_tree, interval_tree, matrix_tree}
 use Rattle.read_back.proofs.Truth.{not_below, same_number}
 use Rattle.read_back.proofs.judge.Numbers.{span_back, span_inside, span_ordered, amount_sign, amount_size, row_trees, rows_back, row_number, rows_square, rows_pass}
 use Rattle.read_back.proofs.judge.Frame.{Clean}

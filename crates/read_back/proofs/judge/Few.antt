@@ -8,7 +8,7 @@ use Rattle.sched_model.specs.Valid.{IsValid}
 use Rattle.sched_model.specs.laws.Limits.{limits_of}
 use Rattle.cpo_text.specs.declared.tree.Statement.TheVariants.{Constrain}
 use Rattle.cpo_elab.specs.Judged.{statement_limit}
-use Rattle.read_back.specs.code.Trees.{interval_tree, matrix_tree, sequence_tree, cumul_tree, state_tree, constraint_tree, objective_tree, canonical_statements}
+use Rattle.read_back.specs.Trees.{interval_tree, matrix_tree, sequence_tree, cumul_tree, state_tree, constraint_tree, objective_tree, canonical_statements}
 
 at_most_all : {X Y : Type 0} (f : X → Option Y) (xs : List X) → length (filter_map f xs) ≤ length xs
 at_most_all f [] = omega arith

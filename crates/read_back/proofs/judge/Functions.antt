@@ -26,8 +26,8 @@ use Rattle.cpo_elab.specs.Elaborated.{named_itself, cumul_id, with_unnamed}
 use Rattle.cpo_elab.specs.Judged.{is_reversed, is_outside}
 use Rattle.sched_text.specs.Pieces.{interval_name}
 use Rattle.sched_text.specs.Canonical.{least_level}
-use Rattle.read_back.specs.code.Trees.{int_tree, by_name, parts_tree, named_or_parts, function_tree, within_tree, constraint_tree}
-use Rattle.read_back.specs.code.Written.{is_one_bound}
+use Rattle.read_back.specs.Trees.{int_tree, by_name, parts_tree, named_or_parts, function_tree, within_tree, constraint_tree}
+use Rattle.read_back.specs.Written.{is_one_bound}
 use Rattle.read_back.proofs.Numbers.{int_back, span}
 use Rattle.read_back.proofs.Names.{itv_back}
 use Rattle.read_back.proofs.Truth.{the_other}

@@ -8,7 +8,7 @@ use Rattle.std.proofs.lemmas.Bool.{not-true}
 use Rattle.base_laws.specs.laws.Places.{at_left}
 use Rattle.base_laws.specs.laws.Items.{all_at}
 use Rattle.cpo_elab.specs.NamedFirst.{parted}
-use Rattle.read_back.specs.code.Written.{places, from_place}
+use Rattle.read_back.specs.Written.{places, from_place}
 use Rattle.read_back.proofs.Items.{kept_pass}
 use Rattle.read_back.proofs.Truth.{all_from}
 use Rattle.read_back.proofs.judge.Limits.{Front}

@@ -18,7 +18,7 @@ use Rattle.cpo_elab.specs.Held.{some_bound, some_amount, list_in, members_in}
 use Rattle.cpo_elab.specs.Elaborated.{after, constraint_of, with_written}
 use Rattle.cpo_elab.specs.Judged.{lacks_member, has_reversed, has_negative, misfits, is_outside, is_large, has_no_hull, has_crowded}
 use Rattle.cpo_elab.specs.NamedFirst.{is_named_sequence}
-use Rattle.read_back.specs.code.Trees.{sequence_name}
+use Rattle.read_back.specs.Trees.{sequence_name}
 use Rattle.read_back.proofs.Names.{AreApart, apart_left, placed, apart}
 use Rattle.read_back.proofs.judge.Names.{Blind}
 use Rattle.read_back.proofs.judge.Frame.{Clean}

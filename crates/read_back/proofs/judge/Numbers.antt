@@ -11,7 +11,7 @@ use Rattle.cpo_elab.specs.Literals.{int_of, range_of}
 use Rattle.cpo_elab.specs.Elaborated.{types_in}
 use Rattle.cpo_elab.specs.Judged.{is_outside, is_reversed, is_negative, is_large}
 use Rattle.cpo_elab.specs.Held.{some_int, some_in_rows}
-use Rattle.read_back.specs.code.Trees.{int_tree, range_tree, cell_rows}
+use Rattle.read_back.specs.Trees.{int_tree, range_tree, cell_rows}
 use Rattle.read_back.proofs.Truth.{all_take, all_drop, is_same}
 use Rattle.read_back.proofs.Numbers.{size_back, int_back, span, type_amount, type_literal}
 

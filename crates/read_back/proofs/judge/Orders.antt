@@ -20,8 +20,8 @@ use Rattle.cpo_elab.specs.Named.{number_of, itv_of, seq_of}
 use Rattle.cpo_elab.specs.Elaborated.{extreme_of, order_of}
 use Rattle.cpo_elab.specs.Judged.{is_no_member}
 use Rattle.sched_text.specs.Pieces.{interval_name}
-use Rattle.read_back.specs.code.Trees.{sequence_name}
-use Rattle.read_back.specs.code.Written.{is_named_at}
+use Rattle.read_back.specs.Trees.{sequence_name}
+use Rattle.read_back.specs.Written.{is_named_at}
 use Rattle.read_back.proofs.Members.{member_is}
 use Rattle.read_back.proofs.Names.{itv_back}
 use Rattle.read_back.proofs.judge.Middle.{mid, Middle, named_seq, seq_back, name_is, Leaves, leaves}

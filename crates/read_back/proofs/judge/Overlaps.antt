@@ -17,7 +17,7 @@ use Rattle.cpo_text.specs.declared.tree.Over.TheVariants as over
 use Rattle.cpo_text.specs.declared.tree.Constrained.TheVariants as constrained
 use Rattle.cpo_elab.specs.declared.names.Sort.TheVariants.{Interval, Matrix, Sequence}
 use Rattle.sched_text.specs.Pieces.{interval_name, interval_names, matrix_name}
-use Rattle.read_back.specs.code.Trees.{over_tree, named_or_listed, spaced_tree, constraint_tree}
+use Rattle.read_back.specs.Trees.{over_tree, named_or_listed, spaced_tree, constraint_tree}
 use Rattle.read_back.proofs.Members.{Listing}
 use Rattle.read_back.proofs.Names.{number_mat, mat_back, itvs_back}
 use Rattle.read_back.proofs.judge.Names.{itvs_pass}

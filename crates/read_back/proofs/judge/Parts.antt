@@ -18,7 +18,7 @@ use Rattle.cpo_elab.specs.Held.{cpart_moments, cpart_height, some_moments, some_
 use Rattle.cpo_elab.specs.Elaborated.{turned, plain_parts, parts_signed, parts_in, unsigned_name, named_itself}
 use Rattle.cpo_elab.specs.Judged.{is_reversed, is_outside, is_negative, is_large}
 use Rattle.sched_text.specs.Pieces.{interval_name}
-use Rattle.read_back.specs.code.Trees.{int_tree, shape_tree, part_tree, parts_tree, by_name}
+use Rattle.read_back.specs.Trees.{int_tree, shape_tree, part_tree, parts_tree, by_name}
 use Rattle.read_back.proofs.Numbers.{int_back, span}
 use Rattle.read_back.proofs.Names.{itv_back, number_itv}
 use Rattle.read_back.proofs.Truth.{none_of_map}

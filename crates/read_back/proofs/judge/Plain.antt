@@ -27,9 +27,9 @@ use Rattle.cpo_elab.specs.Factors.{factor_of}
 use Rattle.cpo_elab.specs.Elaborated.{expr_of, points_of, hierarchy_of}
 use Rattle.cpo_elab.specs.Judged.{is_crowded, is_negative, is_large}
 use Rattle.sched_text.specs.Pieces.{interval_name, interval_names, state_name}
-use Rattle.read_back.specs.code.Trees.{temporal_tree, logic_tree, constraint_tree}
-use Rattle.read_back.specs.code.Written.{is_written_expr, written_step, factor}
-use Rattle.read_back.specs.code.Laws.{ExpressionsReturn, FactorsReturn, ExpressionsNameIntervals}
+use Rattle.read_back.specs.Trees.{temporal_tree, logic_tree, constraint_tree}
+use Rattle.read_back.specs.Written.{is_written_expr, written_step, factor}
+use Rattle.read_back.specs.Laws.{ExpressionsReturn, FactorsReturn, ExpressionsNameIntervals}
 use Rattle.read_back.proofs.Numbers.{int_back}
 use Rattle.read_back.proofs.Names.{number_itv, number_stf, itv_back, itvs_back, stf_back}
 use Rattle.read_back.proofs.judge.Numbers.{amount_sign, amount_size}

@@ -16,7 +16,7 @@ use Rattle.cpo_elab.specs.Elaborated.{types_in, sequence_named, after}
 use Rattle.cpo_elab.specs.Judged.{is_negative, is_large, misfits}
 use Rattle.cpo_elab.specs.NamedFirst.{is_named_sequence, parted}
 use Rattle.sched_text.specs.Pieces.{interval_name, interval_names}
-use Rattle.read_back.specs.code.Trees.{int_tree, sequence_tree}
+use Rattle.read_back.specs.Trees.{int_tree, sequence_tree}
 use Rattle.read_back.proofs.Items.{item}
 use Rattle.read_back.proofs.Names.{itvs_back}
 use Rattle.read_back.proofs.judge.Names.{itvs_pass}

@@ -13,7 +13,7 @@ use Rattle.cpo_elab.specs.declared.names.Sort.TheVariants.{Matrix}
 use Rattle.cpo_elab.specs.Named.{NameTest, mat_of}
 use Rattle.cpo_elab.specs.Elaborated.{after}
 use Rattle.sched_text.specs.Pieces.{matrix_name}
-use Rattle.read_back.specs.code.Trees.{state_tree}
+use Rattle.read_back.specs.Trees.{state_tree}
 use Rattle.read_back.proofs.Items.{item}
 use Rattle.read_back.proofs.Names.{number_mat, mat_back}
 use Rattle.read_back.proofs.judge.Names.{Blind}

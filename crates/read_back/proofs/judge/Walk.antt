@@ -18,9 +18,9 @@ use Rattle.sched_model.specs.Data.{Data}
 use Rattle.sched_model.specs.Valid.{IsValid, is_constraint, is_sequence_def, is_cumul_def, is_seq, is_small, is_window, fits_types}
 use Rattle.cpo_text.specs.declared.tree.Statement.TheVariants.{Constrain}
 use Rattle.cpo_elab.specs.NamedFirst.{is_named_sequence, is_named_cumul, parted}
-use Rattle.read_back.specs.code.Trees.{constraint_tree}
-use Rattle.read_back.specs.code.Written.{IsWritten, is_written, is_one_bound, sequences_in, cumuls_in}
-use Rattle.read_back.specs.code.Laws.{ExpressionsReturn, FactorsReturn, ExpressionsNameIntervals}
+use Rattle.read_back.specs.Trees.{constraint_tree}
+use Rattle.read_back.specs.Written.{IsWritten, is_written, is_one_bound, sequences_in, cumuls_in}
+use Rattle.read_back.specs.Laws.{ExpressionsReturn, FactorsReturn, ExpressionsNameIntervals}
 use Rattle.read_back.proofs.Members.{listing}
 use Rattle.read_back.proofs.Items.{item_at, item}
 use Rattle.read_back.proofs.Truth.{the_other}

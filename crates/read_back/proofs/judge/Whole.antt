@@ -17,10 +17,10 @@ use Rattle.cpo_elab.specs.Elaborated.{after, sense_of}
 use Rattle.cpo_elab.specs.Judged.{statement_limit, node_limit}
 use Rattle.cpo_elab.specs.Answers.Answer.{Accepted}
 use Rattle.cpo_elab.specs.NamedFirst.{is_named_sequence, is_named_cumul}
-use Rattle.cpo_elab.specs.code.NamedFirstLaws.{NothingMoves}
-use Rattle.read_back.specs.code.Trees.{interval_tree, matrix_tree, sequence_tree, cumul_tree, state_tree, constraint_tree, sense_tree, objective_tree, canonical_statements}
-use Rattle.read_back.specs.code.Written.{IsWritten, is_written_expr}
-use Rattle.read_back.specs.code.Laws.{ExpressionsReturn, FactorsReturn, ExpressionsNameIntervals, CanonicalIsJudged}
+use Rattle.cpo_elab.specs.NamedFirstLaws.{NothingMoves}
+use Rattle.read_back.specs.Trees.{interval_tree, matrix_tree, sequence_tree, cumul_tree, state_tree, constraint_tree, sense_tree, objective_tree, canonical_statements}
+use Rattle.read_back.specs.Written.{IsWritten, is_written_expr}
+use Rattle.read_back.specs.Laws.{ExpressionsReturn, FactorsReturn, ExpressionsNameIntervals, CanonicalIsJudged}
 use Rattle.read_back.proofs.judge.Few.{few_statements}
 use Rattle.read_back.proofs.judge.Frame.{Leads, leads_on, lead, phase, every, judged_leads}
 use Rattle.read_back.proofs.judge.Limits.{aimed_within}

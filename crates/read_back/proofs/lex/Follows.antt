@@ -6,8 +6,8 @@ use Rattle.std.specs.Fmt.{decimal}
 use Rattle.std.proofs.lemmas.Bool.Decides.{nat_tests}
 use Rattle.std.proofs.lemmas.Bool.{and_parts}
 use Rattle.cpo_text.specs.Tokens.{is_letter, is_digit, is_name_byte, is_blank, is_sign_byte, is_sign_pair, literal_limit}
-use Rattle.read_back.specs.code.Says.{Chunk, chunk_bytes, is_sign, is_left_out, is_chunk, makes_pair, is_apart, are_apart}
-use Rattle.read_back.specs.code.Says.Chunk.{name, number, sign, blank}
+use Rattle.read_back.specs.Says.{Chunk, chunk_bytes, is_sign, is_left_out, is_chunk, makes_pair, is_apart, are_apart}
+use Rattle.read_back.specs.Says.Chunk.{name, number, sign, blank}
 use Rattle.read_back.proofs.lex.Bytes.{is_sign_first, Begins, single_first, pair_first}
 use Rattle.read_back.proofs.lex.Numbers.{decimal_are_digits, decimal_is_some}
 use Rattle.read_back.proofs.lex.Pieces.{chunk_piece, is_followed}

@@ -11,7 +11,7 @@ use Rattle.cpo_text.specs.Tokens.{Token}
 use Rattle.cpo_text.specs.Runs.{words_of, offset, is_deep, has_many_nestings, early}
 use Rattle.cpo_text.specs.Spelling.{spelling, is_formed}
 use Rattle.cpo_text.specs.Reads.{HasForm, AreReadings}
-use Rattle.read_back.specs.code.Laws.{is_shallow}
+use Rattle.read_back.specs.Laws.{is_shallow}
 use Rattle.read_back.proofs.lex.Words.{AreKnown, parts_known}
 
 none_early : (s : Statement) → is_shallow s ≡ true → AreKnown (spelling s) → early (spelling s) ≡ None

@@ -10,8 +10,8 @@ use Rattle.cpo_text.specs.declared.piece.Piece.{Piece}
 use Rattle.cpo_text.specs.declared.piece.Piece.TheVariants.{Name, Int, Sign, Blank}
 use Rattle.cpo_text.specs.Tokens.{is_letter, is_digit, is_name_byte, is_blank, is_sign_byte, IsPiece, IsAtFront, IsLongest, literal_limit}
 use Rattle.cpo_text.specs.lemmas.Slashes.{pair_no_slash, no_comment, letter_no_slash, digit_no_slash, blank_no_slash}
-use Rattle.read_back.specs.code.Says.{Chunk, chunk_bytes, is_sign, is_left_out, is_chunk, makes_pair}
-use Rattle.read_back.specs.code.Says.Chunk.{name, number, sign, blank}
+use Rattle.read_back.specs.Says.{Chunk, chunk_bytes, is_sign, is_left_out, is_chunk, makes_pair}
+use Rattle.read_back.specs.Says.Chunk.{name, number, sign, blank}
 use Rattle.read_back.proofs.lex.Bytes.{is_sign_first, single_first, pair_first, begins_by, at_front, letter_is_name, digit_is_int, blank_is_blank, sign_is_sign}
 use Rattle.read_back.proofs.lex.Numbers.{decimal_are_digits, decimal_is_some}
 

@@ -8,7 +8,7 @@ use Rattle.cpo_text.specs.Runs.{runs}
 use Rattle.cpo_text.specs.Spelling.{spelling}
 use Rattle.cpo_text.specs.Reads.{AreReadings, told_limit, told}
 use Rattle.cpo_elab.specs.Judged.{statement_limit}
-use Rattle.read_back.specs.code.Laws.{SaidIsRead}
+use Rattle.read_back.specs.Laws.{SaidIsRead}
 use Rattle.read_back.proofs.lex.Tokens.{tokens_said}
 use Rattle.read_back.proofs.lex.Words.{said_known}
 use Rattle.read_back.proofs.lex.Runs.{runs_spelt}

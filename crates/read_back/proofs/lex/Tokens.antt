@@ -10,8 +10,8 @@ use Rattle.cpo_text.specs.declared.piece.Piece.{Piece}
 use Rattle.cpo_text.specs.Words.{Word, Word as word, size_word}
 use Rattle.cpo_text.specs.Tokens.{Token, ArePieces, HasTokens, bounded, digits_value, literal_limit, word_of, put, tokens_of, has_comment}
 use Rattle.cpo_text.specs.Runs.{words_of}
-use Rattle.read_back.specs.code.Says.{Chunk, chunk_bytes, chunk_words, is_chunk, are_apart, Says}
-use Rattle.read_back.specs.code.Says.Chunk.{name, number, sign, blank}
+use Rattle.read_back.specs.Says.{Chunk, chunk_bytes, chunk_words, is_chunk, are_apart, Says}
+use Rattle.read_back.specs.Says.Chunk.{name, number, sign, blank}
 use Rattle.read_back.proofs.lex.Numbers.{decimal_is_value}
 use Rattle.read_back.proofs.lex.Pieces.{chunk_piece, chunk_longest}
 use Rattle.read_back.proofs.lex.Follows.{followed, rest_apart}

@@ -6,9 +6,9 @@ use Rattle.std.proofs.lemmas.List.Folds.{list_any-append}
 use Rattle.std.proofs.lemmas.Bool.{and_parts, or_parts, not-true}
 use Rattle.cpo_text.specs.Words.{Word}
 use Rattle.cpo_text.specs.Runs.{is_left_out, has_left_out, is_large, has_large}
-use Rattle.read_back.specs.code.Says.{Chunk, chunk_words, is_spelt, is_chunk, Says}
-use Rattle.read_back.specs.code.Says.{is_left_out as is_name_left_out}
-use Rattle.read_back.specs.code.Says.Chunk.{name, number, sign, blank}
+use Rattle.read_back.specs.Says.{Chunk, chunk_words, is_spelt, is_chunk, Says}
+use Rattle.read_back.specs.Says.{is_left_out as is_name_left_out}
+use Rattle.read_back.specs.Says.Chunk.{name, number, sign, blank}
 
 -- words that the language knows
 pub record AreKnown (ws : List Word) : Type 0 where

@@ -33,11 +33,11 @@ use Rattle.sched_model.specs.Valid.{is_small, is_amount, is_itv, is_mat, is_seq,
 use Rattle.sched_text.specs.Pieces as piece
 use Rattle.sched_text.specs.Pieces.{interval_name, matrix_name, interval_names}
 use Rattle.sched_text.specs.Canonical.{list_text, function_text, flag, temporal_word, over_text, distance_text, least_level, within_text, constraint_text, sense_word, objective_text, statement}
-use Rattle.read_back.specs.code.Trees.{int_tree, function_tree, temporal_tree, over_tree, spaced_tree, within_tree, constraint_tree, sense_tree, objective_tree}
-use Rattle.read_back.specs.code.Written.{is_written, is_written_expr}
-use Rattle.read_back.specs.code.Laws.{ExpressionsAreSaid, ExpressionsAreFormed}
-use Rattle.read_back.specs.code.Says.{Says}
-use Rattle.read_back.specs.code.Says.Chunk.{sign, blank}
+use Rattle.read_back.specs.Trees.{int_tree, function_tree, temporal_tree, over_tree, spaced_tree, within_tree, constraint_tree, sense_tree, objective_tree}
+use Rattle.read_back.specs.Written.{is_written, is_written_expr}
+use Rattle.read_back.specs.Laws.{ExpressionsAreSaid, ExpressionsAreFormed}
+use Rattle.read_back.specs.Says.{Says}
+use Rattle.read_back.specs.Says.Chunk.{sign, blank}
 use Rattle.read_back.proofs.Joined.{a_name, a_number}
 use Rattle.read_back.proofs.Numbers.{small_literal, amount_literal, span_literals}
 use Rattle.read_back.proofs.said.Joined.{across, along, comma, space}

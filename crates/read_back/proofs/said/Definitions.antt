@@ -18,13 +18,13 @@ use Rattle.sched_model.specs.Words.{passes_if_any}
 use Rattle.sched_model.specs.Valid.{is_span_of_moments, is_amount, is_interval_def, is_matrix_def, is_sequence_def, is_state_def, is_itv, is_mat, are_distinct, are_parts}
 use Rattle.sched_text.specs.Pieces.{listed, interval_names, matrix_name}
 use Rattle.sched_text.specs.Canonical.{interval_text, optional_items, range_items, rows, matrix_text, types_text, list_text, named_sequence_text, state_items, state_text}
-use Rattle.read_back.specs.code.Trees.{int_tree, range_tree, optional_args, interval_tree, cell_rows, matrix_tree, sequence_tree, state_tree}
+use Rattle.read_back.specs.Trees.{int_tree, range_tree, optional_args, interval_tree, cell_rows, matrix_tree, sequence_tree, state_tree}
 use Rattle.cpo_text.specs.declared.tree.Definition.TheVariants.{IntervalVar}
 use Rattle.cpo_text.specs.declared.tree.Statement.TheVariants.{Define}
 use Rattle.cpo_text.specs.declared.tree.Ivarg.{Ivarg}
 use Rattle.cpo_text.specs.declared.tree.Ivarg.TheVariants.{Start, End, Size}
-use Rattle.read_back.specs.code.Says.{Says}
-use Rattle.read_back.specs.code.Says.Chunk.{sign}
+use Rattle.read_back.specs.Says.{Says}
+use Rattle.read_back.specs.Says.Chunk.{sign}
 use Rattle.read_back.proofs.Joined.{a_name, a_number}
 use Rattle.read_back.proofs.Numbers.{is_literal, span_literals, amount_literal, type_literal}
 use Rattle.read_back.proofs.said.Joined.{across, comma}

@@ -15,9 +15,9 @@ use Rattle.sched_model.specs.Data.{Data}
 use Rattle.sched_model.specs.Words.{passes_if_any, is_empty}
 use Rattle.sched_model.specs.Valid.{is_moment, is_span_of_moments, is_amount, is_itv, is_shape, is_cumul_def}
 use Rattle.sched_text.specs.Canonical.{shape_text, later_part, parts_text, cumul_text, named_cumul_text}
-use Rattle.read_back.specs.code.Trees.{shape_tree, part_tree, parts_tree, cumul_tree, named_or_parts}
-use Rattle.read_back.specs.code.Says.{Says}
-use Rattle.read_back.specs.code.Says.Chunk.{sign}
+use Rattle.read_back.specs.Trees.{shape_tree, part_tree, parts_tree, cumul_tree, named_or_parts}
+use Rattle.read_back.specs.Says.{Says}
+use Rattle.read_back.specs.Says.Chunk.{sign}
 use Rattle.read_back.proofs.Joined.{nothing, a_name}
 use Rattle.read_back.proofs.Numbers.{moment_literal, amount_literal, span_literals}
 use Rattle.read_back.proofs.said.Joined.{across, plus, minus}

@@ -3,8 +3,8 @@ use Rattle.std.proofs.Common.{◌≡◌, ℕ, true, List, [], ◌∷◌, ◌++�
 use Rattle.std.specs.Prelude.{IsTrue}
 use Rattle.std.proofs.lemmas.List.{append_assoc}
 use Rattle.cpo_text.specs.Words.{Word}
-use Rattle.read_back.specs.code.Says.{Says, Chunk, chunk_bytes, chunk_words, is_chunk, is_apart}
-use Rattle.read_back.specs.code.Says.Chunk.{sign, blank}
+use Rattle.read_back.specs.Says.{Says, Chunk, chunk_bytes, chunk_words, is_chunk, is_apart}
+use Rattle.read_back.specs.Says.Chunk.{sign, blank}
 use Rattle.read_back.proofs.Joined.{meet, says_joined, a_chunk}
 use Rattle.read_back.proofs.Edges.{Edge.{Free}, fits_front, fits_back, free_behind, free_before}
 

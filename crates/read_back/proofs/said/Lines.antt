@@ -10,8 +10,8 @@ use Rattle.cpo_text.specs.Words.{Word, Word as word}
 use Rattle.cpo_text.specs.Spelling.{spelling, statement_body, is_formed}
 use Rattle.cpo_text.specs.declared.tree.Statement.{Statement}
 use Rattle.sched_text.specs.Canonical.{statement}
-use Rattle.read_back.specs.code.Says.{Says, is_chunk}
-use Rattle.read_back.specs.code.Says.Chunk.{name, sign, blank}
+use Rattle.read_back.specs.Says.{Says, is_chunk}
+use Rattle.read_back.specs.Says.Chunk.{name, sign, blank}
 use Rattle.read_back.proofs.Joined.{nothing, a_name}
 use Rattle.read_back.proofs.said.Joined.{across, along, space, line_feed, semicolon}
 

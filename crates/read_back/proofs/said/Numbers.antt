@@ -9,9 +9,9 @@ use Rattle.cpo_text.specs.Tokens.{literal_limit}
 use Rattle.cpo_text.specs.Spelling.{int_words, range_words, given}
 use Rattle.sched_text.specs.Pieces.{range_text}
 use Rattle.sched_text.specs.Canonical.{given as given_text}
-use Rattle.read_back.specs.code.Trees.{int_tree, range_tree}
-use Rattle.read_back.specs.code.Says.{Says, Chunk, chunk_bytes, chunk_words, is_chunk, are_apart}
-use Rattle.read_back.specs.code.Says.Chunk.{name, number, sign}
+use Rattle.read_back.specs.Trees.{int_tree, range_tree}
+use Rattle.read_back.specs.Says.{Says, Chunk, chunk_bytes, chunk_words, is_chunk, are_apart}
+use Rattle.read_back.specs.Says.Chunk.{name, number, sign}
 use Rattle.read_back.proofs.Joined.{nothing, a_number}
 use Rattle.read_back.proofs.said.Joined.{across, minus}
 use Rattle.read_back.proofs.Numbers.{is_literal}

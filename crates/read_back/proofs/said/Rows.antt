@@ -8,9 +8,9 @@ use Rattle.cpo_text.specs.Words.{Word, Word as word, commas, square, call}
 use Rattle.cpo_text.specs.Spelling.{int_words, name_words, given}
 use Rattle.sched_text.specs.Pieces as piece
 use Rattle.sched_text.specs.Canonical.{given as given_text}
-use Rattle.read_back.specs.code.Trees.{int_tree}
-use Rattle.read_back.specs.code.Says.{Says, is_chunk}
-use Rattle.read_back.specs.code.Says.Chunk.{name, sign}
+use Rattle.read_back.specs.Trees.{int_tree}
+use Rattle.read_back.specs.Says.{Says, is_chunk}
+use Rattle.read_back.specs.Says.Chunk.{name, sign}
 use Rattle.read_back.proofs.Joined.{nothing, a_name}
 use Rattle.read_back.proofs.Numbers.{is_literal}
 use Rattle.read_back.proofs.said.Joined.{across, along, comma, open_round, close_round, open_square, close_square}

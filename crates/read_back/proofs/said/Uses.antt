@@ -17,9 +17,9 @@ use Rattle.sched_model.specs.Valid.{is_itv, is_seq, is_sequence_def, IsValid}
 use Rattle.cpo_elab.specs.NamedFirst.{is_named_sequence}
 use Rattle.sched_text.specs.Pieces.{interval_names}
 use Rattle.sched_text.specs.Canonical.{function_text, cumul_text, use_text, over_text}
-use Rattle.read_back.specs.code.Trees.{by_name, function_tree, named_or_parts, named_or_listed, over_tree, sequence_name}
-use Rattle.read_back.specs.code.Written.{IsWritten, is_named_at}
-use Rattle.read_back.specs.code.Says.{Says}
+use Rattle.read_back.specs.Trees.{by_name, function_tree, named_or_parts, named_or_listed, over_tree, sequence_name}
+use Rattle.read_back.specs.Written.{IsWritten, is_named_at}
+use Rattle.read_back.specs.Says.{Says}
 use Rattle.read_back.proofs.Joined.{a_name}
 use Rattle.read_back.proofs.said.Rows.{in_square, names_row}
 use Rattle.read_back.proofs.Spelt.{is_told, AreTold, intervals_told}

@@ -11,10 +11,10 @@ use Rattle.sched_model.specs.Data.{Data}
 use Rattle.sched_model.specs.Words.{passes_if_any}
 use Rattle.sched_model.specs.Valid.{IsValid, is_interval_def, is_matrix_def, is_sequence_def, is_state_def, is_constraint}
 use Rattle.sched_text.specs.Canonical.{interval_text, matrix_text, named_sequence_text, named_cumul_text, state_text, constraint_text, statement, canonical_text}
-use Rattle.read_back.specs.code.Trees.{interval_tree, matrix_tree, sequence_tree, cumul_tree, state_tree, constraint_tree, canonical_statements}
-use Rattle.read_back.specs.code.Written.{IsWritten, is_written}
-use Rattle.read_back.specs.code.Says.{Says}
-use Rattle.read_back.specs.code.Laws.{ExpressionsAreSaid, ExpressionsAreFormed, CanonicalIsSaid}
+use Rattle.read_back.specs.Trees.{interval_tree, matrix_tree, sequence_tree, cumul_tree, state_tree, constraint_tree, canonical_statements}
+use Rattle.read_back.specs.Written.{IsWritten, is_written}
+use Rattle.read_back.specs.Says.{Says}
+use Rattle.read_back.specs.Laws.{ExpressionsAreSaid, ExpressionsAreFormed, CanonicalIsSaid}
 use Rattle.read_back.proofs.Joined.{nothing}
 use Rattle.read_back.proofs.said.Lines.{Lines, lines_both, lines_each, lines_of_some}
 use Rattle.read_back.proofs.Spelt.{is_told, are_told}

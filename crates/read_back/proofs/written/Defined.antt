@@ -27,7 +27,7 @@ use Rattle.cpo_elab.specs.Factors.{factor_of}
 use Rattle.cpo_elab.specs.NamedFirst.{is_named_sequence, is_named_cumul}
 use Rattle.cpo_elab.specs.lemmas.Names.{right_cum}
 use Rattle.cpo_elab.specs.lemmas.Intervals.{name_kept}
-use Rattle.read_back.specs.code.Written.{is_written_expr, factor}
+use Rattle.read_back.specs.Written.{is_written_expr, factor}
 use Rattle.read_back.proofs.expr.Folds.{is_written_tree}
 use Rattle.read_back.proofs.written.Places.{counted_push}
 use Rattle.read_back.proofs.written.Exprs.{expr_plain, same_factor}

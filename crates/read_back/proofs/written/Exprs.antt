@@ -31,7 +31,7 @@ use Rattle.cpo_elab.specs.Literals.{size_of, int_or_zero}
 use Rattle.cpo_elab.specs.Elaborated.{measure_of, gather_of, link_of, compare_of, expr_step, expr_of}
 use Rattle.cpo_elab.specs.Factors.{beside, all_beside, linked, times, factor_of}
 use Rattle.cpo_elab.specs.Factors as tree
-use Rattle.read_back.specs.code.Written.{written_step, factor_step, factor}
+use Rattle.read_back.specs.Written.{written_step, factor_step, factor}
 use Rattle.read_back.proofs.expr.Folds.{is_written_tree}
 
 -- literals have no sign, and there are operands enough

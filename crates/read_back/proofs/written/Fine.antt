@@ -16,7 +16,7 @@ use Rattle.sched_model.specs.Data.{Data}
 use Rattle.sched_model.specs.Valid.{IsValid, is_constraint, is_seq, fits_types}
 use Rattle.cpo_text.specs.Runs.{left_out_words}
 use Rattle.cpo_elab.specs.NamedFirst.{is_named_sequence, is_named_cumul}
-use Rattle.read_back.specs.code.Written.{is_written_expr, is_named_at, is_written, sequences_in, cumuls_in}
+use Rattle.read_back.specs.Written.{is_written_expr, is_named_at, is_written, sequences_in, cumuls_in}
 use Rattle.read_back.proofs.written.Places.{Counted, are_within}
 use Rattle.base_laws.specs.laws.Truth.{five_true}
 

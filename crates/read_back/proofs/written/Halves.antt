@@ -8,7 +8,7 @@ use Rattle.std.proofs.lemmas.Bool.{and_parts, and_from, or_left, or_right}
 use Rattle.base_laws.specs.laws.Items.{all_weaker}
 use Rattle.base_laws.specs.laws.Kept.{none_pass, all_pass}
 use Rattle.cpo_elab.specs.NamedFirst.{parted}
-use Rattle.cpo_elab.specs.code.NamedFirstLaws.{is_parted}
+use Rattle.cpo_elab.specs.NamedFirstLaws.{is_parted}
 use Rattle.read_back.proofs.Items.{kept_pass}
 
 twice_not : (b : Bool) → b ≡ true → not (not b) ≡ true

@@ -14,7 +14,7 @@ use Rattle.sched_model.specs.Data.{Data}
 use Rattle.sched_model.specs.Valid.{all_names}
 use Rattle.cpo_elab.specs.NamedFirst.{is_named_sequence, is_named_cumul, parted, new_place, sequence_place, cumul_place, new_seq, renumbered, named_first}
 use Rattle.cpo_elab.specs.lemmas.Parted.{at_new_place, all_parted}
-use Rattle.read_back.specs.code.Written.{IsWritten, is_named_at, is_written, sequences_in, cumuls_in, places, from_place}
+use Rattle.read_back.specs.Written.{IsWritten, is_named_at, is_written, sequences_in, cumuls_in, places, from_place}
 use Rattle.read_back.proofs.Truth.{all_map}
 use Rattle.read_back.proofs.written.Halves.{behind, same_count, is_parted_now}
 use Rattle.read_back.proofs.written.Places.{Counted, counted_places}

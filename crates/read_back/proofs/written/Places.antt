@@ -12,7 +12,7 @@ use Rattle.base_laws.specs.laws.Places.{same_item}
 use Rattle.sched_model.specs.Words.{passes}
 use Rattle.cpo_elab.specs.NamedFirst.{new_place}
 use Rattle.cpo_elab.specs.lemmas.Parted.{place_yes, place_no}
-use Rattle.read_back.specs.code.Written.{places, from_place}
+use Rattle.read_back.specs.Written.{places, from_place}
 
 -- no item that passes stands at the place
 abbrev pub is_other : {X : Type 0} → (X → Bool) → List X → ℕ → Bool

@@ -39,7 +39,7 @@ use Rattle.cpo_elab.specs.Elaborated.{sequence_named, cumul_named, hierarchy_of,
 use Rattle.cpo_elab.specs.Judged.{is_of_other_sort}
 use Rattle.cpo_elab.specs.NamedFirst.{is_named_sequence, is_named_cumul}
 use Rattle.cpo_elab.specs.lemmas.Names.{lone_right}
-use Rattle.read_back.specs.code.Written.{is_written, sequences_in, cumuls_in}
+use Rattle.read_back.specs.Written.{is_written, sequences_in, cumuls_in}
 use Rattle.read_back.proofs.written.Places.{ranks, counted_passing, counted_other}
 use Rattle.read_back.proofs.written.Names.{sequence_is_named, cumul_is_named}
 use Rattle.read_back.proofs.written.Fine.{Fine, is_fine_sequence, is_fine_cumul, sequence_ids, cumul_ids, written_grows, all_grow, passing_stays, seqs_within, cums_within, ids_push}

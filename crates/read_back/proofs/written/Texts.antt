@@ -13,16 +13,16 @@ use Rattle.cpo_text.specs.declared.text.Form.{Form}
 use Rattle.cpo_text.specs.declared.text.Form.TheVariants.{Tree as Parsed, Number}
 use Rattle.cpo_text.specs.declared.text.Reading.{Reading}
 use Rattle.cpo_elab.specs.Elaborated.{after}
-use Rattle.cpo_elab.specs.code.Shaped.{is_shaped_form, are_shaped}
+use Rattle.cpo_elab.specs.Shaped.{is_shaped_form, are_shaped}
 use Rattle.cpo_elab.specs.NamedFirst.{named_first}
 use Rattle.cpo_elab.specs.Answers.{Answer, number_at, after_form, refused_or, judged}
 use Rattle.cpo_elab.specs.Answers.Answer.{Accepted}
 use Rattle.cpo_elab.specs.Deserves.Deserves.{unread, judgement}
-use Rattle.cpo_elab.specs.code.Laws.{TextsAreShaped}
-use Rattle.cpo_elab.specs.code.NamedFirstLaws.{NamedFirstIsValid}
+use Rattle.cpo_elab.specs.Laws.{TextsAreShaped}
+use Rattle.cpo_elab.specs.NamedFirstLaws.{NamedFirstIsValid}
 use Rattle.cpo_elab.specs.code.ValidLaws.{StatementsKeepValid}
-use Rattle.read_back.specs.code.Written.{IsWritten}
-use Rattle.read_back.specs.code.Laws.{DeservedAreWritten}
+use Rattle.read_back.specs.Written.{IsWritten}
+use Rattle.read_back.specs.Laws.{DeservedAreWritten}
 use Rattle.read_back.proofs.written.Fine.{Fine}
 use Rattle.read_back.proofs.written.Clear.{Told, Clear, told as what_is_told, clear}
 use Rattle.read_back.proofs.written.Defined.{defined_fine, aimed_fine}

@@ -12,7 +12,7 @@ use Rattle.textline.specs.Lines.{Bytes, line}
 use Rattle.sched_text.specs.Answers.{answer_text, schedule_lines, shown_schedule, verdict_words}
 use Rattle.sched_text.specs.laws.Answers.{answers_told}
 use Rattle.read_schedule.specs.Schedules.{IsHeader, IsVerdict, is_line, text}
-use Rattle.read_schedule.specs.code.Promises.{SchedulesAreTold, AnswersAreSchedules, Shows}
+use Rattle.read_schedule.specs.Promises.{SchedulesAreTold, AnswersAreSchedules, Shows}
 use Rattle.read_schedule.specs.code.Rows.{body, end_row}
 use Rattle.read_schedule.proofs.spelling.Texts.{cut, some_line}
 use Rattle.read_schedule.proofs.whole.Body.{body_text, body_lines}

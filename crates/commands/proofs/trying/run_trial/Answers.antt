@@ -1,6 +1,6 @@
 use Rattle.std.specs.Prelude.{◌≡◌}
 use Rattle.cpo_elab.specs.Answers.Answer.{Accepted, Refused}
-use Rattle.generated_models.specs.code.Shops.{shop_model}
+use Rattle.generated_models.specs.Shops.{shop_model}
 use Rattle.commands.specs.Runs.{shop_text}
 use Rattle.commands.specs.Runs.Source.{generated}
 use Rattle.commands.proofs.Ending.{solved, solve_stopped}

@@ -1,7 +1,7 @@
 use Rattle.std.proofs.Common.{◌≡◌, ◌+◌, true, drop}
 use Rattle.sched_model.specs.Data.{empty_model}
 use Rattle.cpo_elab.specs.Answers.{judged}
-use Rattle.cpo_elab.specs.code.Shaped.{are_shaped}
+use Rattle.cpo_elab.specs.Shaped.{are_shaped}
 use Rattle.cpo_elab.proofs.whole.elaborate.Given as goal
 
 abbrev pub invariant-loop-reading : goal.invariant-loop-reading

@@ -12,11 +12,11 @@ use Rattle.cpo_elab.specs.Answers.{judged}
 use Rattle.cpo_elab.specs.Answers.Answer.{Accepted}
 use Rattle.cpo_elab.specs.Deserves.{Deserves}
 use Rattle.modelgen.specs.Generated.{are_within, generated_text}
-use Rattle.read_back.specs.code.Laws.{is_shallow}
-use Rattle.read_back.specs.code.Says.{Says}
-use Rattle.read_back.specs.code.Trees.{canonical_statements}
-use Rattle.read_back.specs.code.Written.{IsWritten}
-use Rattle.generated_models.specs.code.Shops.{shop_model, shop_statements}
+use Rattle.read_back.specs.Laws.{is_shallow}
+use Rattle.read_back.specs.Says.{Says}
+use Rattle.read_back.specs.Trees.{canonical_statements}
+use Rattle.read_back.specs.Written.{IsWritten}
+use Rattle.generated_models.specs.Shops.{shop_model, shop_statements}
 
 abbrev pub GeneratedDeserve : Type 0
 GeneratedDeserve = (seed jobs machines : ℕ) → are_within jobs machines ≡ true → Deserves (generated_text seed jobs machines) (Accepted (shop_model seed jobs machines))

@@ -24,9 +24,9 @@ use Rattle.cpo_elab.specs.Deserves.{Deserves}
 use Rattle.sched_text.specs.Pieces.{interval_name}
 use Rattle.sched_text.specs.Shown.{shown}
 use Rattle.sched_text.specs.Canonical.{canonical_text}
-use Rattle.read_back.specs.code.Trees.{canonical_statements, logic_tree}
-use Rattle.read_back.specs.code.Written.{IsWritten, is_written_expr, factor}
-use Rattle.read_back.specs.code.Says.{Says}
+use Rattle.read_back.specs.Trees.{canonical_statements, logic_tree}
+use Rattle.read_back.specs.Written.{IsWritten, is_written_expr, factor}
+use Rattle.read_back.specs.Says.{Says}
 
 -- at most 200 brackets are open at a place, and at most 200 `!` and `=>` stand in the statement
 abbrev pub is_shallow : Statement → Bool

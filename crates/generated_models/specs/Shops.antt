@@ -25,7 +25,7 @@ use Rattle.cpo_text.specs.declared.tree.Statement.{Statement}
 use Rattle.cpo_text.specs.declared.tree.Statement.TheVariants.{Define, Constrain, Aim}
 use Rattle.modelgen.specs.Draws.{draw}
 use Rattle.modelgen.specs.Generated.{name, operations_on}
-use Rattle.read_back.specs.code.Trees.{int_tree}
+use Rattle.read_back.specs.Trees.{int_tree}
 
 -- the same for each job in order
 abbrev pub by_jobs : {X : Type 0} → ℕ → (ℕ → List X) → List X

@@ -6,7 +6,7 @@ use Rattle.cpo_text.specs.Runs.{words_of}
 use Rattle.cpo_text.specs.Reads.{IsRead, text_limit, told_limit}
 use Rattle.cpo_text.specs.declared.text.Reading.{Reading}
 use Rattle.cpo_text.specs.declared.text.Tree.{Tree}
-use Rattle.cpo_elab.specs.code.Shaped.{are_shaped}
+use Rattle.cpo_elab.specs.Shaped.{are_shaped}
 use Rattle.cpo_elab.specs.Answers.{Answer, judged}
 use Rattle.cpo_elab.specs.Answers.Answer.{Refused, Accepted}
 use Rattle.cpo_elab.specs.Deserves.{Deserves}

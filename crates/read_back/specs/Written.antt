@@ -22,7 +22,7 @@ use Rattle.cpo_elab.specs.declared.factors.Factor.TheVariants.{Free, Named}
 use Rattle.cpo_elab.specs.Factors.{beside, times, all_beside}
 use Rattle.cpo_elab.specs.Judged.{is_crowded}
 use Rattle.cpo_elab.specs.NamedFirst.{is_named_sequence, is_named_cumul}
-use Rattle.cpo_elab.specs.code.NamedFirstLaws.{is_parted}
+use Rattle.cpo_elab.specs.NamedFirstLaws.{is_parted}
 
 -- literals have no sign, and products, `&&` and `||` have two operands or more
 abbrev pub written_step : Expr-F Bool → Bool

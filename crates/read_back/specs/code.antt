@@ -1,4 +1,0 @@
-pub mod Laws
-pub mod Says
-pub mod Trees
-pub mod Written
