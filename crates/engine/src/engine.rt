@@ -84,7 +84,7 @@ impl<P: Propagator> Engine<P> {
         })
     }
 
-    fn wake_watchers(&mut self, cell: CellName)
+    fn plain_wake(&mut self, cell: CellName)
         ensures same { self.new ≡ record self.old { waking = self.new.waking } }
         ensures wakes { WakesEach (watchers_of self.old.watching cell) self.old.waking self.new.waking }
     {
@@ -100,10 +100,10 @@ impl<P: Propagator> Engine<P> {
         ensures calm { (m : Data) (r q : Cells) (best : Option ℤ) → IsFor P.Propagator m self.old → IsRegionOf m r → IsRegionOf m q → AreSameBut cell r q
             → IsCalm P.Propagator m r best self.old → IsCalm P.Propagator m q best self.new }
     {
-        self.wake_watchers(cell);
+        self.plain_wake(cell);
     }
 
-    fn wake_watchers_of_best(&mut self)
+    fn plain_wake_best(&mut self)
         ensures same { self.new ≡ record self.old { waking = self.new.waking } }
         ensures wakes { WakesEach self.old.watching.by_best self.old.waking self.new.waking }
     {
@@ -118,10 +118,10 @@ impl<P: Propagator> Engine<P> {
         ensures calm { (m : Data) (r : Cells) (b c : Option ℤ) → IsFor P.Propagator m self.old → IsRegionOf m r
             → IsCalm P.Propagator m r b self.old → IsCalm P.Propagator m r c self.new }
     {
-        self.wake_watchers_of_best();
+        self.plain_wake_best();
     }
 
-    fn wake_every_one(&mut self)
+    fn plain_wake_all(&mut self)
         ensures same { self.new ≡ record self.old { waking = self.new.waking } }
         ensures below { self.new.waking.below ≡ self.old.waking.below }
         ensures kept { (k : ℕ) → IsTrue (is_awake self.old.waking k) → IsTrue (is_awake self.new.waking k) }
@@ -136,7 +136,7 @@ impl<P: Propagator> Engine<P> {
         ensures kept { (k : ℕ) → IsTrue (is_awake self.old.waking k) → IsTrue (is_awake self.new.waking k) }
         ensures awake { (m : Data) → IsFor P.Propagator m self.old → AreAwake P.Propagator m self.new }
     {
-        self.wake_every_one();
+        self.plain_wake_all();
     }
 
     fn find(

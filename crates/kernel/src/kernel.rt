@@ -121,10 +121,10 @@ impl<X: Refuter> Kernel<X> {
         ensures state { IfOk result (λ k. k ≡ opening model.now) }
         ensures ready { IfOk result (λ k. Ready model.now k) }
     {
-        Kernel::open(alloc, model)
+        Kernel::plain_new(alloc, model)
     }
 
-    fn open(alloc: Global, model: &Model) -> Result<Kernel<X>, NoMemory>
+    fn plain_new(alloc: Global, model: &Model) -> Result<Kernel<X>, NoMemory>
         ensures state { IfOk result (λ k. k ≡ opening model.now) }
         ensures valid { IfOk result (λ k. IsValid model.now) }
     {
@@ -151,7 +151,7 @@ impl<X: Refuter> Kernel<X> {
         ensures memory { takes_memory line ≡ false → result ≡ Err Memory → ⊥ }
         ensures ready { Ready model.now self.new }
     {
-        self.apply(model, line)
+        self.plain_step(model, line)
     }
 
     /// What the log has shown so far: `Unclosed` exactly where a region is current or waits.
@@ -159,10 +159,10 @@ impl<X: Refuter> Kernel<X> {
         ensures value { result ≡ verdict_of self.now }
         ensures means { (m : Data) → Ready m self.now → Means m result }
     {
-        self.shown()
+        self.plain_verdict()
     }
 
-    fn shown(&self) -> Verdict
+    fn plain_verdict(&self) -> Verdict
         ensures { result ≡ verdict_of self.now }
     {
         if self.agenda.first().is_some() {
@@ -326,7 +326,7 @@ impl<X: Refuter> Kernel<X> {
         self.take(model, line)
     }
 
-    fn apply(&mut self, model: &Model, line: Line<X::Witness>) -> Result<(), StepFault>
+    fn plain_step(&mut self, model: &Model, line: Line<X::Witness>) -> Result<(), StepFault>
         requires nodes { self.old.nodes < 2 ^ 63 }
         requires ready { Ready model.now self.old }
         ensures step { Gives result (step (refutes_with X.refuting) model.now line self.old) self.old self.new }

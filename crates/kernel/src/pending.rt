@@ -43,10 +43,10 @@ impl Pending {
         ensures waiting { (h : Held) → ArePending h self.now → length (after_saved h.saved self.now) ≡ result }
         ensures saves { (h : Held) → ArePending h self.now → length h.saved ≡ result }
     {
-        self.count()
+        self.plain_len()
     }
 
-    fn count(&self) -> usize
+    fn plain_len(&self) -> usize
         ensures { result ≡ length self.now }
     {
         self.guesses.len()

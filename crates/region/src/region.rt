@@ -68,10 +68,10 @@ impl Region {
         ensures allows { IfOk result (λ r. (a : Assignment) → IsTrue (is_in_domain model.now a) → Allows r.region a) }
         ensures point { IfOk result (λ r. HasPoint r.region) }
     {
-        Region::first(alloc, model)
+        Region::plain_root(alloc, model)
     }
 
-    fn first(alloc: Global, model: &Model) -> Result<Region, NoMemory>
+    fn plain_root(alloc: Global, model: &Model) -> Result<Region, NoMemory>
         ensures value { IfOk result (λ r. r ≡ record { region = root model.now; saved = []; promised = []; spare = r.spare }) }
         ensures valid { IsValid model.now }
     {
@@ -87,10 +87,10 @@ impl Region {
         ensures allows { Leaves (λ a. passes_if_any (λ g. guess_holds g a) guess) self.now.region result.region }
         ensures of { (m : Data) → IsRegionOf m self.now.region → IsRegionOf m result.region }
     {
-        self.shown(guess, best)
+        self.plain_look(guess, best)
     }
 
-    fn shown(&self, guess: Option<Guess>, best: Option<i64>) -> Look<'_>
+    fn plain_look(&self, guess: Option<Guess>, best: Option<i64>) -> Look<'_>
         requires { IsTrue (passes_if_any (admits self.now.region) guess) }
         ensures value { result ≡ record { region = looked_at guess self.now.region; best = best } }
         ensures pairs { (t : Topic) → IsTrue (admits_topic self.now.region t) → HasPairs self.now.region t }
@@ -101,14 +101,14 @@ impl Region {
     fn may_be_there(&self, x: Itv) -> bool
         ensures { result ≡ may_be_there self.now.region x }
     {
-        let look = self.shown(None, None);
+        let look = self.plain_look(None, None);
         (x.0 as usize) < look.len() && look.presence(x) != Presence::Absent
     }
 
     fn is_open_between(&self, p: Seq, x: Itv, y: Itv) -> bool
         ensures { result ≡ is_open_between (cells_of self.now.region p) x y }
     {
-        let look = self.shown(None, None);
+        let look = self.plain_look(None, None);
         look.is_member(p, x)
             && look.is_member(p, y)
             && differ(x, y)
@@ -119,7 +119,7 @@ impl Region {
     fn is_open_in(&self, p: Seq, x: Itv, y: Itv) -> bool
         ensures { result ≡ (nat_lt p.0 (length self.now.region.orders) && is_open_between (cells_of self.now.region p) x y) }
     {
-        let look = self.shown(None, None);
+        let look = self.plain_look(None, None);
         (p.0 as usize) < look.sequences() && self.is_open_between(p, x, y)
     }
 
@@ -141,7 +141,7 @@ impl Region {
     {
         match t {
             Topic::One(x, claim) => {
-                let look = self.shown(None, None);
+                let look = self.plain_look(None, None);
                 (x.0 as usize) < look.len() && is_open_at(claim, look.bounds(x))
             }
             Topic::Two(p, x, y) => self.admits_order(p, x, y),
@@ -156,11 +156,11 @@ impl Region {
         self.admits_topic(g.topic())
     }
 
-    fn is_split_by(&self, t: Topic) -> bool
+    fn splits_topic(&self, t: Topic) -> bool
         ensures value { result ≡ (admits_topic self.now.region t && is_ready self.now.region t) }
         ensures pairs { IsTrue result → HasPairs self.now.region t }
     {
-        let look = self.shown(None, None);
+        let look = self.plain_look(None, None);
         self.admits_topic(t) && is_ready(&look, t)
     }
 
@@ -170,7 +170,7 @@ impl Region {
         ensures test { result ≡ splits self.now.region g }
         ensures parts { IsTrue result → Splits self.now.region (with_guess g self.now.region) (with_fact g self.now.region) }
     {
-        self.is_split_by(g.topic())
+        self.splits_topic(g.topic())
     }
 
     fn assume_topic(&mut self, t: Topic) -> Result<CellName, NoMemory>
@@ -245,10 +245,10 @@ impl Region {
         ensures spends { self.old.spare ≤ self.new.spare + 1 }
         ensures given { 0 < self.old.spare → IsOk result }
     {
-        self.push_save()
+        self.plain_save()
     }
 
-    fn push_save(&mut self) -> Result<(), NoMemory>
+    fn plain_save(&mut self) -> Result<(), NoMemory>
         ensures ok { OnOk result (self.new ≡ record self.old {
           saved = self.old.saved ++ self.old.region ∷ [];
           promised = self.old.promised ++ self.old.spare ∷ [];
@@ -268,10 +268,10 @@ impl Region {
         ensures of { (m : Data) → IsHeldOf m self.old → IsHeldOf m self.new }
         ensures spare { Regains self.old self.new }
     {
-        self.pop_save();
+        self.plain_undo();
     }
 
-    fn pop_save(&mut self)
+    fn plain_undo(&mut self)
         requires { 0 < length self.old.saved }
         ensures region { self.old.saved ≡ self.new.saved ++ self.new.region ∷ [] }
         ensures spare { Regains self.old self.new }
@@ -309,13 +309,13 @@ impl Region {
         ensures once { IsTrue result → (m : Data) (a : Assignment) → IsRegionOf m self.now.region → IsTrue (is_in_domain m a)
             → Allows self.now.region a → a.slots ≡ settled_slots self.now.region }
     {
-        self.is_settled()
+        self.plain_settled()
     }
 
-    fn is_settled(&self) -> bool
+    fn plain_settled(&self) -> bool
         ensures { result ≡ is_settled self.now.region }
     {
-        self.shown(None, None).settled()
+        self.plain_look(None, None).settled()
     }
 
     /// The number of cells.

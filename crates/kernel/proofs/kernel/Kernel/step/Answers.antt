@@ -4,4 +4,4 @@ use Rattle.kernel.proofs.kernel.Kernel.step.Goals as goal
 
 pub returns-clause-ready : goal.returns-clause-ready
 returns-clause-ready g c = gives_keeps c.args.model.now (refutes_with g.X.Refuter.refuting) _ c.args.self.now _ c.args.line
-    (sound_with c.args.model.now g.X.Refuter.refuting (g.met.X.Refuter.sound c.args.model.now)) c.apply.ensures.step c.requires.ready
+    (sound_with c.args.model.now g.X.Refuter.refuting (g.met.X.Refuter.sound c.args.model.now)) c.plain_step.ensures.step c.requires.ready

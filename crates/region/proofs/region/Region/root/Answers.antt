@@ -11,10 +11,10 @@ use Rattle.region.proofs.Kept.{if_ok}
 use Rattle.region.proofs.region.Region.root.Goals as goal
 
 pub returns-clause-of : goal.returns-clause-of
-returns-clause-of c = if_ok c.first.result (λ r is. subst (IsHeldOf c.args.model.now) (sym is) (record { region = root_of c.args.model.now c.first.ensures.valid; saved = λ k d none. absurd (omega (arith, none)) })) c.first.ensures.value
+returns-clause-of c = if_ok c.plain_root.result (λ r is. subst (IsHeldOf c.args.model.now) (sym is) (record { region = root_of c.args.model.now c.plain_root.ensures.valid; saved = λ k d none. absurd (omega (arith, none)) })) c.plain_root.ensures.value
 
 pub returns-clause-allows : goal.returns-clause-allows
-returns-clause-allows c = if_ok c.first.result (λ r is. subst (λ (h : Held). (a : Assignment) → IsTrue (is_in_domain c.args.model.now a) → Allows h.region a) (sym is) (root_allows c.args.model.now)) c.first.ensures.value
+returns-clause-allows c = if_ok c.plain_root.result (λ r is. subst (λ (h : Held). (a : Assignment) → IsTrue (is_in_domain c.args.model.now a) → Allows h.region a) (sym is) (root_allows c.args.model.now)) c.plain_root.ensures.value
 
 pub returns-clause-point : goal.returns-clause-point
-returns-clause-point c = if_ok c.first.result (λ r is. subst (λ (h : Held). HasPoint h.region) (sym is) (some_point c.args.model.now (root c.args.model.now) (root_of c.args.model.now c.first.ensures.valid))) c.first.ensures.value
+returns-clause-point c = if_ok c.plain_root.result (λ r is. subst (λ (h : Held). HasPoint h.region) (sym is) (some_point c.args.model.now (root c.args.model.now) (root_of c.args.model.now c.plain_root.ensures.valid))) c.plain_root.ensures.value

@@ -2,7 +2,7 @@ use Rattle.std.proofs.Common.{rules}
 use Rattle.kernel.specs.Refuting.{refutes_with}
 use Rattle.kernel.specs.Agenda.{first_in}
 use Rattle.kernel.proofs.Stepped.{gives_fault, gives_ok, gives_no_memory, known_fault}
-use Rattle.kernel.proofs.kernel.Kernel.apply.Goals as goal
+use Rattle.kernel.proofs.kernel.Kernel.plain_step.Goals as goal
 
 pub returns-in-Some-clause-step : goal.returns-in-Some-clause-step
 returns-in-Some-clause-step g c = gives_fault (refutes_with g.X.Refuter.refuting) c.args.model.now c.args.self.now c.args.line c.in-Some.fault c.in-Some.ensures

@@ -1,5 +1,0 @@
-use Rattle.std.proofs.Common.{sym, ◌∙◌}
-use Rattle.region.proofs.region.Region.is_split_by.Goals as goal
-
-pub returns-then-admits_topic-clause-pairs : goal.returns-then-admits_topic-clause-pairs
-returns-then-admits_topic-clause-pairs c = λ yes. c.shown-look.ensures.pairs c.args.t (sym c.admits_topic.ensures ∙ c.if-admits_topic.true)
