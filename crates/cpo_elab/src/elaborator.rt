@@ -77,6 +77,7 @@ impl Elaborator {
         ensures { IfOk result (λ e. e ≡ record { model = after self.model s.now; statements = self.statements + 1 }) }
     {
         let Elaborator { draft, statements } = self;
+        // Called for its clause alone.
         let _ = draft.model();
         Ok(Elaborator {
             draft: with_statement(alloc, draft, s)?,

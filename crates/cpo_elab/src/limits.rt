@@ -93,6 +93,7 @@ fn has_interval_room(draft: &Draft) -> bool
 fn interval_fits(draft: &Draft) -> bool
     ensures { (d : IntervalDef) → result ≡ is_within_limits (with_interval d draft.now) }
 {
+    // Called for its clause alone.
     let _ = draft.model();
     has_interval_room(draft)
 }
@@ -110,6 +111,7 @@ fn sequence_fits(draft: &Draft, members: usize) -> bool
     requires { members ≤ 500 }
     ensures { (d : SequenceDef) → length d.members ≡ members → result ≡ is_within_limits (with_sequence d draft.now) }
 {
+    // Called for its clause alone.
     let _ = draft.model();
     has_sequence_room(draft, members)
 }
@@ -123,6 +125,7 @@ fn has_matrix_room(draft: &Draft) -> bool
 fn matrix_fits(draft: &Draft) -> bool
     ensures { (d : MatrixDef) → result ≡ is_within_limits (with_matrix d draft.now) }
 {
+    // Called for its clause alone.
     let _ = draft.model();
     has_matrix_room(draft)
 }
@@ -136,6 +139,7 @@ fn has_state_room(draft: &Draft) -> bool
 fn state_fits(draft: &Draft) -> bool
     ensures { (d : StateDef) → result ≡ is_within_limits (with_state d draft.now) }
 {
+    // Called for its clause alone.
     let _ = draft.model();
     has_state_room(draft)
 }
@@ -169,6 +173,7 @@ fn both(a: bool, b: bool) -> bool
 fn cumul_fits(draft: &Draft, parts: u64) -> bool
     ensures { (d : CumulDef) → parts ≡ capped (length d.parts) → result ≡ is_within_limits (with_cumul d draft.now) }
 {
+    // Called for its clause alone.
     let _ = draft.model();
     both(has_cumul_room(draft), nodes_fit(draft, parts))
 }
@@ -195,6 +200,7 @@ fn definition_fits(draft: &Draft, name: &[u8], d: &Definition) -> bool
 fn listed_fits(draft: &Draft, over: &Over) -> bool
     ensures { result ≡ (nat_le (length (listed_in over.now)) 500 && is_within_limits (with_listed draft.now over.now)) }
 {
+    // Called for its clause alone.
     let _ = draft.model();
     match over {
         Over::Named(_) => true,
@@ -211,6 +217,7 @@ fn listed_fits(draft: &Draft, over: &Over) -> bool
 fn unnamed_fits(draft: &Draft, c: &Cumul) -> bool
     ensures { result ≡ is_within_limits (with_unnamed draft.now c.now (named_itself c.now)) }
 {
+    // Called for its clause alone.
     let _ = draft.model();
     if !is_unnamed(c) {
         return true;
@@ -222,6 +229,7 @@ fn unnamed_fits(draft: &Draft, c: &Cumul) -> bool
 fn written_fits(draft: &Draft, c: &Constrained) -> bool
     ensures { result ≡ (nat_le (length (members_written c.now)) 500 && is_within_limits (with_written draft.now c.now)) }
 {
+    // Called for its clause alone.
     let _ = draft.model();
     match c {
         Constrained::NoOverlap(over, _) => listed_fits(draft, over),
@@ -261,6 +269,7 @@ fn leaves_room(draft: &Draft, s: &Statement, written: &Option<Expr>) -> bool
     requires { written.now ≡ option_map (expr_of draft.now) (logic_in s.now) }
     ensures { result ≡ leaves_room draft.now s.now }
 {
+    // Called for its clause alone.
     let _ = draft.model();
     match s {
         Statement::Empty => true,

@@ -101,6 +101,7 @@ impl Search {
         ensures upper { result.value ≤ℤ pos (2 ^ 126) }
         ensures len { result.len + 1 < 2 ^ 64 }
     {
+        // Called for its clause alone.
         let _ = self.count();
         self.node(self.last(v))
     }
@@ -211,6 +212,7 @@ impl Search {
         ensures some { IfOk result (λ o. IfSome o (λ p. IsLoop self.now.nodes n p.0 p.1)) }
         ensures none { IfOk result (λ o. IfNone o ((node_at self.now.nodes k).len < n)) }
     {
+        // Called for its clause alone.
         let _ = arcs.len();
         blank(seen, n)?;
         let mut y = k;
@@ -241,6 +243,7 @@ impl Search {
         requires between { IsLoop self.now.nodes n from to }
         ensures { IfOk result (λ walk. IsGain arcs.now n walk) }
     {
+        // Called for its clause alone.
         let _ = (n, arcs.len());
         let mut walk = List::new(alloc);
         let mut y = from;

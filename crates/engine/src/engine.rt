@@ -180,6 +180,7 @@ impl<P: Propagator> Engine<P> {
         ensures broke { OnErr result (Broke L.Lines model.now best lines.old lines.new region.old.region region.new.region) }
         ensures fault { result ≡ Err fault.Lines → Rose (L.faults lines.old) (L.faults lines.new) × (L.calm lines.old ≡ true → ⊥) }
     {
+        // Called for its clause alone.
         let _ = model.intervals();
         lines.put(&Line::Derive(g, witness))?;
         let cell = region.learn(Fact(g))?;

@@ -167,6 +167,7 @@ impl HullTree {
         requires admitted { IsTrue (passes_if_any (admits region.now.region) guess) }
         ensures { (e : Expr) → IsTreeOf e self.now → IsTrue (is_some (hull_of model.now e)) → result ≡ look_hull model.now (looked_at guess region.now.region) e }
     {
+        // Called for its clause alone.
         let _ = model.intervals();
         narrowed(self.root_ends(model, region, guess))
     }

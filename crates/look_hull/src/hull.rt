@@ -35,6 +35,7 @@ pub fn look_hull(model: &Model, look: &Look<'_>, e: &Expr) -> (i64, i64)
     requires hull { is_some (hull_of model.now e.now) ≡ true }
     ensures { result ≡ look_hull model.now look.now.region e.now }
 {
+    // Called for its clause alone.
     let _ = model.intervals();
     ends_of(model, look, e)
 }

@@ -80,7 +80,7 @@ fn shown_overload(alloc: Global, rows: &[Row], with: Option<u32>) -> Result<Behi
     Ok(Behind { place, set })
 }
 
-/// Whether it is open of nobody if he is there.
+/// Whether of each member it is known that it is present, or that it is absent.
 #[tactic(auto, using(crate::proofs::Shown::none_open, crate::proofs::Shown::more_closed, crate::proofs::Shown::all_closed))]
 fn are_closed(rows: &[Row]) -> bool
     ensures { result ≡ true → (k : ℕ) → is_candidate rows.now k ≡ is_present rows.now k }

@@ -89,6 +89,7 @@ fn few_members(model: &Model, p: Seq) -> &[Itv]
     ensures few { length result.now ≤ 500 }
     ensures valid { IsValid model.now }
 {
+    // Called for its clause alone.
     let _ = model.sequences();
     members_of(model, p)
 }

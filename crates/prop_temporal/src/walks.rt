@@ -84,6 +84,7 @@ fn walk_along(
     ensures none { IfOk result (λ o. IfNone o ((is : Seq Name) → refutes model.now look.now (basic.Cycle is) ≡ false)) }
     ensures size { length heights.new.items ≡ length heights.old.items }
 {
+    // Called for its clause alone.
     let _ = model.intervals();
     let _ = look.len();
     if hold(shown.arcs(), heights) {
@@ -160,6 +161,7 @@ impl Walks {
         ensures none { IfOk result (λ o. IfNone o (NoWalk model.now region.now.region best None)) }
         ensures ready { OnOk result (IsReady model.now region.now.region self.new) }
     {
+        // Called for its clause alone.
         let _ = model.intervals();
         let look = region.look(None, best);
         start_heights(&look, &mut self.heights)?;
@@ -218,6 +220,7 @@ impl Walks {
         ensures none { IfOk result (λ o. IfNone o (NoWalk model.now region.now.region best (Some (present_at n)))) }
         ensures ready { OnOk result (IsReady model.now region.now.region self.new) }
     {
+        // Called for its clause alone.
         let _ = model.intervals();
         let look = region.look(Some(Guess::Present(Itv(n))), best);
         self.under.fill(model, &look)?;
@@ -272,6 +275,7 @@ impl Walks {
         ensures some { IfOk result (λ o. IfSome o (IsFinding refutes model.now region.now.region best)) }
         ensures busy { IfOk result (λ o. IfSome o (λ f. quiet model.now 0 region.now.region best → ⊥)) }
     {
+        // Called for its clause alone.
         let _ = model.intervals();
         if let Some(arcs) = self.walk_now(model, region, best)? {
             return Ok(Some(Finding {

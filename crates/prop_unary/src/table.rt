@@ -104,6 +104,7 @@ fn few_members(model: &Model, p: Seq) -> &[Itv]
     ensures members { result.now ≡ members_of model.now p }
     ensures few { length result.now ≤ 500 }
 {
+    // Called for its clause alone.
     let _ = model.sequences();
     members_of(model, p)
 }

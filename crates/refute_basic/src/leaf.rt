@@ -88,6 +88,7 @@ fn sized(model: &Model, look: &Look<'_>) -> bool
     requires { IsRegionOf model.now look.now.region }
     ensures { result ≡ all_sized look.now.region }
 {
+    // Called for its clause alone.
     let _ = model.intervals();
     all_sized(look)
 }

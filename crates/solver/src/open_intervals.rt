@@ -208,6 +208,7 @@ impl OpenIntervals {
         requires { IsRegionOf model.now look.now.region }
         ensures { IfSome result (CutsRegion look.now.region) }
     {
+        // Called for its clause alone.
         let _ = model.intervals();
         let x = Itv(self.last?);
         if x.0 as usize >= look.len() {
@@ -253,6 +254,7 @@ impl OpenIntervals {
         ensures some { IfSome result (CutsRegion look.now.region) }
         ensures none { IfNone result (IsTrue (list_all is_fixed look.now.region.bounds)) }
     {
+        // Called for its clause alone.
         let _ = model.intervals();
         let mut best: Option<Candidate> = None;
         let mut i = 0;

@@ -91,6 +91,7 @@ impl<P: Propagator> Search<P> {
         ensures ready { OnOk result (IsReady P.Propagator model.now self.new) }
         ensures none { OnOk result (self.new.nodes ≡ 0) }
     {
+        // Called for its clause alone.
         let _ = model.intervals();
         self.region = Region::root(alloc, model)?;
         self.pending = Pending::new(alloc);

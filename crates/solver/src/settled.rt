@@ -51,6 +51,7 @@ pub fn settled_assignment(
     requires { IsRegionOf model.now look.now.region }
     ensures { IfOk result (λ a. a ≡ settled_assignment model.now look.now.region) }
 {
+    // Called for its clause alone.
     let _ = model.intervals();
     let mut slots = Vec::with_capacity(alloc, look.len())?;
     settled_slots(look, &mut slots)?;
