@@ -1,5 +1,5 @@
 -- Laws of what a text deserves.
-use Rattle.std.specs.Prelude.{◌≡◌, ℕ, ◌≤◌, Bool, List, length, take, IsTrue}
+use Rattle.std.specs.Prelude.{◌≡◌, ℕ, ◌≤◌, List, length, take, IsTrue}
 use Rattle.sched_model.specs.Data.{empty_model}
 use Rattle.cpo_text.specs.Tokens.{Token, HasTokens}
 use Rattle.cpo_text.specs.Runs.{words_of}
@@ -31,8 +31,8 @@ SameButOffset (Accepted m) (Accepted n) = m ≡ n
 
 -- texts of the same words deserve the same but for the offset: what stands between the tokens says nothing
 abbrev pub OnlyWordsCount : Type 0
-OnlyWordsCount = (text other : List ℕ) (ts us : List Token) (c d : Bool) (a b : Answer)
-    → length text ≤ text_limit → length other ≤ text_limit → HasTokens text ts c → HasTokens other us d → words_of ts ≡ words_of us
+OnlyWordsCount = (text other : List ℕ) (ts us : List Token) (a b : Answer)
+    → length text ≤ text_limit → length other ≤ text_limit → HasTokens text ts → HasTokens other us → words_of ts ≡ words_of us
     → Deserves text a → Deserves other b → SameButOffset a b
 
 -- the trees of a text are as the grammar has them

@@ -12,9 +12,8 @@ use crate::factors::{Factor, factor_of};
 use crate::fits::{has_twice, misfits};
 use crate::flaws::{has_negative, has_reversed};
 use crate::limits::passes_limit;
-use crate::refusal_numbers;
 use crate::uses::{defines_again, uses_unknown, uses_wrong};
-use cpo_text::{Constrained, Logic, Statement};
+use cpo_text::{Cause, Constrained, Logic, Statement};
 use sched_base::NoMemory;
 use sched_model::{Expr, Model, hull};
 use std::alloc::Global;
@@ -95,16 +94,16 @@ fn late_number(draft: &Draft, before: u32, s: &Statement, written: &Option<Expr>
     ensures { result ≡ first_of ((passes_limit draft.now (before + 1) s.now, 11) ∷ (aims_again draft.now s.now, 12) ∷ (has_no_hull draft.now s.now, 13) ∷ (has_crowded s.now, 14) ∷ []) }
 {
     if passes_limit(draft, before, s, written) {
-        return Some(refusal_numbers::LIMIT_PASSED);
+        return Some(Cause::LimitPassed as u32);
     }
     if aims_again(draft, s) {
-        return Some(refusal_numbers::SECOND_OBJECTIVE);
+        return Some(Cause::SecondObjective as u32);
     }
     if has_no_hull(draft, s, written) {
-        return Some(refusal_numbers::NO_HULL);
+        return Some(Cause::NoHull as u32);
     }
     if has_crowded(s) {
-        return Some(refusal_numbers::TWO_FACTORS);
+        return Some(Cause::LeftOut as u32);
     }
     None
 }
@@ -120,25 +119,25 @@ pub fn number_in(
     ensures { IfOk result (λ o. o ≡ number_in draft.now (before + 1) s.now) }
 {
     if defines_again(draft, s) {
-        return Ok(Some(refusal_numbers::DEFINED_AGAIN));
+        return Ok(Some(Cause::DefinedAgain as u32));
     }
     if uses_unknown(draft, s) {
-        return Ok(Some(refusal_numbers::UNKNOWN_NAME));
+        return Ok(Some(Cause::UnknownName as u32));
     }
     if uses_wrong(draft, s) {
-        return Ok(Some(refusal_numbers::WRONG_NAME));
+        return Ok(Some(Cause::WrongName as u32));
     }
     if has_reversed(s) {
-        return Ok(Some(refusal_numbers::REVERSED_PAIR));
+        return Ok(Some(Cause::ReversedPair as u32));
     }
     if has_negative(s) {
-        return Ok(Some(refusal_numbers::NEGATIVE_AMOUNT));
+        return Ok(Some(Cause::NegativeAmount as u32));
     }
     if misfits(draft, s) {
-        return Ok(Some(refusal_numbers::MISFIT));
+        return Ok(Some(Cause::Misfit as u32));
     }
     if has_twice(alloc, draft, s)? {
-        return Ok(Some(refusal_numbers::TWICE_IN_LIST));
+        return Ok(Some(Cause::TwiceInList as u32));
     }
     let written = written(alloc, draft, s)?;
     Ok(late_number(draft, before, s, &written))

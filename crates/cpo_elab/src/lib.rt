@@ -22,7 +22,6 @@ mod named_first;
 mod named_first_laws;
 mod names;
 mod parts;
-mod refusal_numbers;
 mod uses;
 mod valid_laws;
 mod whole;

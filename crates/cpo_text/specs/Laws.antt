@@ -1,5 +1,5 @@
 -- Laws of reading: nothing in it is a choice.
-use Rattle.std.specs.Prelude.{◌≡◌, ◌⊎◌, ℕ, ◌+◌, ◌<◌, Bool, ◌&&◌, nat_le, nat_lt, List, [], ◌∷◌, length, if◌then◌else◌}
+use Rattle.std.specs.Prelude.{◌≡◌, ◌⊎◌, ℕ, ◌+◌, ◌<◌, ◌&&◌, nat_le, nat_lt, List, [], ◌∷◌, length, if◌then◌else◌}
 use Rattle.cpo_text.specs.Words.{Word}
 use Rattle.cpo_text.specs.Tokens.{Token, ArePieces, HasTokens, HasBadByte, NonePiece}
 use Rattle.cpo_text.specs.Spelling.{IsStatement}
@@ -21,19 +21,19 @@ pieces_at k at (p ∷ ps) = (if nat_le at k && nat_lt k (at + p.1) then 1 else 0
 abbrev pub EachByteInOnePiece : Type 0
 EachByteInOnePiece = (text : List ℕ) (ps : List (Piece × ℕ)) → ArePieces text ps [] → (k : ℕ) → k < length text → pieces_at k 0 ps ≡ 1
 
--- so a text has one list of tokens, and comments or none
+-- so a text has one list of tokens
 abbrev pub TokensAreDetermined : Type 0
-TokensAreDetermined = (text : List ℕ) (ts us : List Token) (a b : Bool) → HasTokens text ts a → HasTokens text us b → (ts ≡ us) × (a ≡ b)
+TokensAreDetermined = (text : List ℕ) (ts us : List Token) → HasTokens text ts → HasTokens text us → ts ≡ us
 
 abbrev pub BadByteIsDetermined : Type 0
 BadByteIsDetermined = (text : List ℕ) (ts us : List Token) (i j : ℕ) → HasBadByte text ts i → HasBadByte text us j → (ts ≡ us) × (i ≡ j)
 
 -- every text has tokens or a bad byte, and none has both
 abbrev pub EveryTextHasTokensOrBadByte : Type 0
-EveryTextHasTokensOrBadByte = (text : List ℕ) → ((ts : List Token) × (b : Bool) × HasTokens text ts b) ⊎ ((ts : List Token) × (at : ℕ) × HasBadByte text ts at)
+EveryTextHasTokensOrBadByte = (text : List ℕ) → ((ts : List Token) × HasTokens text ts) ⊎ ((ts : List Token) × (at : ℕ) × HasBadByte text ts at)
 
 abbrev pub NotBoth : Type 0
-NotBoth = (text : List ℕ) (ts us : List Token) (b : Bool) (at : ℕ) → HasTokens text ts b → HasBadByte text us at → ⊥
+NotBoth = (text : List ℕ) (ts us : List Token) (at : ℕ) → HasTokens text ts → HasBadByte text us at → ⊥
 
 -- words are at most one statement
 abbrev pub StatementsAreDetermined : Type 0

@@ -47,7 +47,7 @@ told rs = take told_limit rs
 pub record IsRead (text : List ℕ) (tree : Tree) : Type 0 where
   pub short : length text ≤ text_limit
   pub tokens : List Token
-  pub are : HasTokens text tokens tree.commented
+  pub are : HasTokens text tokens
   pub readings : AreReadings (told (runs tokens)) tree.statements
 
 -- the text is too long, or it has a bad byte behind some tokens

@@ -1,6 +1,6 @@
 -- The tokens of a text: at each place the longest piece, where a piece is a token, a blank or a comment.
 use Rattle.std.specs.Prelude.{◌≡◌, ℕ, ◌+◌, ◌-◌, ◌^◌, ◌<◌, ◌≤◌, Bool, true, false, ◌||◌, ◌&&◌, ◌==◌, not, nat_le, if◌then◌else◌, List, [], ◌∷◌, ◌++◌, length, take, drop, map, Option, Some, None}
-use Rattle.std.specs.List.{list_all, list_any}
+use Rattle.std.specs.List.{list_all}
 use Rattle.std.specs.Int.Digits.{number_from_digits}
 use Rattle.cpo_text.specs.declared.piece.Piece.{Piece}
 use Rattle.cpo_text.specs.declared.piece.Piece.TheVariants.{Name, Int, Sign, Quoted, Blank, Line, Block}
@@ -111,20 +111,11 @@ abbrev pub tokens_of : ℕ → List ℕ → List (Piece × ℕ) → List Token
 tokens_of at bs [] = []
 tokens_of at bs (p ∷ ps) = put at (word_of p.0 (take p.1 bs)) (tokens_of (at + p.1) (drop p.1 bs) ps)
 
-abbrev pub is_comment : Piece → Bool
-is_comment Line = true
-is_comment Block = true
-is_comment _ = false
-
-abbrev pub has_comment : List (Piece × ℕ) → Bool
-has_comment ps = list_any (λ p. is_comment p.0) ps
-
--- the whole text is pieces; these are its tokens, and this is whether a comment is among them
-pub record HasTokens (text : List ℕ) (ts : List Token) (commented : Bool) : Type 0 where
+-- the whole text is pieces; these are its tokens
+pub record HasTokens (text : List ℕ) (ts : List Token) : Type 0 where
   pub pieces : List (Piece × ℕ)
   pub whole : ArePieces text pieces []
   pub are : ts ≡ tokens_of 0 text pieces
-  pub comments : commented ≡ has_comment pieces
 
 -- the text is pieces up to a byte at which none begins; these are the tokens before it
 pub record HasBadByte (text : List ℕ) (ts : List Token) (at : ℕ) : Type 0 where

@@ -18,6 +18,7 @@ mod lists;
 mod parts;
 mod piece;
 mod place;
+mod refusal;
 mod scan;
 mod statement;
 mod survey;
@@ -29,6 +30,7 @@ mod word;
 pub use cumul::{Cpart, Cumul, Signed};
 pub use expression::{Comparison, Gather, Link, Logic, Measure};
 pub use laws::reading_is_determined;
+pub use refusal::Cause;
 pub use text::{Form, ReadFault, Reading, Refusal, TEXT_LIMIT, TOLD_LIMIT, Tree};
 pub use tree::{
     Bound, Constrained, Definition, Extreme, Hierarchy, Int, Ivarg, Moments, Order, Over, Range,

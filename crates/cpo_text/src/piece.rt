@@ -1,6 +1,6 @@
 ghost use Rattle.std.specs.Prelude.{◌≡◌, ◌==◌, ◌||◌, length, IfSome, ◌≤◌};
 ghost use Rattle.std.specs.List.{prefix_len};
-ghost use Rattle.cpo_text.specs.Tokens.{is_letter, is_digit, is_name_byte, is_blank, is_sign_byte, is_sign_pair, is_on_line, is_comment, begins};
+ghost use Rattle.cpo_text.specs.Tokens.{is_letter, is_digit, is_name_byte, is_blank, is_sign_byte, is_sign_pair, is_on_line, begins};
 ghost use Rattle.cpo_text.specs.code.Lexing.{quote_len, close_len, slash_at, sign_at, piece_from, piece_at, gap_of};
 
 /// What a text is made of: tokens of four kinds, single blanks, and comments to the end of a line
@@ -14,14 +14,6 @@ pub enum Piece {
     Blank,
     Line,
     Block,
-}
-
-impl Piece {
-    pub fn is_comment(self) -> bool
-        ensures { result ≡ is_comment self }
-    {
-        matches!(self, Piece::Line | Piece::Block)
-    }
 }
 
 fn is_letter(b: u8) -> bool

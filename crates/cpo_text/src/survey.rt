@@ -7,6 +7,7 @@ ghost use Rattle.cpo_text.specs.code.Surveys.{unsurveyed, noted, surveyed, after
 
 use crate::parts::is_sign;
 use crate::place::Place;
+use crate::refusal::Cause;
 use crate::word::Word;
 
 /// The most brackets that may be open at a place of a statement.
@@ -142,10 +143,10 @@ impl Survey {
         ensures { result ≡ early_of self }
     {
         if self.left_out {
-            return Some(14);
+            return Some(Cause::LeftOut as u32);
         }
         if self.deep || is_deep(self.depth) || self.nestings > MOST_NESTINGS {
-            return Some(11);
+            return Some(Cause::LimitPassed as u32);
         }
         None
     }

@@ -56,10 +56,9 @@ pub struct Reading {
     pub form: Form,
 }
 
-/// The statements of a text in order, the first 100,001 of them, and whether a comment stands in
-/// it. Tokens behind the last semicolon are one more statement.
+/// The statements of a text in order, the first 100,001 of them. Tokens behind the last semicolon are
+/// one more statement.
 #[derive(Debug, Drop)]
 pub struct Tree {
     pub statements: List<Reading>,
-    pub commented: bool,
 }

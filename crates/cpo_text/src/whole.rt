@@ -7,21 +7,13 @@ ghost use Rattle.cpo_text.specs.Reads.{HasForm, AreReadings, told, Reads};
 
 use crate::fault::Fault;
 use crate::place::Place;
+use crate::refusal::Cause;
 use crate::scan::scan;
 use crate::statement::statement;
 use crate::survey::survey_run;
 use crate::text::{Form, ReadFault, Reading, Refusal, TEXT_LIMIT, TOLD_LIMIT, Tree};
 use sched_base::{List, NoMemory};
 use std::alloc::Global;
-
-/// The number of a limit that is passed, in the table of refusals.
-const LIMIT_PASSED: u32 = 11;
-
-/// The number of a statement outside the grammar.
-const OUTSIDE: u32 = 2;
-
-/// The number of a literal above the bound on literals.
-const LARGE_LITERAL: u32 = 3;
 
 /// The statement that begins at a place, as its words alone tell it, and the place behind it.
 fn read_form(alloc: Global, place: Place<'_>) -> Result<(Form, Place<'_>), NoMemory>
@@ -34,10 +26,10 @@ fn read_form(alloc: Global, place: Place<'_>) -> Result<(Form, Place<'_>), NoMem
     }
     match statement(alloc, place) {
         Err(Fault::NoMemory) => Err(NoMemory),
-        Err(Fault::Outside) => Ok((Form::Number(OUTSIDE), behind)),
+        Err(Fault::Outside) => Ok((Form::Number(Cause::OutsideGrammar as u32), behind)),
         Ok((tree, _)) => {
             if survey.large {
-                Ok((Form::Number(LARGE_LITERAL), behind))
+                Ok((Form::Number(Cause::LargeLiteral as u32), behind))
             } else {
                 Ok((Form::Tree(tree), behind))
             }
@@ -75,16 +67,15 @@ pub fn read_text(alloc: Global, text: &[u8]) -> Result<Tree, ReadFault>
 {
     if text.len() > TEXT_LIMIT {
         return Err(ReadFault::Refused(Refusal {
-            number: LIMIT_PASSED,
+            number: Cause::LimitPassed as u32,
             statement: 0,
             at: TEXT_LIMIT as u64,
         }));
     }
     match scan(text) {
         Err(refusal) => Err(ReadFault::Refused(refusal)),
-        Ok(commented) => Ok(Tree {
+        Ok(()) => Ok(Tree {
             statements: statements(alloc, text)?,
-            commented,
         }),
     }
 }

@@ -7,10 +7,10 @@ use std::alloc::{AllocError, Global};
 use std::test::Fail;
 
 /// Whether a text has these statements: the offset of each, and its number, 0 for a tree.
-fn reads(alloc: Global, text: &[u8], commented: bool, expected: &[(u64, u32)]) -> bool {
+fn reads(alloc: Global, text: &[u8], expected: &[(u64, u32)]) -> bool {
     match read_text(alloc, text) {
         Err(_) => false,
-        Ok(tree) => tree.commented == commented && are(&tree, expected),
+        Ok(tree) => are(&tree, expected),
     }
 }
 
@@ -129,7 +129,7 @@ fn statements(rt: HostRuntime) {
     ];
     for (text, number) in rows {
         assert!(rt;
-            reads(rt.alloc(), text, false, [(0, number)].as_slice()),
+            reads(rt.alloc(), text, [(0, number)].as_slice()),
             "number {number}"
         );
     }
@@ -139,12 +139,12 @@ fn statements(rt: HostRuntime) {
 fn places(rt: HostRuntime) {
     let alloc = rt.alloc();
     let none: [(u64, u32); 0] = [];
-    assert!(rt; reads(alloc, b"", false, none.as_slice()));
-    assert!(rt; reads(alloc, b" \t\r\n", false, none.as_slice()));
-    assert!(rt; reads(alloc, b" ;\r\n;", false, [(1, 0), (4, 0)].as_slice()));
-    assert!(rt; reads(alloc, b"// kpis\n;", true, [(8, 0)].as_slice()));
-    assert!(rt; reads(alloc, b"/* a **/;", true, [(8, 0)].as_slice()));
-    assert!(rt; reads(alloc, b"; x // end", true, [(0, 0), (2, 2)].as_slice()));
+    assert!(rt; reads(alloc, b"", none.as_slice()));
+    assert!(rt; reads(alloc, b" \t\r\n", none.as_slice()));
+    assert!(rt; reads(alloc, b" ;\r\n;", [(1, 0), (4, 0)].as_slice()));
+    assert!(rt; reads(alloc, b"// kpis\n;", [(8, 0)].as_slice()));
+    assert!(rt; reads(alloc, b"/* a **/;", [(8, 0)].as_slice()));
+    assert!(rt; reads(alloc, b"; x // end", [(0, 0), (2, 2)].as_slice()));
 }
 
 /// Some pieces of text in a row, each so many times.
@@ -174,7 +174,7 @@ fn nesting(rt: HostRuntime) -> Result<(), Fail> {
     for (pieces, number) in rows {
         let text = joined(alloc, pieces)?;
         assert!(rt;
-            reads(alloc, &text, false, [(0, number)].as_slice()),
+            reads(alloc, &text, [(0, number)].as_slice()),
             "number {number}"
         );
     }
@@ -186,7 +186,7 @@ fn limits(rt: HostRuntime) -> Result<(), Fail> {
     let alloc = rt.alloc();
     let none: [(u64, u32); 0] = [];
     let mut text = vec![in alloc; b' '; 16_777_216]?;
-    assert!(rt; reads(alloc, &text, false, none.as_slice()));
+    assert!(rt; reads(alloc, &text, none.as_slice()));
     text.push(b'$')?;
     let expected = Refusal {
         number: 11,

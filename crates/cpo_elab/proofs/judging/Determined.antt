@@ -58,10 +58,10 @@ same_readings law (r ∷ rs) (x ∷ xs) (y ∷ ys) one other =
 
 -- texts
 
-pub same_tree : ReadingIsDetermined → (text : List ℕ) (t u : Tree) → IsRead text t → IsRead text u → (t.statements ≡ u.statements) × (t.commented ≡ u.commented)
+pub same_tree : ReadingIsDetermined → (text : List ℕ) (t u : Tree) → IsRead text t → IsRead text u → t.statements ≡ u.statements
 same_tree laws text t u one other =
-    let tokens = laws.tokens text one.tokens other.tokens t.commented u.commented one.are other.are in
-    (same_readings laws.statements (told (runs one.tokens)) t.statements u.statements one.readings (subst (λ ts. AreReadings (told (runs ts)) u.statements) (sym tokens.0) other.readings), tokens.1)
+    let tokens = laws.tokens text one.tokens other.tokens one.are other.are in
+    same_readings laws.statements (told (runs one.tokens)) t.statements u.statements one.readings (subst (λ ts. AreReadings (told (runs ts)) u.statements) (sym tokens) other.readings)
 
 bad_at : List Token → ℕ → Refusal
 bad_at ts at = record { number = 1; statement = 1 + ended ts; at = at }
@@ -77,10 +77,10 @@ same_refusal laws text r q (bad_byte ts i short one is) (bad_byte us j also othe
 
 pub not_read : ReadingIsDetermined → (text : List ℕ) (r : Refusal) (t : Tree) → IsRefused text r → IsRead text t → ⊥
 not_read laws text r t (too_long above is) read = clash text_limit (length text) above read.short
-not_read laws text r t (bad_byte ts at short bad is) read = laws.not_both text read.tokens ts t.commented at read.are bad
+not_read laws text r t (bad_byte ts at short bad is) read = laws.not_both text read.tokens ts at read.are bad
 
 pub at_most_one : ReadingIsDetermined → AtMostOneAnswer
 at_most_one laws text a b (unread r one is) (unread q other also) = is ∙ ap (λ x. Refused x) (same_refusal laws text r q one other) ∙ sym also
 at_most_one laws text a b (unread r one is) (judgement t read also) = absurd (not_read laws text r t one read)
 at_most_one laws text a b (judgement t read is) (unread r other also) = absurd (not_read laws text r t other read)
-at_most_one laws text a b (judgement t read is) (judgement u again also) = is ∙ ap (judged empty_model 1) (same_tree laws text t u read again).0 ∙ sym also
+at_most_one laws text a b (judgement t read is) (judgement u again also) = is ∙ ap (judged empty_model 1) (same_tree laws text t u read again) ∙ sym also

@@ -54,16 +54,16 @@ same_judgement m k (x ∷ xs) (y ∷ ys) same =
     subst (λ f. SameButOffset (refused_or (number_at m k x.form) k x.at (judged (after_form m x.form) (k + 1) xs)) (refused_or (number_at m k f) k y.at (judged (after_form m f) (k + 1) ys))) first
     (same_or (number_at m k x.form) k x.at y.at _ _ (same_judgement (after_form m x.form) (k + 1) xs ys rest))
 
-too_short : (text : List ℕ) (r : Refusal) (ts : List Token) (c : Bool) → ReadingIsDetermined → length text ≤ text_limit → HasTokens text ts c → IsRefused text r → ⊥
-too_short text r ts c laws short has (too_long above is) = clash text_limit (length text) above short
-too_short text r ts c laws short has (bad_byte us at short_too bad is) = laws.not_both text ts us c at has bad
+too_short : (text : List ℕ) (r : Refusal) (ts : List Token) → ReadingIsDetermined → length text ≤ text_limit → HasTokens text ts → IsRefused text r → ⊥
+too_short text r ts laws short has (too_long above is) = clash text_limit (length text) above short
+too_short text r ts laws short has (bad_byte us at short_too bad is) = laws.not_both text ts us at has bad
 
 pub only_words_count : ReadingIsDetermined → OnlyWordsCount
-only_words_count laws text other ts us c d a b short also_short one two same (unread r refused is) deserves = absurd (too_short text r ts c laws short one refused)
-only_words_count laws text other ts us c d a b short also_short one two same (judgement t read is) (unread r refused also) = absurd (too_short other r us d laws also_short two refused)
-only_words_count laws text other ts us c d a b short also_short one two same (judgement t read is) (judgement u again also) =
-    let first = (laws.tokens text read.tokens ts t.commented c read.are one).0 in
-    let second = (laws.tokens other again.tokens us u.commented d again.are two).0 in
+only_words_count laws text other ts us a b short also_short one two same (unread r refused is) deserves = absurd (too_short text r ts laws short one refused)
+only_words_count laws text other ts us a b short also_short one two same (judgement t read is) (unread r refused also) = absurd (too_short other r us laws also_short two refused)
+only_words_count laws text other ts us a b short also_short one two same (judgement t read is) (judgement u again also) =
+    let first = laws.tokens text read.tokens ts read.are one in
+    let second = laws.tokens other again.tokens us again.are two in
     let runs_same = words_of_runs read.tokens ∙ ap (λ x. word_runs (words_of x)) first ∙ ap word_runs same ∙ sym (ap (λ x. word_runs (words_of x)) second) ∙ sym (words_of_runs again.tokens) in
     let told_same = words_told (runs read.tokens) ∙ ap (take told_limit) runs_same ∙ sym (words_told (runs again.tokens)) in
     let forms = same_forms laws.statements (told (runs read.tokens)) (told (runs again.tokens)) t.statements u.statements told_same read.readings again.readings in

@@ -47,7 +47,7 @@ read_or_refused bytes grammar text = elim (below_or_past text_limit (length text
   | inr short ↦ elim (bytes text) [
     | inl read ↦
         let found = readings grammar (told (runs read.0)) in
-        inl (record { statements = found.0; commented = read.1 }, record { short = short; tokens = read.0; are = read.2; readings = found.1 })
+        inl (record { statements = found.0 }, record { short = short; tokens = read.0; are = read.1; readings = found.1 })
     | inr bad ↦ inr (record { number = 1; statement = 1 + ended bad.0; at = bad.1 }, bad_byte bad.0 bad.1 short bad.2 refl)
   ]
 ]

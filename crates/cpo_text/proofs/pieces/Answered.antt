@@ -1,7 +1,7 @@
 -- What the scan finds is what a text has.
-use Rattle.std.proofs.Common.{◌≡◌, ℕ, ◌+◌, ◌<◌, ◌≤◌, Bool, List, [], length, drop, refl, subst}
+use Rattle.std.proofs.Common.{◌≡◌, ℕ, ◌+◌, ◌<◌, ◌≤◌, List, [], length, drop, refl, subst}
 use Rattle.cpo_text.specs.declared.text.Refusal.{Refusal}
-use Rattle.cpo_text.specs.Tokens.{ArePieces, NonePiece, HasTokens, HasBadByte, has_comment}
+use Rattle.cpo_text.specs.Tokens.{ArePieces, NonePiece, HasTokens, HasBadByte}
 use Rattle.cpo_text.specs.Runs.{ended}
 use Rattle.cpo_text.specs.code.Lexing.{pieces, rest, tokens_from}
 use Rattle.cpo_text.specs.Reads.{IsRefused}
@@ -9,9 +9,9 @@ use Rattle.cpo_text.specs.Reads.IsRefused.{bad_byte}
 use Rattle.cpo_text.proofs.pieces.Covers.{none_of}
 use Rattle.cpo_text.proofs.pieces.Walks.{pieces_are, rest_none}
 
-pub has_tokens : (text : List ℕ) (b : Bool) → rest text ≡ [] → b ≡ has_comment (pieces text) → HasTokens text (tokens_from 0 text) b
+pub has_tokens : (text : List ℕ) → rest text ≡ [] → HasTokens text (tokens_from 0 text)
 unfolding tokens_from
-has_tokens text b done comments = record { pieces = pieces text; whole = subst (ArePieces text (pieces text)) done (pieces_are text); are = refl; comments = comments }
+has_tokens text done = record { pieces = pieces text; whole = subst (ArePieces text (pieces text)) done (pieces_are text); are = refl }
 
 pub has_bad_byte : (text : List ℕ) (at : ℕ) → rest text ≡ drop at text → at < length text → HasBadByte text (tokens_from 0 text) at
 unfolding tokens_from

@@ -7,7 +7,7 @@ use Rattle.cpo_text.specs.declared.text.Form.{Form}
 use Rattle.cpo_text.specs.declared.text.Form.TheVariants.{Tree as Parsed, Number}
 use Rattle.cpo_text.specs.declared.text.Reading.{Reading}
 use Rattle.cpo_text.specs.Words.{Word}
-use Rattle.cpo_text.specs.Tokens.{Token, tokens_of, ArePieces, HasTokens, HasBadByte, has_comment}
+use Rattle.cpo_text.specs.Tokens.{Token, tokens_of, ArePieces, HasTokens, HasBadByte}
 use Rattle.cpo_text.specs.Runs.{words_of, early}
 use Rattle.cpo_text.specs.Spelling.{IsStatement, spelling}
 use Rattle.cpo_text.specs.code.Statements.{statement_at}
@@ -28,9 +28,9 @@ pieces_determined text ps qs r s a a' b b' =
     (p.0 ∙ sym q.0, p.1 ∙ sym q.1)
 
 pub tokens_determined : TokensAreDetermined
-tokens_determined text ts us a b x y =
+tokens_determined text ts us x y =
     let same = (pieces_determined text x.pieces y.pieces [] [] x.whole none_at_end y.whole none_at_end).0 in
-    (x.are ∙ ap (tokens_of 0 text) same ∙ sym y.are, x.comments ∙ ap has_comment same ∙ sym y.comments)
+    x.are ∙ ap (tokens_of 0 text) same ∙ sym y.are
 
 same_place : (text : List ℕ) (i j : ℕ) → i < length text → j < length text → drop i text ≡ drop j text → i ≡ j
 same_place text i j a b e = let n = ap length e in omega (arith, n, length-drop i text, length-drop j text)
@@ -55,12 +55,12 @@ some_left text n b bs e = let size = ap length e in omega (arith, size, length-d
 pub every_text : EveryTextHasTokensOrBadByte
 every_text text = decided (rest text) refl (reached text (pieces text) (rest text) (pieces_are text))
   where
-    decided : (r : List ℕ) → rest text ≡ r → Reached text (rest text) → ((ts : List Token) × (b : Bool) × HasTokens text ts b) ⊎ ((ts : List Token) × (at : ℕ) × HasBadByte text ts at)
-    decided [] done h = inl (tokens_from 0 text, has_comment (pieces text), has_tokens text (has_comment (pieces text)) done refl)
+    decided : (r : List ℕ) → rest text ≡ r → Reached text (rest text) → ((ts : List Token) × HasTokens text ts) ⊎ ((ts : List Token) × (at : ℕ) × HasBadByte text ts at)
+    decided [] done h = inl (tokens_from 0 text, has_tokens text done)
     decided (b ∷ bs) more h = inr (tokens_from 0 text, h.count, has_bad_byte text h.count h.is (some_left text h.count b bs (sym more ∙ h.is)))
 
 pub not_both : NotBoth
-not_both text ts us b at x y =
+not_both text ts us at x y =
     let same = pieces_determined text x.pieces y.pieces [] (drop at text) x.whole none_at_end y.before y.none in
     let size = ap length same.1 in
     let within = y.within in

@@ -1,13 +1,13 @@
 -- One piece further, as the scan for bad bytes counts it.
-use Rattle.std.proofs.Common.{◌≡◌, ℕ, ◌+◌, ◌≤◌, Bool, true, false, ◌||◌, cond, List, [], length, take, drop, Option, Some, None, refl, sym, ap, ◌∙◌, arith}
+use Rattle.std.proofs.Common.{◌≡◌, ℕ, ◌+◌, ◌≤◌, cond, List, [], length, take, drop, Option, Some, None, refl, sym, ap, ◌∙◌, arith}
 use Rattle.std.proofs.lemmas.List.{drop-drop, drop_all}
 use Rattle.std.proofs.lemmas.List.Sums.{sum_by-cons}
 use Rattle.cpo_text.specs.declared.piece.Piece.{Piece}
 use Rattle.cpo_text.specs.Words.{Word}
-use Rattle.cpo_text.specs.Tokens.{Token, word_of, put, is_comment, has_comment}
+use Rattle.cpo_text.specs.Tokens.{Token, word_of, put}
 use Rattle.cpo_text.specs.Runs.{ended, is_end}
-use Rattle.cpo_text.specs.code.Lexing.{piece_at, pieces, rest, tokens_from, says_end}
-use Rattle.cpo_text.proofs.pieces.Walks.{tokens_step, tokens_stop, pieces_step, pieces_stop, rest_step, rest_stop, at_end}
+use Rattle.cpo_text.specs.code.Lexing.{piece_at, rest, tokens_from, says_end}
+use Rattle.cpo_text.proofs.pieces.Walks.{tokens_step, tokens_stop, rest_step, rest_stop, at_end}
 
 ended_put : (at : ℕ) (o : Option Word) (ts : List Token) → ended (put at o ts) ≡ cond (says_end o) 1 0 + ended ts
 ended_put at None ts = omega arith
@@ -30,26 +30,8 @@ count_turn text at p n bytes t =
     ap ended (tokens_step at (drop at text) p n t.found) ∙ ended_put at (word_of p (take n (drop at text))) (tokens_from (at + n) (drop n (drop at text)))
     ∙ rw (t.front, drop-drop n at text) refl
 
-pub comment_turn : (text : List ℕ) (at : ℕ) (p : Piece) (n : ℕ) (bytes : List ℕ) → IsTurn text at p n bytes → has_comment (pieces (drop at text)) ≡ (is_comment p || has_comment (pieces (drop (at + n) text)))
-comment_turn text at p n bytes t = ap has_comment (pieces_step (drop at text) p n t.found) ∙ rw (drop-drop n at text) refl
-
-or_assoc : (a b c : Bool) → ((a || b) || c) ≡ (a || (b || c))
-or_assoc true b c = refl
-or_assoc false b c = refl
-
-or_false : (a : Bool) → (a || false) ≡ a
-or_false true = refl
-or_false false = refl
-
-pub comments_on : (text : List ℕ) (at : ℕ) (p : Piece) (n : ℕ) (bytes : List ℕ) (seen : Bool) → IsTurn text at p n bytes
-    → ((seen || is_comment p) || has_comment (pieces (drop (at + n) text))) ≡ (seen || has_comment (pieces (drop at text)))
-comments_on text at p n bytes seen t = or_assoc seen (is_comment p) (has_comment (pieces (drop (at + n) text))) ∙ ap (λ b. seen || b) (sym (comment_turn text at p n bytes t))
-
 pub rest_at_end : (text : List ℕ) (at : ℕ) → length text ≤ at → rest (drop at text) ≡ []
 rest_at_end text at done = rw (drop_all at text done) (rest_stop [] at_end)
-
-pub comments_at_end : (text : List ℕ) (at : ℕ) (seen : Bool) → length text ≤ at → (seen || has_comment (pieces (drop at text))) ≡ seen
-comments_at_end text at seen done = rw (drop_all at text done, pieces_stop [] at_end) (or_false seen)
 
 -- the bad byte
 pub bad_here : (text rest' : List ℕ) (at : ℕ) → rest' ≡ drop at text → None ≡ piece_at rest' → rest (drop at text) ≡ drop at text

@@ -24,7 +24,7 @@ said_is_read text ss says formed shallow short few =
     let same = runs_spelt t.tokens ss t.said in
     let xs = readings (runs t.tokens) ss in
     let count = as_many (runs t.tokens) ss same in
-    let tree : Tree = record { statements = xs; commented = false } in (
+    let tree : Tree = record { statements = xs } in (
       tree,
       record {
         short = short;

@@ -8,7 +8,7 @@ use Rattle.std.proofs.lemmas.Bool.Decides.{nat_tests}
 use Rattle.std.proofs.lemmas.Bool.{and_parts}
 use Rattle.cpo_text.specs.declared.piece.Piece.{Piece}
 use Rattle.cpo_text.specs.Words.{Word, Word as word, size_word}
-use Rattle.cpo_text.specs.Tokens.{Token, ArePieces, HasTokens, bounded, digits_value, literal_limit, word_of, put, tokens_of, has_comment}
+use Rattle.cpo_text.specs.Tokens.{Token, ArePieces, HasTokens, bounded, digits_value, literal_limit, word_of, put, tokens_of}
 use Rattle.cpo_text.specs.Runs.{words_of}
 use Rattle.read_back.specs.Says.{Chunk, chunk_bytes, chunk_words, is_chunk, are_apart, Says}
 use Rattle.read_back.specs.Says.Chunk.{name, number, sign, blank}
@@ -31,13 +31,6 @@ are_pieces (c ∷ cs) are apart =
       chunk_longest c rest parts.0 (followed c cs are apart),
       subst (λ bs. ArePieces bs (chunk_pieces cs) []) (sym (drop-append_seam (chunk_bytes c) rest)) (are_pieces cs parts.1 (rest_apart c cs apart)),
     )
-
-no_comments : (cs : List Chunk) → has_comment (chunk_pieces cs) ≡ false
-no_comments [] = refl
-no_comments (name n ∷ cs) = no_comments cs
-no_comments (number n ∷ cs) = no_comments cs
-no_comments (sign s ∷ cs) = no_comments cs
-no_comments (blank b ∷ cs) = no_comments cs
 
 -- what one chunk says
 
@@ -68,13 +61,13 @@ words_said at (c ∷ cs) are =
 -- the tokens of a text that says some words
 pub record Tokens (text : List ℕ) (words : List Word) : Type 0 where
   pub tokens : List Token
-  pub are : HasTokens text tokens false
+  pub are : HasTokens text tokens
   pub said : words_of tokens ≡ words
 
 of_chunks : (cs : List Chunk) → list_all is_chunk cs ≡ true → are_apart cs ≡ true → Tokens (chunk_bytes_all cs) (flat_map chunk_words cs)
 of_chunks cs are apart = record {
   tokens = tokens_of 0 (chunk_bytes_all cs) (chunk_pieces cs);
-  are = record { pieces = chunk_pieces cs; whole = are_pieces cs are apart; are = refl; comments = sym (no_comments cs) };
+  are = record { pieces = chunk_pieces cs; whole = are_pieces cs are apart; are = refl };
   said = words_said 0 cs are;
 }
 

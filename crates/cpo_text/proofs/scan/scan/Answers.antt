@@ -2,7 +2,7 @@ use Rattle.std.proofs.Common.{◌≡◌, refl, sym, arith, ◌∙◌}
 use Rattle.cpo_text.specs.Runs.{ended}
 use Rattle.cpo_text.specs.code.Lexing.{tokens_from}
 use Rattle.cpo_text.proofs.pieces.Walks.{part_of}
-use Rattle.cpo_text.proofs.pieces.Scans.{turn_of, reach_turn, count_turn, comments_on, rest_at_end, comments_at_end, bad_here, none_ended}
+use Rattle.cpo_text.proofs.pieces.Scans.{turn_of, reach_turn, count_turn, rest_at_end, bad_here, none_ended}
 use Rattle.cpo_text.proofs.scan.scan.Goals as goal
 
 pub returns-in-None-clause-err : goal.returns-in-None-clause-err
@@ -24,13 +24,9 @@ loop-at-preserved c =
     record {
       reach = sym (reach_turn _ _ _ _ _ turn) ∙ c.loop-at.invariant.reach;
       count = omega (arith, count_turn _ _ _ _ _ turn, c.semicolons-ended.ensures.count, c.loop-at.invariant.count);
-      comments = rw c.is_comment-commented.ensures (comments_on _ _ _ _ _ c.loop-at.commented turn) ∙ c.loop-at.invariant.comments;
       within = omega (arith, c.split_at.ensures.back_len);
       few = omega (arith, c.semicolons-ended.ensures.most, part.some);
     }
 
 pub returns-clause-ok : goal.returns-clause-ok
-returns-clause-ok c = (
-  sym c.loop-at.invariant.reach ∙ rest_at_end c.args.text.now c.loop-at.at c.loop-at-test.false,
-  sym (comments_at_end c.args.text.now c.loop-at.at c.loop-at.commented c.loop-at-test.false) ∙ c.loop-at.invariant.comments,
-)
+returns-clause-ok c = sym c.loop-at.invariant.reach ∙ rest_at_end c.args.text.now c.loop-at.at c.loop-at-test.false
