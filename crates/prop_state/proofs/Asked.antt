@@ -7,8 +7,7 @@ use Rattle.std.proofs.lemmas.List.{take_all}
 use Rattle.std.proofs.lemmas.Int.{ints}
 use Rattle.sched_model.specs.Words.{passes}
 use Rattle.sched_model.specs.Data.{Data}
-use Rattle.region.specs.declared.types.Bounds.{Bounds}
-use Rattle.region.specs.Cells.{Region, bounds_of}
+use Rattle.region.specs.Cells.{Region}
 use Rattle.findings.specs.code.Reads.{IsUnrefuted}
 use Rattle.refute_state.specs.declared.demand.Demand.{Demand}
 use Rattle.refute_state.specs.declared.witness.StateWitness.TheVariants.{State, State3}
@@ -43,8 +42,8 @@ other_function m k c d is other = ap (passes (λ d. nat_eq d.g.0 k)) (sym is) �
         decided false e = e
         decided true e = absurd (other (same i j e))
 
-pub named_here : (m : Data) (r : Region) (k c : ℕ) (d : Demand) (b : Bounds) (e : Ends) → Some d ≡ demand_at m c → d.g.0 ≡ k → b ≡ bounds_of r d.x → e ≡ ends_in r d.x → IsNamed m r k c (record { c = c; demand = d; bounds = b; ends = e })
-named_here m r k c d b e is of told numbers = record { constraint = refl; is = sym is; bounds = told; ends = numbers; of = subst (λ n. nat_eq d.g.0 n ≡ true) of (itself d.g.0) }
+pub named_here : (m : Data) (r : Region) (k c : ℕ) (d : Demand) (e : Ends) → Some d ≡ demand_at m c → d.g.0 ≡ k → e ≡ ends_in r d.x → IsNamed m r k c (record { c = c; demand = d; ends = e })
+named_here m r k c d e is of numbers = record { constraint = refl; is = sym is; ends = numbers; of = subst (λ n. nat_eq d.g.0 n ≡ true) of (itself d.g.0) }
   where
     itself : (n : ℕ) → nat_eq n n ≡ true
     itself n = grind (arith, nat_tests)
@@ -91,7 +90,7 @@ busy_two m r best k a b one other busy still =
     (asked_from_silent m r best (State a.c b.c) (silent_two m k a.c b.c r best (demand_of_named m r k a one) (demand_of_named m r k b other) still)))
 
 pub is_of : (m : Data) (r : Region) (k c : ℕ) (n : Named) → IsNamed m r k c n → IsOf m r k n
-is_of m r k c n is = record { constraint = refl; is = is.is; of = is.of; bounds = is.bounds; ends = is.ends }
+is_of m r k c n is = record { constraint = refl; is = is.is; of = is.of; ends = is.ends }
 
 -- of a second that isn't later, or that may not refute
 pub two_order : (m : Data) (r : Region) (best : Option ℤ) (k c1 c2 : ℕ) → c2 ≤ c1 → SilentTwo m r best k c1 c2

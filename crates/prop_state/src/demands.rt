@@ -1,34 +1,20 @@
 ghost use Rattle.std.specs.Prelude.{◌≡◌, ◌≤◌, true, false, length, IfSome, IfNone};
-ghost use Rattle.region.specs.Cells.{bounds_of};
 ghost use Rattle.refute_state.specs.code.Gathered.{demands_at};
 ghost use Rattle.prop_state.specs.code.Walks.{EachOf, IsNamed, AreNamed};
 
 use findings::{Ends, ends_in};
 use refute_state::{Demand, demand_at};
-use region::{Bounds, Presence, Region};
+use region::Region;
 use sched_base::{Itv, Stf};
 use sched_model::Model;
 
-/// A constraint, by its id, with its demand, and what is known of the demand's interval.
+/// A constraint, by its id, with its demand and the numbers of the demand's interval.
 #[derive(Clone, Copy, Debug, PartialEq, Eq)]
 pub struct Named {
     pub c: u32,
     pub demand: Demand,
-    pub bounds: Bounds,
-    /// The numbers by which two are compared.
     pub ends: Ends,
 }
-
-/// Those of an interval of which nothing is known.
-const UNKNOWN: Bounds = Bounds {
-    presence: Presence::Maybe,
-    smin: 0,
-    smax: 0,
-    emin: 0,
-    emax: 0,
-    pmin: 0,
-    pmax: 0,
-};
 
 /// What stands where no constraint is noted.
 pub const NONE: Named = Named {
@@ -40,7 +26,6 @@ pub const NONE: Named = Named {
         starts: false,
         ends: false,
     },
-    bounds: UNKNOWN,
     ends: Ends::UNKNOWN,
 };
 
@@ -49,17 +34,6 @@ pub const NONE: Named = Named {
 pub struct Noted<'a> {
     pub cs: &'a [u32],
     pub notes: &'a [Named],
-}
-
-/// The bounds of an interval; of one that isn't there nothing is known.
-fn bounds_in(region: &Region, x: Itv) -> Bounds
-    ensures { result ≡ bounds_of region.now.region x }
-{
-    let look = region.look(None, None);
-    if x.0 as usize >= look.len() {
-        return UNKNOWN;
-    }
-    look.bounds(x)
 }
 
 /// The constraint with its demand, if it is one of the state function.
@@ -72,14 +46,8 @@ fn own_demand(model: &Model, region: &Region, k: u32, c: u32) -> Option<Named>
     if demand.g.0 != k {
         return None;
     }
-    let bounds = bounds_in(region, demand.x);
     let ends = ends_in(region, demand.x);
-    Some(Named {
-        c,
-        demand,
-        bounds,
-        ends,
-    })
+    Some(Named { c, demand, ends })
 }
 
 /// Puts the demands of a state function at their places.

@@ -1,14 +1,37 @@
 //! What was known of the intervals of demands when nothing was found of them last, and which demands
 //! are asked again since it has changed.
 ghost use Rattle.std.specs.Prelude.{◌≡◌, ◌≤◌, true, length, Some, IfOk};
+ghost use Rattle.region.specs.Cells.{bounds_of};
 ghost use Rattle.prop_state.specs.code.Walks.{AreNamed};
 ghost use Rattle.prop_state.specs.code.Known.{remembered, AreFresh, Remembers};
 
 use crate::demands::Named;
 use region::{Bounds, Presence, Region};
-use sched_base::{List, NoMemory, at};
+use sched_base::{Itv, List, NoMemory, at};
 use sched_model::Model;
 use std::alloc::Global;
+
+/// Those of an interval of which nothing is known.
+const UNKNOWN: Bounds = Bounds {
+    presence: Presence::Maybe,
+    smin: 0,
+    smax: 0,
+    emin: 0,
+    emax: 0,
+    pmin: 0,
+    pmax: 0,
+};
+
+/// The bounds of an interval; of one that isn't there nothing is known.
+fn bounds_in(region: &Region, x: Itv) -> Bounds
+    ensures { result ≡ bounds_of region.now.region x }
+{
+    let look = region.look(None, None);
+    if x.0 as usize >= look.len() {
+        return UNKNOWN;
+    }
+    look.bounds(x)
+}
 
 fn is_same_presence(a: Presence, b: Presence) -> bool
     ensures { result ≡ true → a ≡ b }
@@ -64,27 +87,34 @@ pub fn note_fresh(
     requires noted { AreNamed model.now region.now.region k cs.now notes.now }
     ensures { IfOk result (λ u. AreFresh model.now region.now.region k cs.now notes.now known.now (length cs.now) fresh.new.items others.new.items) }
 {
-    let _ = (model, region, k);
+    let _ = model;
+    let _ = k;
     fresh.clear();
     others.clear();
     for i in 0..cs.len() {
-        if !is_remembered(known, i, notes[i].bounds) {
-            fresh.push(cs[i])?;
-            others.push(notes[i])?;
+        if is_remembered(known, i, bounds_in(region, notes[i].demand.x)) {
+            continue;
         }
+        fresh.push(cs[i])?;
+        others.push(notes[i])?;
     }
     Ok(())
 }
 
 /// The bounds of the first demands.
 #[tactic(auto, using(crate::proofs::Remembering::remembers_none, crate::proofs::Remembering::remembers_more))]
-pub fn remember(alloc: Global, notes: &[Named], n: usize) -> Result<List<Bounds>, NoMemory>
+pub fn remember(
+    alloc: Global,
+    region: &Region,
+    notes: &[Named],
+    n: usize,
+) -> Result<List<Bounds>, NoMemory>
     requires { n ≤ length notes.now }
-    ensures { IfOk result (λ bs. Remembers n notes.now bs) }
+    ensures { IfOk result (λ bs. Remembers region.now.region n notes.now bs) }
 {
     let mut list = Vec::with_capacity(alloc, n)?;
     for i in 0..n {
-        list.push(notes[i].bounds)?;
+        list.push(bounds_in(region, notes[i].demand.x))?;
     }
     Ok(List::from_vec(list))
 }

@@ -111,13 +111,13 @@ fn unknown(alloc: Global, n: usize) -> Result<Vec<Option<List<Bounds>>>, NoMemor
 }
 
 /// What STATE and STATE3 find of some demands of a state function together with all of them.
-fn ask_fresh(
+fn ask_fresh<'a>(
     model: &Model,
     region: &Region,
     best: Option<i64>,
     k: u32,
-    all: &Noted<'_>,
-    fresh: &Noted<'_>,
+    all: &Noted<'a>,
+    fresh: &Noted<'a>,
 ) -> Option<Finding<StateWitness>>
     requires of { IsRegionOf model.now region.now.region }
     requires all { AreAll model.now region.now.region k all.now.cs.now all.now.notes.now }
@@ -165,14 +165,14 @@ fn ask_demands(
 {
     note_demands(model, region, k, cs, notes);
     note_fresh(model, region, k, cs, notes, known, fresh, others)?;
-    if fresh.is_empty() {
-        return Ok(None);
-    }
     let all = Noted { cs, notes };
     let changed = Noted {
         cs: fresh,
         notes: others,
     };
+    if changed.cs.is_empty() {
+        return Ok(None);
+    }
     Ok(ask_fresh(model, region, best, k, &all, &changed))
 }
 
@@ -226,7 +226,7 @@ impl PropState {
         let (notes, fresh, others) = (&mut self.notes, &mut self.fresh, &mut self.others);
         let Some(found) = ask_demands(model, region, best, k, known, cs, notes, fresh, others)?
         else {
-            let now = remember(self.alloc, &self.notes, cs.len())?;
+            let now = remember(self.alloc, region, &self.notes, cs.len())?;
             self.known[i] = Some(now);
             return Ok(None);
         };

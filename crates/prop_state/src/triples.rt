@@ -184,14 +184,14 @@ fn ask_row(
 
 /// What STATE3 finds of some demands of a state function, some others, and some between them. It looks
 /// at the third only where the two are of one state and stand near each other.
-pub fn ask_triples(
+pub fn ask_triples<'a>(
     model: &Model,
     region: &Region,
     best: Option<i64>,
     k: u32,
-    first: &Noted<'_>,
-    between: &Noted<'_>,
-    last: &Noted<'_>,
+    first: &Noted<'a>,
+    between: &Noted<'a>,
+    last: &Noted<'a>,
 ) -> Option<Finding<StateWitness>>
     requires of { IsRegionOf model.now region.now.region }
     requires first { AreAll model.now region.now.region k first.now.cs.now first.now.notes.now }

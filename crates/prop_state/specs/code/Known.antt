@@ -1,5 +1,5 @@
 -- What is remembered of demands of which nothing was found: what was known of their intervals.
-use Rattle.std.specs.Prelude.{◌≡◌, ◌⊎◌, ℕ, ◌<◌, ◌≤◌, ℤ, List, length, Option, Some, None, slice_get, slice_index_or, ⊤}
+use Rattle.std.specs.Prelude.{◌≡◌, ◌⊎◌, ℕ, ◌<◌, ℤ, List, length, Option, Some, None, slice_get, slice_index_or, ⊤}
 use Rattle.sched_model.specs.Data.{Data}
 use Rattle.region.specs.declared.types.Bounds.{Bounds}
 use Rattle.region.specs.Cells.{Region, bounds_of}
@@ -39,12 +39,12 @@ remembered None i = None
 remembered (Some bs) i = slice_get bs i
 
 -- the bounds of the first noted ones
-pub record Remembers (n : ℕ) (ns : List Named) (bs : List Bounds) : Type 0 where
+pub record Remembers (r : Region) (n : ℕ) (ns : List Named) (bs : List Bounds) : Type 0 where
   pub size : length bs ≡ n
-  pub each : (i : ℕ) → i < n → (e : Named) → slice_get bs i ≡ Some (slice_index_or ns i e).bounds
+  pub each : (i : ℕ) → i < n → (e : Named) → slice_get bs i ≡ Some (bounds_of r (slice_index_or ns i e).demand.x)
 
 -- of the first n constraints each is among the fresh ones, or its interval is as it is remembered
 pub record AreFresh (m : Data) (r : Region) (k : ℕ) (cs : List ℕ) (ns : List Named) (known : Option (List Bounds)) (n : ℕ) (fs : List ℕ) (os : List Named) : Type 0 where
   pub size : length fs ≡ length os
   pub named : AreNamed m r k fs os
-  pub all : (i : ℕ) → i < n → (c : ℕ) (e : Named) → In fs (slice_index_or cs i c) ⊎ (remembered known i ≡ Some (slice_index_or ns i e).bounds)
+  pub all : (i : ℕ) → i < n → (c : ℕ) (e : Named) → In fs (slice_index_or cs i c) ⊎ (remembered known i ≡ Some (bounds_of r (slice_index_or ns i e).demand.x))

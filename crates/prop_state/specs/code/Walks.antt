@@ -1,7 +1,7 @@
 -- What holds of each demand of a state function.
 use Rattle.std.specs.Prelude.{◌≡◌, ℕ, ◌<◌, ◌≤◌, ℤ, true, List, length, slice_index_or, Option, Some, nat_eq}
 use Rattle.sched_model.specs.Data.{Data}
-use Rattle.region.specs.Cells.{Region, bounds_of}
+use Rattle.region.specs.Cells.{Region}
 use Rattle.refute_state.specs.declared.witness.StateWitness.TheVariants.{State, State3}
 use Rattle.refute_state.specs.Demands.{demand_at}
 use Rattle.refute_state.specs.code.Gathered.{demands_at}
@@ -29,12 +29,11 @@ SilentAround m r best k c1 cs c3 = EachOf (λ c2. SilentThree m r best k c1 c2 c
 abbrev pub EachThree : Data → Region → Option ℤ → ℕ → List ℕ → List ℕ → List ℕ → Type 0
 EachThree m r best k cs xs ds = EachOf (λ c1. EachOf (SilentAround m r best k c1 xs) ds) cs
 
--- a constraint with its demand, which is of state function k, and what is known of its interval
+-- a constraint with its demand, which is of state function k, and the numbers of its interval
 pub record IsNamed (m : Data) (r : Region) (k c : ℕ) (n : Named) : Type 0 where
   pub constraint : n.c ≡ c
   pub is : demand_at m n.c ≡ Some n.demand
   pub of : nat_eq n.demand.g.0 k ≡ true
-  pub bounds : n.bounds ≡ bounds_of r n.demand.x
   pub ends : n.ends ≡ ends_in r n.demand.x
 
 abbrev pub IsOf : Data → Region → ℕ → Named → Type 0

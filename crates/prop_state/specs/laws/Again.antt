@@ -1,5 +1,5 @@
 -- What is silent stays so while the intervals of its demands are told the same.
-use Rattle.std.specs.Prelude.{◌≡◌, ◌⊎◌, ℕ, zero, suc, ◌<◌, ℤ, true, List, [], ◌∷◌, length, Option, Some, None, slice_get, slice_index_or}
+use Rattle.std.specs.Prelude.{◌≡◌, ◌⊎◌, ℕ, suc, ◌<◌, ℤ, List, [], ◌∷◌, length, Option, Some, None, slice_index_or}
 use Rattle.std.proofs.Common.{refl, sym, ap, subst, ◌∙◌, inl, inr, arith}
 use Rattle.std.proofs.lemmas.Bool.{true≢false}
 use Rattle.std.proofs.lemmas.Option.{same_Some, none-some}
@@ -20,7 +20,7 @@ use Rattle.refute_state.specs.laws.Settled.{In}
 use Rattle.prop_state.specs.declared.demands.Named.{Named}
 use Rattle.prop_state.specs.code.Tasks.{IsSilent, quiet, constraints_of, reads_of}
 use Rattle.prop_state.specs.code.Walks.{EachTwo, EachThree, AreAll, AreAsked}
-use Rattle.prop_state.specs.code.Known.{IsKnown, IfKnown, remembered, AreFresh, Remembers}
+use Rattle.prop_state.specs.code.Known.{IsKnown, IfKnown, AreFresh, Remembers}
 use Rattle.prop_state.specs.laws.Reading.{demanded, looks}
 use Rattle.prop_state.specs.laws.Silence.{asked_from_silent, silent_from_asked}
 use Rattle.prop_state.specs.laws.Quieting.{demands_quiet, silent_two, silent_three}
@@ -108,7 +108,7 @@ unless_fresh m k q bs ns fs os known all fresh c here = at (stands_in (demands_o
           | inl new ↦ inl (subst (In fs) s.is new)
           | inr old ↦ inr (λ d is.
               let demand : n.demand ≡ d = same_Some n.demand d (sym named.is ∙ ap (demand_at m) (named.constraint ∙ s.is) ∙ is) in
-              same_Some (bounds_of known.region d.x) (bounds_of q d.x) (sym (known.bounds s.place 0 d s.within (ap (demand_at m) s.is ∙ is)) ∙ old ∙ ap Some (named.bounds ∙ ap (λ e. bounds_of q e.x) demand)))
+              same_Some (bounds_of known.region d.x) (bounds_of q d.x) (sym (known.bounds s.place 0 d s.within (ap (demand_at m) s.is ∙ is)) ∙ old ∙ ap Some (ap (λ e. bounds_of q e.x) demand)))
         ]
 
 -- what isn't remembered is all fresh
@@ -120,7 +120,7 @@ all_fresh m k q ns fs os all fresh c here = at (stands_in (demands_of m k) c her
         let room = all.room in
         let within = s.within in
         let one = item_at ns s.place (omega (arith, room, within)) in
-        elim (fresh.all s.place s.within 0 one.0) [ inl new ↦ subst (In fs) s.is new | inr old ↦ absurd (none-some (slice_index_or ns s.place one.0).bounds old) ]
+        elim (fresh.all s.place s.within 0 one.0) [ inl new ↦ subst (In fs) s.is new | inr old ↦ absurd (none-some (bounds_of q (slice_index_or ns s.place one.0).demand.x) old) ]
 
 -- A state function is quiet where its fresh demands are silent with all of them.
 pub quiet_again : (m : Data) (k : ℕ) (q : Region) (best : Option ℤ) (known : Option (List Bounds)) (ns : List Named) (fs : List ℕ) (os : List Named) → IsRegionOf m q → IfKnown m k known → AreAll m q k (demands_of m k) ns
@@ -147,7 +147,7 @@ quiet_still m k q best known ns fs os is of have all fresh =
     })
 
 -- what is quiet is remembered by the bounds of its demands
-pub known_now : (m : Data) (k : ℕ) (q : Region) (best : Option ℤ) (ns : List Named) (bs : List Bounds) → IsRegionOf m q → quiet m k q best → AreAll m q k (demands_of m k) ns → Remembers (length (demands_of m k)) ns bs → IsKnown m k bs
+pub known_now : (m : Data) (k : ℕ) (q : Region) (best : Option ℤ) (ns : List Named) (bs : List Bounds) → IsRegionOf m q → quiet m k q best → AreAll m q k (demands_of m k) ns → Remembers q (length (demands_of m k)) ns bs → IsKnown m k bs
 known_now m k q best ns bs of still all remembers = record {
   region = q;
   best = best;
@@ -159,5 +159,5 @@ known_now m k q best ns bs of still all remembers = record {
       let n = slice_index_or ns i one.0 in
       let named = all.named i within c one.0 in
       let demand : n.demand ≡ d = same_Some n.demand d (sym named.is ∙ ap (demand_at m) named.constraint ∙ is) in
-      remembers.each i within one.0 ∙ ap Some (named.bounds ∙ ap (λ e. bounds_of q e.x) demand);
+      remembers.each i within one.0 ∙ ap Some (ap (λ e. bounds_of q e.x) demand);
 }

@@ -9,4 +9,4 @@ returns-in-Err c = let e = c.in-Err.ensures in refused _ _ (omega arith) e.err.0
 pub returns-in_ok-statements-in-Ok : goal.returns-in_ok-statements-in-Ok
 returns-in_ok-statements-in-Ok c =
     let e = c.in-Ok.ensures in
-    record { short = omega arith; tokens = tokens_from 0 c.args.text.now; are = has_tokens _ _ e.ok.0 e.ok.1; readings = c.in_ok-statements-in-Ok.ensures }
+    record { short = omega arith; tokens = tokens_from 0 c.args.text.now; are = has_tokens _ e.ok; readings = c.in_ok-statements-in-Ok.ensures }
