@@ -2,6 +2,7 @@
 use Rattle.std.specs.Prelude.{◌≡◌, ℕ, zero, suc, ◌+◌, ◌<◌, ◌≤◌, ℤ, Bool, true, false, ◌||◌, nat_eq, List, [], ◌∷◌, ◌++◌, map, length, Option}
 use Rattle.std.proofs.Common.{refl, sym, ap, subst, ◌∙◌, arith, take, get_or}
 use Rattle.std.proofs.lemmas.Bool.{true≢false}
+use Rattle.std.proofs.lemmas.Bool.Decides.{nat_tests}
 use Rattle.sched_base.specs.declared.ids.Itv.{Itv}
 use Rattle.sched_model.specs.Data.{Data}
 use Rattle.region.specs.Cells.{Region}
@@ -18,8 +19,12 @@ use Rattle.prop_sets.proofs.Marking.{take_more, take_all}
 pub never_unrefuted : (m : Data) (r : Region) (best : Option ℤ) (i : Itv) (w : SeqWitness) → IsBusy m r best i w → IsUnrefuted refutes m r best w (i ∷ []) [] → ⊥
 never_unrefuted m r best i w busy none = true≢false (sym busy.refuted ∙ none busy.guess busy.on)
 
-pub never_quiet : (m : Data) (c : ℕ) (r : Region) (best : Option ℤ) (i : Itv) (w : SeqWitness) → looks_after m c w ≡ true → IsBusy m r best i w → quiet m c r best → ⊥
-never_quiet m c r best i w mine busy still = true≢false (sym busy.refuted ∙ still.unrefuted w busy.guess mine busy.asked)
+pub never_quiet : (later : Bool) (m : Data) (c : ℕ) (r : Region) (best : Option ℤ) (i : Itv) (w : SeqWitness) → looks_after later m c w ≡ true → IsBusy m r best i w → quiet later m c r best → ⊥
+never_quiet later m c r best i w mine busy still = true≢false (sym busy.refuted ∙ still.unrefuted w busy.guess mine busy.asked)
+
+-- each constraint is its own propagator's
+pub itself : (c : ℕ) → nat_eq c c ≡ true
+itself c = grind (arith, nat_tests)
 
 -- names of a list of places, one after the other
 has_push : (f : ℕ → ℕ) (xs : List ℕ) (y x : ℕ) → has (map f (xs ++ y ∷ [])) x ≡ (has (map f xs) x || nat_eq (f y) x)

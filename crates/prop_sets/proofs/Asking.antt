@@ -22,7 +22,7 @@ use Rattle.theta_passes.specs.code.Rows.{IsByEst}
 use Rattle.theta_passes.specs.code.Late.{IsLow, lowest}
 use Rattle.prop_sets.specs.code.Orders.{AreSpanned, IsByStart}
 use Rattle.prop_sets.specs.code.Rows.{seen, asked_bounds, asks_early, asks_late, chosen_row, side_of, member_at, AreRows}
-use Rattle.prop_sets.specs.code.Sides.{NoEdge, NoDetect, NoNotEnd, IsSideQuiet}
+use Rattle.prop_sets.specs.code.Sides.{NoFull, NoEdge, NoDetect, NoNotEnd, IsSideQuiet}
 use Rattle.prop_sets.specs.code.Given.{IsOf, IsRowed}
 use Rattle.prop_sets.specs.code.Busy.{IsBusy, IsLateFound, IsOverFound, IsEdgeFound, name_at, ids_of}
 use Rattle.prop_sets.specs.laws.Under.{IsNarrow, IsMoment, narrow}
@@ -118,6 +118,9 @@ busy_not_end m c p r best xs back rows k s h found =
     not_end_busy m c p r best xs (side_of back) rows k s (two back)
     (hit m c p r xs (side_of back) false (asks_late (side_of back)) rows k h.of (subst (λ e. AreRows (chosen_row false (side_of back) e) r xs rows) (late_is back) h.are) found.candidate) found.behind
 
+pub no_full : (m : Data) (c : ℕ) (p : Seq) (r : Region) (xs : List Itv) (rows : List Row) → IsRowed m c p r xs false true true rows → NoOverloads rows → NoFull 0 r xs
+no_full m c p r xs rows rowed none = record { rows = rows; are = record { size = rowed.are.size; each = rowed.are.each }; overloads = none }
+
 pub no_edge : (m : Data) (c : ℕ) (p : Seq) (r : Region) (xs : List Itv) (back : Bool) (rows : List Row) → IsRowed m c p r xs back true (not back) rows → NoOverloads rows → PassOrNone rows None → NoEdge (side_of back) r xs
 no_edge m c p r xs back rows rowed none pass =
     let h = subst (λ e. AreRows (chosen_row true (side_of back) e) r xs rows) (early_is back) rowed.are in
@@ -133,8 +136,11 @@ no_not_end m c p r xs back rows rowed pass =
     let h = subst (λ e. AreRows (chosen_row false (side_of back) e) r xs rows) (late_is back) rowed.are in
     record { rows = rows; are = record { size = h.size; each = h.each }; pass = pass }
 
-pub side_quiet : (side : ℕ) (r : Region) (xs : List Itv) → NoEdge side r xs → NoDetect side r xs → NoNotEnd side r xs → IsSideQuiet side r xs
-side_quiet side r xs edge detect not_end = record { edge = edge; detect = detect; not_end = not_end }
+pub first_quiet : (r : Region) (xs : List Itv) → NoFull 0 r xs → NoDetect 0 r xs → IsSideQuiet false 0 r xs
+first_quiet r xs full detect = (full, detect)
+
+pub later_quiet : (side : ℕ) (r : Region) (xs : List Itv) → NoEdge side r xs → NoNotEnd side r xs → IsSideQuiet true side r xs
+later_quiet side r xs edge not_end = (edge, not_end)
 
 -- rows as they are made for a side
 pub rowed : (m : Data) (c : ℕ) (p : Seq) (r : Region) (xs : List Itv) (back chosen early : Bool) (rows : List Row) → IsOf m c p r xs → AreRows (chosen_row chosen (side_of back) early) r xs rows → IsRowed m c p r xs back chosen early rows

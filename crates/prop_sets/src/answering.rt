@@ -1,5 +1,5 @@
 //! Findings by sets of members at some places.
-ghost use Rattle.std.specs.Prelude.{◌≡◌, ◌<◌, true, length, nat_eq, map, IfOk, IfNone, IfSome};
+ghost use Rattle.std.specs.Prelude.{◌≡◌, ◌<◌, Bool, true, false, length, nat_eq, map, IfOk, IfNone, IfSome};
 ghost use Rattle.task_sets.specs.Times.{has};
 ghost use Rattle.region.specs.Looks.{IsRegionOf};
 ghost use Rattle.findings.specs.Found.{IsFinding};
@@ -28,11 +28,10 @@ fn answer(
     w: SeqWitness,
 ) -> Option<Finding<SeqWitness>>
     requires of { IsRegionOf model.now region.now.region }
-    requires mine { looks_after model.now c w ≡ true }
     requires busy { IsBusy model.now region.now.region best i w }
     ensures none { IfNone result ⊥ }
     ensures some { IfSome result (IsFinding refutes model.now region.now.region best) }
-    ensures busy { IfSome result (λ f. quiet model.now c region.now.region best → ⊥) }
+    ensures busy { (later : Bool) → looks_after later model.now c w ≡ true → IfSome result (λ f. quiet later model.now c region.now.region best → ⊥) }
 {
     let guess = ask::<OnSequence>(model, region, best, &w, &[i], &[])?;
     Some(Finding { guess, witness: w })
@@ -89,6 +88,7 @@ fn few_ids(alloc: Global, model: &Model, members: &[Itv], set: &[u32]) -> Result
     ids_of(alloc, members, set, intervals_in(model))
 }
 
+/// What a set gives that overloads; in both rounds it is looked for.
 pub fn answer_overload(
     alloc: Global,
     model: &Model,
@@ -102,7 +102,7 @@ pub fn answer_overload(
     requires busy { IsBusy model.now region.now.region best (member_at members.now found.now.place) (witness.Overload c (ids_of members.now found.now.set.items (length model.now.intervals))) }
     ensures none { IfOk result (λ o. IfNone o ⊥) }
     ensures some { IfOk result (λ o. IfSome o (IsFinding refutes model.now region.now.region best)) }
-    ensures busy { IfOk result (λ o. IfSome o (λ f. quiet model.now c region.now.region best → ⊥)) }
+    ensures busy { (later : Bool) → IfOk result (λ o. IfSome o (λ f. quiet later model.now c region.now.region best → ⊥)) }
 {
     let s = few_ids(alloc, model, members, &found.set)?;
     let i = member_at(members, found.place);
@@ -123,7 +123,7 @@ pub fn answer_detect(
     requires busy { IsBusy model.now region.now.region best (member_at members.now found.now.place) (witness.Detect c (side_of back) (name_at members.now found.now.place) (ids_of members.now found.now.set.items (length model.now.intervals))) }
     ensures none { IfOk result (λ o. IfNone o ⊥) }
     ensures some { IfOk result (λ o. IfSome o (IsFinding refutes model.now region.now.region best)) }
-    ensures busy { IfOk result (λ o. IfSome o (λ f. quiet model.now c region.now.region best → ⊥)) }
+    ensures busy { IfOk result (λ o. IfSome o (λ f. quiet false model.now c region.now.region best → ⊥)) }
 {
     let s = few_ids(alloc, model, members, &found.set)?;
     let i = member_at(members, found.place);
@@ -150,7 +150,7 @@ pub fn answer_not_end(
     requires busy { IsBusy model.now region.now.region best (member_at members.now found.now.place) (witness.NotEnd c (side_of back) (name_at members.now found.now.place) (ids_of members.now found.now.set.items (length model.now.intervals))) }
     ensures none { IfOk result (λ o. IfNone o ⊥) }
     ensures some { IfOk result (λ o. IfSome o (IsFinding refutes model.now region.now.region best)) }
-    ensures busy { IfOk result (λ o. IfSome o (λ f. quiet model.now c region.now.region best → ⊥)) }
+    ensures busy { IfOk result (λ o. IfSome o (λ f. quiet true model.now c region.now.region best → ⊥)) }
 {
     let s = few_ids(alloc, model, members, &found.set)?;
     let i = member_at(members, found.place);
@@ -177,7 +177,7 @@ pub fn answer_edge(
     requires busy { IsBusy model.now region.now.region best (member_at members.now found.now.place) (witness.Edge c (side_of back) (name_at members.now found.now.place) (ids_of members.now found.now.s.items (length model.now.intervals)) (ids_of members.now found.now.u.items (length model.now.intervals)) (ids_of members.now found.now.v.items (length model.now.intervals))) }
     ensures none { IfOk result (λ o. IfNone o ⊥) }
     ensures some { IfOk result (λ o. IfSome o (IsFinding refutes model.now region.now.region best)) }
-    ensures busy { IfOk result (λ o. IfSome o (λ f. quiet model.now c region.now.region best → ⊥)) }
+    ensures busy { IfOk result (λ o. IfSome o (λ f. quiet true model.now c region.now.region best → ⊥)) }
 {
     let s = few_ids(alloc, model, members, &found.s)?;
     let u = few_ids(alloc, model, members, &found.u)?;

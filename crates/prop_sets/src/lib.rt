@@ -1,5 +1,6 @@
-//! Propagators of sequences without overlap: one for each constraint, which finds sets of members that
-//! leave no room, or that some member must come before or behind (Vilím 2007).
+//! Propagators of sequences without overlap: two for each constraint, which find sets of members that
+//! leave no room, or that some member must come before or behind (Vilím 2007). The first asks for what
+//! is found sooner.
 #![tactic(auto)]
 
 mod answering;

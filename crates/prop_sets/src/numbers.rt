@@ -187,7 +187,7 @@ pub fn rows_of(
     ensures { IfOk result (λ v. AreRows (chosen_row chosen (side_of back) early) region.now.region members.now v.items) }
 {
     let look = region.look(None, None);
-    let mut rows = Vec::new(alloc);
+    let mut rows = Vec::with_capacity(alloc, members.len())?;
     for k in 0..members.len() {
         rows.push(chosen_row(chosen, back, early, bounds_at(&look, members[k])))?;
     }

@@ -103,7 +103,7 @@ fn keyed_by(alloc: Global, rows: &[Row], by: By) -> Result<Vec<Keyed>, NoMemory>
     requires spanned { AreSpanned rows.now }
     ensures { IfOk result (λ v. AreKeyed (on_by by rows.now) (key_by by rows.now) (length rows.now) v.items) }
 {
-    let mut keyed = Vec::new(alloc);
+    let mut keyed = Vec::with_capacity(alloc, rows.len())?;
     for k in 0..rows.len() {
         if !is_on(by, rows, k) {
             continue;
@@ -118,7 +118,7 @@ fn keyed_by(alloc: Global, rows: &[Row], by: By) -> Result<Vec<Keyed>, NoMemory>
 fn places(alloc: Global, keyed: &[Keyed]) -> Result<Vec<u32>, NoMemory>
     ensures { IfOk result (λ v. ArePlaces keyed.now (length keyed.now) v.items) }
 {
-    let mut order = Vec::new(alloc);
+    let mut order = Vec::with_capacity(alloc, keyed.len())?;
     for k in 0..keyed.len() {
         order.push(keyed[k].place)?;
     }
@@ -160,7 +160,7 @@ fn starts(
     ensures { IfOk result (λ v. AreStarts (side_of back) region.now.region members.now (length members.now) v.items) }
 {
     let look = region.look(None, None);
-    let mut keyed = Vec::new(alloc);
+    let mut keyed = Vec::with_capacity(alloc, members.len())?;
     for k in 0..members.len() {
         keyed.push(entry(start_of(back, bounds_at(&look, members[k])), k))?;
     }
@@ -181,7 +181,7 @@ fn named(alloc: Global, members: &[Itv], keyed: &[Keyed]) -> Result<Vec<Itv>, No
     requires { (k : ℕ) → k < length keyed.now → (keyed_at keyed.now k).place < length members.now }
     ensures { IfOk result (λ v. AreNamed members.now keyed.now (length keyed.now) v.items) }
 {
-    let mut list = Vec::new(alloc);
+    let mut list = Vec::with_capacity(alloc, keyed.len())?;
     for k in 0..keyed.len() {
         list.push(member_at(members, keyed[k].place))?;
     }

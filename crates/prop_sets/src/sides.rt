@@ -1,11 +1,11 @@
 //! What is found of a sequence on one side.
-ghost use Rattle.std.specs.Prelude.{◌≡◌, ℕ, ◌≤◌, length, IfOk, IfNone, IfSome};
+ghost use Rattle.std.specs.Prelude.{◌≡◌, ℕ, ◌≤◌, true, false, length, IfOk, IfNone, IfSome};
 ghost use Rattle.region.specs.Looks.{IsRegionOf};
 ghost use Rattle.findings.specs.Found.{IsFinding};
 ghost use Rattle.refute_seq.specs.OnSequence.{refutes};
 ghost use Rattle.prop_sets.specs.code.Tasks.{quiet};
 ghost use Rattle.prop_sets.specs.code.Rows.{side_of};
-ghost use Rattle.prop_sets.specs.code.Sides.{NoEdge, NoDetect, NoNotEnd, IsSideQuiet};
+ghost use Rattle.prop_sets.specs.code.Sides.{NoFull, NoEdge, NoDetect, NoNotEnd, IsSideQuiet};
 ghost use Rattle.task_sets.specs.Times.{IsSized};
 ghost use Rattle.theta_passes.specs.code.Rows.{row_at, times_at, IsNearRow, IsByEst};
 ghost use Rattle.theta_passes.specs.code.Late.{IsLow};
@@ -90,7 +90,7 @@ fn ask_edges(
     requires sorted { IsByStart (side_of back) region.now.region asked.now.members.now }
     ensures none { IfOk result (λ o. IfNone o (NoEdge (side_of back) region.now.region asked.now.members.now)) }
     ensures some { IfOk result (λ o. IfSome o (IsFinding refutes model.now region.now.region best)) }
-    ensures busy { IfOk result (λ o. IfSome o (λ f. quiet model.now asked.now.c region.now.region best → ⊥)) }
+    ensures busy { IfOk result (λ o. IfSome o (λ f. quiet true model.now asked.now.c region.now.region best → ⊥)) }
 {
     let rows = rows_for(alloc, model, region, asked, back, true, !back)?;
     if let Some(found) = find_overload(alloc, &rows)? {
@@ -126,7 +126,7 @@ fn ask_detects(
     requires sorted { IsByStart (side_of back) region.now.region asked.now.members.now }
     ensures none { IfOk result (λ o. IfNone o (NoDetect (side_of back) region.now.region asked.now.members.now)) }
     ensures some { IfOk result (λ o. IfSome o (IsFinding refutes model.now region.now.region best)) }
-    ensures busy { IfOk result (λ o. IfSome o (λ f. quiet model.now asked.now.c region.now.region best → ⊥)) }
+    ensures busy { IfOk result (λ o. IfSome o (λ f. quiet false model.now asked.now.c region.now.region best → ⊥)) }
 {
     let rows = rows_for(alloc, model, region, asked, back, false, !back)?;
     if let Some(found) = find_late(alloc, &rows)? {
@@ -159,7 +159,7 @@ fn ask_not_ends(
     requires sorted { IsByStart (side_of back) region.now.region asked.now.members.now }
     ensures none { IfOk result (λ o. IfNone o (NoNotEnd (side_of back) region.now.region asked.now.members.now)) }
     ensures some { IfOk result (λ o. IfSome o (IsFinding refutes model.now region.now.region best)) }
-    ensures busy { IfOk result (λ o. IfSome o (λ f. quiet model.now asked.now.c region.now.region best → ⊥)) }
+    ensures busy { IfOk result (λ o. IfSome o (λ f. quiet true model.now asked.now.c region.now.region best → ⊥)) }
 {
     let rows = rows_for(alloc, model, region, asked, back, false, back)?;
     if let Some(found) = find_late(alloc, &rows)? {
@@ -177,8 +177,8 @@ fn ask_not_ends(
     Ok(None)
 }
 
-/// OVERLOAD alone, which is asked first.
-#[tactic(auto, using(crate::proofs::Asking::busy_overload))]
+/// OVERLOAD alone, which is asked first of all.
+#[tactic(auto, using(crate::proofs::Asking::busy_overload, crate::proofs::Asking::no_full))]
 fn ask_overload(
     alloc: Global,
     model: &Model,
@@ -189,8 +189,9 @@ fn ask_overload(
     requires is { IsOf model.now asked.now.c asked.now.p region.now.region asked.now.members.now }
     requires few { length asked.now.members.now ≤ 500 }
     requires sorted { IsByStart 0 region.now.region asked.now.members.now }
+    ensures none { IfOk result (λ o. IfNone o (NoFull 0 region.now.region asked.now.members.now)) }
     ensures some { IfOk result (λ o. IfSome o (IsFinding refutes model.now region.now.region best)) }
-    ensures busy { IfOk result (λ o. IfSome o (λ f. quiet model.now asked.now.c region.now.region best → ⊥)) }
+    ensures busy { IfOk result (λ o. IfSome o (λ f. quiet false model.now asked.now.c region.now.region best → ⊥)) }
 {
     let rows = rows_for(alloc, model, region, asked, false, true, true)?;
     if let Some(found) = find_overload(alloc, &rows)? {
@@ -199,10 +200,10 @@ fn ask_overload(
     Ok(None)
 }
 
-/// What is found of a constraint, by its members in the order of their earliest starts, and in that
-/// of their latest completions: first OVERLOAD, then DETECT, NOTEND and EDGE.
-#[tactic(auto, using(crate::proofs::Asking::side_quiet))]
-pub fn ask_sides(
+/// What is found of a constraint in the first round, by its members in the order of their earliest
+/// starts, and in that of their latest completions: first OVERLOAD, then DETECT.
+#[tactic(auto, using(crate::proofs::Asking::first_quiet))]
+fn ask_first(
     alloc: Global,
     model: &Model,
     region: &Region,
@@ -217,10 +218,10 @@ pub fn ask_sides(
     requires few_too { length second.now.members.now ≤ 500 }
     requires sorted { IsByStart 0 region.now.region first.now.members.now }
     requires turned { IsByStart 1 region.now.region second.now.members.now }
-    ensures none { IfOk result (λ o. IfNone o (IsSideQuiet 0 region.now.region first.now.members.now)) }
-    ensures none_turned { IfOk result (λ o. IfNone o (IsSideQuiet 1 region.now.region second.now.members.now)) }
+    ensures none { IfOk result (λ o. IfNone o (IsSideQuiet false 0 region.now.region first.now.members.now)) }
+    ensures none_turned { IfOk result (λ o. IfNone o (IsSideQuiet false 1 region.now.region second.now.members.now)) }
     ensures some { IfOk result (λ o. IfSome o (IsFinding refutes model.now region.now.region best)) }
-    ensures busy { IfOk result (λ o. IfSome o (λ f. quiet model.now first.now.c region.now.region best → ⊥)) }
+    ensures busy { IfOk result (λ o. IfSome o (λ f. quiet false model.now first.now.c region.now.region best → ⊥)) }
 {
     if let Some(found) = ask_overload(alloc, model, region, best, first)? {
         return Ok(Some(found));
@@ -231,6 +232,31 @@ pub fn ask_sides(
     if let Some(found) = ask_detects(alloc, model, region, best, true, second)? {
         return Ok(Some(found));
     }
+    Ok(None)
+}
+
+/// What is found of it in the later round: first NOTEND, then EDGE.
+#[tactic(auto, using(crate::proofs::Asking::later_quiet))]
+fn ask_later(
+    alloc: Global,
+    model: &Model,
+    region: &Region,
+    best: Option<i64>,
+    first: &Asked<'_>,
+    second: &Asked<'_>,
+) -> Result<Option<Finding<SeqWitness>>, NoMemory>
+    requires is { IsOf model.now first.now.c first.now.p region.now.region first.now.members.now }
+    requires also { IsOf model.now second.now.c second.now.p region.now.region second.now.members.now }
+    requires same { first.now.c ≡ second.now.c }
+    requires few { length first.now.members.now ≤ 500 }
+    requires few_too { length second.now.members.now ≤ 500 }
+    requires sorted { IsByStart 0 region.now.region first.now.members.now }
+    requires turned { IsByStart 1 region.now.region second.now.members.now }
+    ensures none { IfOk result (λ o. IfNone o (IsSideQuiet true 0 region.now.region first.now.members.now)) }
+    ensures none_turned { IfOk result (λ o. IfNone o (IsSideQuiet true 1 region.now.region second.now.members.now)) }
+    ensures some { IfOk result (λ o. IfSome o (IsFinding refutes model.now region.now.region best)) }
+    ensures busy { IfOk result (λ o. IfSome o (λ f. quiet true model.now first.now.c region.now.region best → ⊥)) }
+{
     if let Some(found) = ask_not_ends(alloc, model, region, best, false, first)? {
         return Ok(Some(found));
     }
@@ -244,4 +270,32 @@ pub fn ask_sides(
         return Ok(Some(found));
     }
     Ok(None)
+}
+
+/// What is found of it in one of the rounds.
+pub fn ask_sides(
+    alloc: Global,
+    model: &Model,
+    region: &Region,
+    best: Option<i64>,
+    later: bool,
+    first: &Asked<'_>,
+    second: &Asked<'_>,
+) -> Result<Option<Finding<SeqWitness>>, NoMemory>
+    requires is { IsOf model.now first.now.c first.now.p region.now.region first.now.members.now }
+    requires also { IsOf model.now second.now.c second.now.p region.now.region second.now.members.now }
+    requires same { first.now.c ≡ second.now.c }
+    requires few { length first.now.members.now ≤ 500 }
+    requires few_too { length second.now.members.now ≤ 500 }
+    requires sorted { IsByStart 0 region.now.region first.now.members.now }
+    requires turned { IsByStart 1 region.now.region second.now.members.now }
+    ensures none { IfOk result (λ o. IfNone o (IsSideQuiet later 0 region.now.region first.now.members.now)) }
+    ensures none_turned { IfOk result (λ o. IfNone o (IsSideQuiet later 1 region.now.region second.now.members.now)) }
+    ensures some { IfOk result (λ o. IfSome o (IsFinding refutes model.now region.now.region best)) }
+    ensures busy { IfOk result (λ o. IfSome o (λ f. quiet later model.now first.now.c region.now.region best → ⊥)) }
+{
+    if later {
+        return ask_later(alloc, model, region, best, first, second);
+    }
+    ask_first(alloc, model, region, best, first, second)
 }

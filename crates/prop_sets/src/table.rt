@@ -23,10 +23,14 @@ use sched_base::{Itv, List, NoMemory, Seq, at};
 use sched_model::{Constraint, Model};
 use std::alloc::Global;
 
-/// One propagator for each constraint, which is quiet where the constraint isn't one without overlap.
+/// One propagator of a round for each constraint, which is quiet where the constraint isn't one
+/// without overlap. The first round asks for OVERLOAD and DETECT, the later one for OVERLOAD, EDGE and
+/// NOTEND.
 #[derive(Drop)]
 pub struct PropSets {
     alloc: Global,
+    /// Whether it is the later round.
+    later: bool,
     /// The members of each one's sequence.
     members: Vec<List<Itv>>,
     /// Their numbers when nothing was found of them last: nothing is found while they have these.
@@ -40,9 +44,9 @@ impl std::marker::Model for PropSets {
 
     ghost Value = { Table };
 
-    ghost view = { λ p. record { members = p.members.items } };
+    ghost view = { λ p. record { later = p.later; members = p.members.items } };
 
-    ghost invariant = { λ p. (length p.members.items < 2 ^ 32) × AreKnown p.members.items p.known.items };
+    ghost invariant = { λ p. (length p.members.items < 2 ^ 32) × AreKnown p.later p.members.items p.known.items };
 }
 
 fn sequence_in(constraint: &Constraint) -> Option<Seq>
@@ -107,44 +111,47 @@ fn unknown(alloc: Global, n: usize) -> Result<Vec<Option<List<Numbers>>>, NoMemo
     Ok(known)
 }
 
-/// What is found of the members of a sequence.
+/// What a round finds of the members of a sequence.
 #[tactic(auto, using(crate::proofs::Making::is_of))]
 fn ask_members(
     alloc: Global,
     model: &Model,
     region: &Region,
     best: Option<i64>,
+    later: bool,
     c: u32,
     p: Seq,
 ) -> Result<Option<Finding<SeqWitness>>, NoMemory>
     requires of { IsRegionOf model.now region.now.region }
     requires within { c < length model.now.constraints }
     requires sequence { sequence_at model.now c ≡ Some p }
-    ensures none { IfOk result (λ o. IfNone o (IsStill region.now.region (members_of model.now p))) }
+    ensures none { IfOk result (λ o. IfNone o (IsStill later region.now.region (members_of model.now p))) }
     ensures some { IfOk result (λ o. IfSome o (IsFinding refutes model.now region.now.region best)) }
-    ensures busy { IfOk result (λ o. IfSome o (λ f. quiet model.now c region.now.region best → ⊥)) }
+    ensures busy { IfOk result (λ o. IfSome o (λ f. quiet later model.now c region.now.region best → ⊥)) }
 {
     let members = few_members(model, p);
     let xs = by_start(alloc, region, members, false)?;
     let ys = by_start(alloc, region, members, true)?;
     let first = Asked { c, p, members: &xs };
     let second = Asked { c, p, members: &ys };
-    if let Some(found) = ask_sides(alloc, model, region, best, &first, &second)? {
+    if let Some(found) = ask_sides(alloc, model, region, best, later, &first, &second)? {
         return Ok(Some(found));
     }
     Ok(None)
 }
 
 impl PropSets {
-    /// The propagators of a model.
-    pub fn new(alloc: Global, model: &Model) -> Result<PropSets, NoMemory>
-        ensures { IfOk result (λ p. IsFor p model.now) }
+    /// The propagators of a model for one of the rounds.
+    pub fn new(alloc: Global, model: &Model, later: bool) -> Result<PropSets, NoMemory>
+        ensures made { IfOk result (λ p. IsFor p model.now) }
+        ensures round { IfOk result (λ p. p.later ≡ later) }
     {
         let n = model.constraints().len() as u32;
         let members = members_of_each(alloc, model, n)?;
         let known = unknown(alloc, members.len())?;
         Ok(PropSets {
             alloc,
+            later,
             members,
             known,
         })
@@ -169,9 +176,10 @@ impl PropSets {
         requires below { k < size_of model.now }
         requires region { IsRegionOf model.now region.now.region }
         ensures kept { (m : Data) → IsFor self.old m → IsFor self.new m }
-        ensures none { IfOk result (λ o. IfNone o (quiet model.now k region.now.region best)) }
+        ensures same { self.new.later ≡ self.old.later }
+        ensures none { IfOk result (λ o. IfNone o (quiet self.old.later model.now k region.now.region best)) }
         ensures some { IfOk result (λ o. IfSome o (IsFinding refutes model.now region.now.region best)) }
-        ensures busy { IfOk result (λ o. IfSome o (λ f. quiet model.now k region.now.region best → ⊥)) }
+        ensures busy { IfOk result (λ o. IfSome o (λ f. quiet self.old.later model.now k region.now.region best → ⊥)) }
     {
         // The model is valid by its type.
         let _ = model.sequences();
@@ -183,7 +191,7 @@ impl PropSets {
         if is_remembered(&self.known[i], &now) {
             return Ok(None);
         }
-        let Some(found) = ask_members(self.alloc, model, region, best, k, p)? else {
+        let Some(found) = ask_members(self.alloc, model, region, best, self.later, k, p)? else {
             self.known[i] = Some(List::from_vec(now));
             return Ok(None);
         };
@@ -214,10 +222,10 @@ impl PropSets {
         false
     }
 
-    /// The level on which it is woken: with those that look at two members at a time, before those
-    /// that look at three.
+    /// The level on which it is woken: the first round with those that look at two members at a time,
+    /// the later one behind them.
     pub fn level(&self, k: u32) -> u8 {
         let _ = k;
-        0
+        if self.later { 1 } else { 0 }
     }
 }

@@ -1,5 +1,5 @@
 -- What is remembered of members of which nothing was found: the numbers that their rows are made of.
-use Rattle.std.specs.Prelude.{◌≡◌, ℕ, ◌<◌, pos, List, [], length, Option, Some, None, slice_index_or}
+use Rattle.std.specs.Prelude.{◌≡◌, ℕ, ◌<◌, pos, Bool, List, [], length, Option, Some, None, slice_index_or}
 use Rattle.sched_base.specs.declared.ids.Itv.{Itv}
 use Rattle.region.specs.declared.types.Bounds.{Bounds}
 use Rattle.region.specs.Cells.{Region, bounds_of}
@@ -21,28 +21,28 @@ pub record AreNumbers (r : Region) (ms : List Itv) (n : ℕ) (ns : List Numbers)
   pub size : length ns ≡ n
   pub each : (k : ℕ) → k < n → slice_index_or ns k no_numbers ≡ numbers_of (bounds_of r (member_at ms k))
 
--- nothing is found of members on either side, in some order of them
-pub record IsStill (r : Region) (ms : List Itv) : Type 0 where
+-- a round finds nothing of members on either side, in some order of them
+pub record IsStill (later : Bool) (r : Region) (ms : List Itv) : Type 0 where
   pub xs : List Itv
   pub ys : List Itv
   pub first_order : IsReordered ms xs
   pub second_order : IsReordered ms ys
-  pub first : IsSideQuiet 0 r xs
-  pub second : IsSideQuiet 1 r ys
+  pub first : IsSideQuiet later 0 r xs
+  pub second : IsSideQuiet later 1 r ys
 
 -- members with these numbers are still
-pub record IsKnown (ms : List Itv) (ns : List Numbers) : Type 0 where
+pub record IsKnown (later : Bool) (ms : List Itv) (ns : List Numbers) : Type 0 where
   pub region : Region
   pub numbers : AreNumbers region ms (length ms) ns
-  pub still : IsStill region ms
+  pub still : IsStill later region ms
 
-abbrev pub IfKnown : List Itv → Option (List Numbers) → Type 0
-IfKnown ms None = Unit {0}
-IfKnown ms (Some ns) = IsKnown ms ns
+abbrev pub IfKnown : Bool → List Itv → Option (List Numbers) → Type 0
+IfKnown later ms None = Unit {0}
+IfKnown later ms (Some ns) = IsKnown later ms ns
 
-pub record AreKnown (members : List (List Itv)) (known : List (Option (List Numbers))) : Type 0 where
+pub record AreKnown (later : Bool) (members : List (List Itv)) (known : List (Option (List Numbers))) : Type 0 where
   pub size : length known ≡ length members
-  pub each : (k : ℕ) → k < length members → IfKnown (slice_index_or members k []) (slice_index_or known k None)
+  pub each : (k : ℕ) → k < length members → IfKnown later (slice_index_or members k []) (slice_index_or known k None)
 
 pub record AreUnknown (n : ℕ) (known : List (Option (List Numbers))) : Type 0 where
   pub size : length known ≡ n

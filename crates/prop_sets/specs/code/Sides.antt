@@ -1,5 +1,5 @@
 -- What it is that no set of members is found on a side.
-use Rattle.std.specs.Prelude.{ℕ, List, None}
+use Rattle.std.specs.Prelude.{ℕ, zero, suc, Bool, true, false, List, None}
 use Rattle.sched_base.specs.declared.ids.Itv.{Itv}
 use Rattle.region.specs.Cells.{Region}
 use Rattle.theta_passes.specs.declared.rows.Row.{Row}
@@ -8,14 +8,20 @@ use Rattle.theta_passes.specs.code.Late.{LatePass}
 use Rattle.theta_passes.specs.code.Over.{NoOverloads}
 use Rattle.prop_sets.specs.code.Rows.{asks_early, asks_late, plain_row, asked_row, AreRows}
 
--- no set overloads, also with one member more, and no cut finds one for EDGE
+-- no set overloads, also with one member more
+pub record NoFull (side : ℕ) (r : Region) (xs : List Itv) : Type 0 where
+  pub rows : List Row
+  pub are : AreRows (asked_row side (asks_early side)) r xs rows
+  pub overloads : NoOverloads rows
+
+-- and no cut finds one for EDGE
 pub record NoEdge (side : ℕ) (r : Region) (xs : List Itv) : Type 0 where
   pub rows : List Row
   pub are : AreRows (asked_row side (asks_early side)) r xs rows
   pub overloads : NoOverloads rows
   pub pass : PassOrNone rows None
 
--- and none is late for DETECT, or for NOTEND
+-- none is late for DETECT, or for NOTEND
 pub record NoDetect (side : ℕ) (r : Region) (xs : List Itv) : Type 0 where
   pub rows : List Row
   pub are : AreRows (plain_row side (asks_early side)) r xs rows
@@ -26,7 +32,8 @@ pub record NoNotEnd (side : ℕ) (r : Region) (xs : List Itv) : Type 0 where
   pub are : AreRows (plain_row side (asks_late side)) r xs rows
   pub pass : LatePass rows None
 
-pub record IsSideQuiet (side : ℕ) (r : Region) (xs : List Itv) : Type 0 where
-  pub edge : NoEdge side r xs
-  pub detect : NoDetect side r xs
-  pub not_end : NoNotEnd side r xs
+-- what a round asks for: the first one OVERLOAD, on one side, and DETECT, the later one EDGE and NOTEND
+abbrev pub IsSideQuiet : Bool → ℕ → Region → List Itv → Type 0
+IsSideQuiet false zero r xs = NoFull 0 r xs × NoDetect 0 r xs
+IsSideQuiet false (suc n) r xs = NoDetect (suc n) r xs
+IsSideQuiet true side r xs = NoEdge side r xs × NoNotEnd side r xs

@@ -1,5 +1,6 @@
 -- Which witnesses each propagator looks after, what they read, and when it is quiet.
-use Rattle.std.specs.Prelude.{◌≡◌, ℕ, ℤ, Bool, true, false, ◌&&◌, List, [], length, Option, Some, None, IsTrue, slice_get, nat_eq}
+-- Each constraint has two: a Bool tells whether it is the later one, which asks for what costs more.
+use Rattle.std.specs.Prelude.{◌≡◌, ℕ, ℤ, Bool, true, false, not, ◌&&◌, List, [], length, Option, Some, None, IsTrue, slice_get, nat_eq}
 use Rattle.sched_base.specs.declared.ids.Itv.{Itv}
 use Rattle.sched_base.specs.declared.ids.Seq.{Seq}
 use Rattle.sched_model.specs.declared.types.Constraint.{Constraint}
@@ -19,28 +20,31 @@ use Rattle.refute_seq.specs.declared.witness.SeqWitness.TheVariants.{Pair, Tripl
 use Rattle.refute_seq.specs.OnSequence.{refutes}
 use Rattle.refute_seq.specs.Listed.{lists}
 
--- one for each constraint
+-- one of each round for each constraint
 abbrev pub size_of : Data → ℕ
 size_of m = length m.constraints
 
--- the kinds of witnesses that this crate derives by
-abbrev pub is_own : SeqWitness → Bool
-is_own (Pair c a b k) = false
-is_own (Triple p x y z) = false
-is_own w = true
+-- the kinds of witnesses that a round derives by: both by OVERLOAD, since EDGE is asked only where there is none
+abbrev pub is_own : Bool → SeqWitness → Bool
+is_own later (Pair c a b k) = false
+is_own later (Triple p x y z) = false
+is_own later (Overload c s) = true
+is_own later (Edge c side i s u v) = later
+is_own later (NotEnd c side i s) = later
+is_own later (Detect c side i s) = not later
 
--- the constraint whose members a set is of
-abbrev pub is_of : ℕ → SeqWitness → Bool
-is_of k (Pair c a b n) = false
-is_of k (Triple p x y z) = false
-is_of k (Overload c s) = nat_eq k c
-is_of k (Edge c side i s u v) = nat_eq k c
-is_of k (NotEnd c side i s) = nat_eq k c
-is_of k (Detect c side i s) = nat_eq k c
+-- the constraint whose members a set is of, where the round derives by it
+abbrev pub is_of : Bool → ℕ → SeqWitness → Bool
+is_of later k (Pair c a b n) = false
+is_of later k (Triple p x y z) = false
+is_of later k (Overload c s) = nat_eq k c
+is_of later k (Edge c side i s u v) = later && nat_eq k c
+is_of later k (NotEnd c side i s) = later && nat_eq k c
+is_of later k (Detect c side i s) = not later && nat_eq k c
 
 -- each set of members of its constraint
-abbrev pub looks_after : Data → ℕ → SeqWitness → Bool
-looks_after m k w = is_of k w
+abbrev pub looks_after : Bool → Data → ℕ → SeqWitness → Bool
+looks_after later m k w = is_of later k w
 
 -- the sequence of a constraint without overlap
 abbrev pub sequence_in : Option Constraint → Option Seq
@@ -64,8 +68,8 @@ watching m k cell = reads_cell (reads_all (members_at m k)) cell
 abbrev pub watching_best : Data → ℕ → Bool
 watching_best m k = false
 
-abbrev pub quiet : Data → ℕ → Region → Option ℤ → Type 0
-quiet m k r best = IsQuiet refutes lists (λ n w. looks_after n k w) m r best
+abbrev pub quiet : Bool → Data → ℕ → Region → Option ℤ → Type 0
+quiet later m k r best = IsQuiet refutes lists (λ n w. looks_after later n k w) m r best
 
 -- the same of one witness: it refutes neither the region nor under an open end guess that its row lists
 abbrev pub IsSilent : Data → Region → Option ℤ → SeqWitness → Type 0

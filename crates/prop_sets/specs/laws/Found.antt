@@ -184,8 +184,8 @@ on_itself early r i (Some g) told opened = true_both (is_among (i ∷ []) [] (to
     one g h e f = subst (λ k. is_among (i ∷ []) [] (topic k) ≡ true) (sym (same_Some g h e ∙ f)) mine
 
     by_end : (early : Bool) (g : Guess) → Some g ≡ Some (end_guess early r i) → is_among (i ∷ []) [] (topic g) ≡ true
-    by_end true g e = subst (λ k. is_among (i ∷ []) [] (topic k) ≡ true) (sym (some_is g _ e)) (or_left _ _ (same_self i))
-    by_end false g e = subst (λ k. is_among (i ∷ []) [] (topic k) ≡ true) (sym (some_is g _ e)) (or_left _ _ (same_self i))
+    by_end true g e = subst (λ k. is_among (i ∷ []) [] (topic k) ≡ true) (sym (same_Some g _ e)) (or_left _ _ (same_self i))
+    by_end false g e = subst (λ k. is_among (i ∷ []) [] (topic k) ≡ true) (sym (same_Some g _ e)) (or_left _ _ (same_self i))
 
 -- the numbers of a look are sized
 sized_look : (m : Data) (q : Region) (side : ℕ) → IsValid m → IsRegionOf m q → IsSized (turned side (times_of q))
@@ -226,15 +226,12 @@ end_listed (suc (suc n)) r i h = absurd (two_sides n h)
     two_sides : (n : ℕ) → nat_lt (suc (suc n)) 2 ≡ true → ⊥
     two_sides n h = grind (arith, nat_tests)
 
-some_is : {X : Type 0} (g h : X) → Some g ≡ Some h → g ≡ h
-some_is g h e = cc
-
 asked_told : (early : Bool) (r : Region) (i : Itv) (lists : Guess → Bool) (guess : Option Guess) → lists (Present i) ≡ true → lists (end_guess early r i) ≡ true → IsTold early r i guess → passes_if_any (is_open_end r) guess ≡ true → is_asked lists r guess ≡ true
 asked_told early r i lists None present end told opened = refl
 asked_told early r i lists (Some g) present end told opened = true_both (lists g) (is_open_end r g) (elim told [
   | inl none ↦ cc
-  | inr (inl is) ↦ subst (λ k. lists k ≡ true) (sym (some_is g (Present i) is)) present
-  | inr (inr is) ↦ subst (λ k. lists k ≡ true) (sym (some_is g (end_guess early r i) is)) end
+  | inr (inl is) ↦ subst (λ k. lists k ≡ true) (sym (same_Some g (Present i) is)) present
+  | inr (inr is) ↦ subst (λ k. lists k ≡ true) (sym (same_Some g (end_guess early r i) is)) end
 ]) opened
 
 -- the row of a constraint, from that of its sequence
@@ -402,7 +399,7 @@ asked_member : (r : Region) (i : Itv) (s : List ℕ) (guess : Option Guess) → 
 asked_member r i s None here told opened = refl
 asked_member r i s (Some g) here told opened = true_both (asks_member s (topic g)) (is_open_end r g) (elim told [
   | inl none ↦ cc
-  | inr is ↦ subst (λ h. asks_member s (topic h) ≡ true) (sym (some_is g (Present i) is)) (any_weaker (λ n. nat_eq n i.0) (λ n. nat_eq i.0 n) (λ n e. turned_number n i.0 e) s here)
+  | inr is ↦ subst (λ h. asks_member s (topic h) ≡ true) (sym (same_Some g (Present i) is)) (any_weaker (λ n. nat_eq n i.0) (λ n. nat_eq i.0 n) (λ n e. turned_number n i.0 e) s here)
 ]) opened
 
 present_told : (early : Bool) (r : Region) (i : Itv) (guess : Option Guess) → (guess ≡ None) ⊎ (guess ≡ Some (Present i)) → IsTold early r i guess

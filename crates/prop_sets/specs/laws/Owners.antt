@@ -1,5 +1,5 @@
--- Each witness of these kinds has one propagator that looks after it, or it refutes nothing.
-use Rattle.std.specs.Prelude.{◌≡◌, ℕ, ◌<◌, ◌≤◌, Bool, true, false, length, nat_eq, nat_lt}
+-- Each witness of a kind of a round has one propagator of the round that looks after it, or it refutes nothing.
+use Rattle.std.specs.Prelude.{◌≡◌, ℕ, ◌<◌, ◌≤◌, Bool, true, false, not, ◌&&◌, length, nat_eq, nat_lt}
 use Rattle.std.proofs.Common.{refl, sym, ap, ◌∙◌, arith}
 use Rattle.std.proofs.lemmas.Bool.{true≢false}
 use Rattle.std.proofs.lemmas.Bool.Decides.{nat_tests}
@@ -25,17 +25,22 @@ itself : (n : ℕ) → nat_eq n n ≡ true
 itself n = grind (arith, nat_tests)
 
 -- a constraint is looked after by the propagator of its number, or isn't there
-owned_or_past : (m : Data) (c : ℕ) (w : SeqWitness) (l : Seen) → is_of c w ≡ true → (length m.constraints ≤ c → row_of m l w ≡ false) → ((k : ℕ) → k < size_of m → looks_after m k w ≡ false) → refutes m l w ≡ false
-owned_or_past m c w l mine beyond none = by_case (nat_lt c (length m.constraints)) refl
+owned_or_past : (later : Bool) (m : Data) (c : ℕ) (w : SeqWitness) (l : Seen) → is_of later c w ≡ true → (length m.constraints ≤ c → row_of m l w ≡ false) → ((k : ℕ) → k < size_of m → looks_after later m k w ≡ false) → refutes m l w ≡ false
+owned_or_past later m c w l mine beyond none = by_case (nat_lt c (length m.constraints)) refl
   where
     by_case : (t : Bool) → nat_lt c (length m.constraints) ≡ t → refutes m l w ≡ false
     by_case true is = absurd (true≢false (sym mine ∙ none c (below c (length m.constraints) is)))
     by_case false is = never_both (is_valid w) (row_of m l w) (beyond (past c (length m.constraints) is))
 
-pub unowned : (m : Data) (l : Seen) (w : SeqWitness) → is_own w ≡ true → ((k : ℕ) → k < size_of m → looks_after m k w ≡ false) → refutes m l w ≡ false
-unowned m l (Pair c a b k) own none = cc
-unowned m l (Triple p x y z) own none = cc
-unowned m l (Overload c s) own none = owned_or_past m c (Overload c s) l (itself c) (λ past. ap (passes (overload_of m l.region s)) (slice_get_past m.constraints c past)) none
-unowned m l (Edge c side i s u v) own none = owned_or_past m c (Edge c side i s u v) l (itself c) (λ past. ap (passes (edge_of m l.region side i s u v)) (slice_get_past m.constraints c past)) none
-unowned m l (NotEnd c side i s) own none = owned_or_past m c (NotEnd c side i s) l (itself c) (λ past. ap (passes (not_end_of m l.region side i s)) (slice_get_past m.constraints c past)) none
-unowned m l (Detect c side i s) own none = owned_or_past m c (Detect c side i s) l (itself c) (λ past. ap (passes (detect_of m l.region side i s)) (slice_get_past m.constraints c past)) none
+-- of its own kind and number
+in_round : (b : Bool) (n : ℕ) → b ≡ true → (b && nat_eq n n) ≡ true
+in_round true n is = itself n
+in_round false n is = cc
+
+pub unowned : (later : Bool) (m : Data) (l : Seen) (w : SeqWitness) → is_own later w ≡ true → ((k : ℕ) → k < size_of m → looks_after later m k w ≡ false) → refutes m l w ≡ false
+unowned later m l (Pair c a b k) own none = cc
+unowned later m l (Triple p x y z) own none = cc
+unowned later m l (Overload c s) own none = owned_or_past later m c (Overload c s) l (itself c) (λ past. ap (passes (overload_of m l.region s)) (slice_get_past m.constraints c past)) none
+unowned later m l (Edge c side i s u v) own none = owned_or_past later m c (Edge c side i s u v) l (in_round later c own) (λ past. ap (passes (edge_of m l.region side i s u v)) (slice_get_past m.constraints c past)) none
+unowned later m l (NotEnd c side i s) own none = owned_or_past later m c (NotEnd c side i s) l (in_round later c own) (λ past. ap (passes (not_end_of m l.region side i s)) (slice_get_past m.constraints c past)) none
+unowned later m l (Detect c side i s) own none = owned_or_past later m c (Detect c side i s) l (in_round (not later) c own) (λ past. ap (passes (detect_of m l.region side i s)) (slice_get_past m.constraints c past)) none

@@ -1,7 +1,7 @@
--- Where the passes find nothing on either side, the propagator of the constraint is quiet.
+-- Where the passes of a round find nothing on either side, the propagator of the constraint is quiet.
 use Rattle.std.proofs.lemmas.Bool.{and_parts as both}
 use Rattle.base_laws.specs.laws.Truth.{three_true as three}
-use Rattle.std.specs.Prelude.{◌≡◌, ℕ, zero, suc, ℤ, Bool, true, false, ◌&&◌, nat_eq, nat_lt, List, [], ◌∷◌, Option, Some, None, slice_get}
+use Rattle.std.specs.Prelude.{◌≡◌, ℕ, zero, suc, ℤ, Bool, true, false, not, ◌&&◌, nat_eq, nat_lt, List, [], ◌∷◌, Option, Some, None, slice_get}
 use Rattle.std.specs.List.{list_any}
 use Rattle.std.proofs.Common.{refl, sym, subst, ◌∙◌, inl, arith}
 use Rattle.std.proofs.lemmas.Bool.{true≢false}
@@ -35,7 +35,7 @@ use Rattle.refute_seq.specs.Listed.{lists, asks_member}
 use Rattle.refute_seq.specs.OnSequence.{refutes}
 use Rattle.prop_sets.specs.code.Tasks.{quiet, IsSilent, looks_after, sequence_at}
 use Rattle.prop_sets.specs.code.Rows.{asks_early, asks_late, chosen_row, AreRows}
-use Rattle.prop_sets.specs.code.Sides.{NoEdge, NoDetect, NoNotEnd, IsSideQuiet}
+use Rattle.prop_sets.specs.code.Sides.{NoFull, NoEdge, NoDetect, NoNotEnd, IsSideQuiet}
 use Rattle.prop_sets.specs.laws.Under.{IsSeen, narrow, seen_plain, seen_topic, seen_asked, starts_told, ends_told}
 use Rattle.prop_sets.specs.code.Reordered.{IsReordered}
 use Rattle.theta_passes.specs.declared.rows.Row.{Row}
@@ -71,8 +71,8 @@ sides P (suc (suc n)) h a b = absurd (more n h)
 task_of : (m : Data) (q : Region) (p : Seq) (x : ℕ) → is_task m q p x ≡ true → (has (members_of m p) (record { 0 = x }) ≡ true) × (is_there q (record { 0 = x }) ≡ true)
 task_of m q p x h = both_true (has (members_of m p) (record { 0 = x })) (is_there q (record { 0 = x })) h
 
--- where both sides are quiet
-record IsCalm (m : Data) (c : ℕ) (p : Seq) (r : Region) : Type 0 where
+-- where both sides are quiet in a round
+record IsCalm (later : Bool) (m : Data) (c : ℕ) (p : Seq) (r : Region) : Type 0 where
   valid : IsValid m
   of : IsRegionOf m r
   sequence : sequence_at m c ≡ Some p
@@ -80,8 +80,8 @@ record IsCalm (m : Data) (c : ℕ) (p : Seq) (r : Region) : Type 0 where
   ys : List Itv
   first_members : IsReordered (members_of m p) xs
   second_members : IsReordered (members_of m p) ys
-  first : IsSideQuiet 0 r xs
-  second : IsSideQuiet 1 r ys
+  first : IsSideQuiet later 0 r xs
+  second : IsSideQuiet later 1 r ys
 
 -- what is quiet on a side is so of the members in some order
 record IsTold (m : Data) (p : Seq) (told : List Itv → Type 0) : Type 0 where
@@ -89,57 +89,62 @@ record IsTold (m : Data) (p : Seq) (told : List Itv → Type 0) : Type 0 where
   members : IsReordered (members_of m p) zs
   quiet : told zs
 
-on_side : (m : Data) (c : ℕ) (p : Seq) (r : Region) (told : ℕ → List Itv → Type 0) (calm : IsCalm m c p r) (side : ℕ) → nat_lt side 2 ≡ true → told 0 calm.xs → told 1 calm.ys → IsTold m p (told side)
-on_side m c p r told calm side two first second =
+on_side : (later : Bool) (m : Data) (c : ℕ) (p : Seq) (r : Region) (told : ℕ → List Itv → Type 0) (calm : IsCalm later m c p r) (side : ℕ) → nat_lt side 2 ≡ true → told 0 calm.xs → told 1 calm.ys → IsTold m p (told side)
+on_side later m c p r told calm side two first second =
     sides (λ n. IsTold m p (told n)) side two (record { zs = calm.xs; members = calm.first_members; quiet = first }) (record { zs = calm.ys; members = calm.second_members; quiet = second })
 
 in_those : (m : Data) (p : Seq) (zs : List Itv) → IsReordered (members_of m p) zs → (i : Itv) → has (members_of m p) i ≡ true → has zs i ≡ true
 in_those m p zs members i here = has_same (members_of m p) zs members i ∙ here
 
-noted : (m : Data) (c : ℕ) (p : Seq) (r : Region) (side : ℕ) (chosen early : Bool) (zs : List Itv) (rows : List Row) → IsCalm m c p r → IsReordered (members_of m p) zs → AreRows (chosen_row chosen side early) r zs rows → IsNoted side chosen early r zs rows
-noted m c p r side chosen early zs rows calm members are = record { are = are; narrow = λ x. narrow m r x calm.valid calm.of; apart = those_apart m p zs calm.valid members }
+noted : (later : Bool) (m : Data) (c : ℕ) (p : Seq) (r : Region) (side : ℕ) (chosen early : Bool) (zs : List Itv) (rows : List Row) → IsCalm later m c p r → IsReordered (members_of m p) zs → AreRows (chosen_row chosen side early) r zs rows → IsNoted side chosen early r zs rows
+noted later m c p r side chosen early zs rows calm members are = record { are = are; narrow = λ x. narrow m r x calm.valid calm.of; apart = those_apart m p zs calm.valid members }
 
-overload_member : (m : Data) (c : ℕ) (p : Seq) (r q : Region) (s : List ℕ) (i : Itv) → IsCalm m c p r → has (members_of m p) i ≡ true → IsSeen r q i true → overload_row (times_of q) (is_task m q p) s ≡ true → ⊥
-overload_member m c p r q s i calm here h is =
-    let told = calm.first.edge in
+-- OVERLOAD is asked for in both rounds
+full : (later : Bool) (r : Region) (xs : List Itv) → IsSideQuiet later 0 r xs → NoFull 0 r xs
+full false r xs h = h.0
+full true r xs h = let told = h.0 in record { rows = told.rows; are = told.are; overloads = told.overloads }
+
+overload_member : (later : Bool) (m : Data) (c : ℕ) (p : Seq) (r q : Region) (s : List ℕ) (i : Itv) → IsCalm later m c p r → has (members_of m p) i ≡ true → IsSeen r q i true → overload_row (times_of q) (is_task m q p) s ≡ true → ⊥
+overload_member later m c p r q s i calm here h is =
+    let told = full later r calm.xs calm.first in
     let xs = calm.xs in
-    overload_none 0 true true r q i xs told.rows s (noted m c p r 0 true true xs told.rows calm calm.first_members (record { size = told.are.size; each = told.are.each })) told.overloads (in_those m p xs calm.first_members i here) h
+    overload_none 0 true true r q i xs told.rows s (noted later m c p r 0 true true xs told.rows calm calm.first_members (record { size = told.are.size; each = told.are.each })) told.overloads (in_those m p xs calm.first_members i here) h
     (overload_those m p q xs (turned 0 (times_of q)) s calm.first_members ∙ overload_row_turned 0 (times_of q) (is_task m q p) s ∙ is)
 
 listed_member : (s : List ℕ) (z : Itv) → list_any (λ n. nat_eq z.0 n) s ≡ true → holds s z.0 ≡ true
 listed_member s z h = any_weaker (λ n. nat_eq z.0 n) (λ n. nat_eq n z.0) (λ n e. turned_number z.0 n e) s h
 
 -- OVERLOAD: a guess that a member of the set is present
-overload_under : (m : Data) (c : ℕ) (p : Seq) (r : Region) (x : ℕ) (xs : List ℕ) (t : Topic) → IsCalm m c p r → asks_member (x ∷ xs) t ≡ true → admits_topic r t ≡ true → overload_row (times_of (assumed t r)) (is_task m (assumed t r) p) (x ∷ xs) ≡ true → ⊥
-overload_under m c p r x xs (One z Present) calm listed free is =
+overload_under : (later : Bool) (m : Data) (c : ℕ) (p : Seq) (r : Region) (x : ℕ) (xs : List ℕ) (t : Topic) → IsCalm later m c p r → asks_member (x ∷ xs) t ≡ true → admits_topic r t ≡ true → overload_row (times_of (assumed t r)) (is_task m (assumed t r) p) (x ∷ xs) ≡ true → ⊥
+overload_under later m c p r x xs (One z Present) calm listed free is =
     let q = assumed (One z Present) r in
     let set = task_set_of (is_task m q p) x xs (both (is_task_set (is_task m q p) (x ∷ xs)) _ is).0 in
     let two = task_of m q p z.0 (set.inside z.0 (listed_member (x ∷ xs) z listed)) in
-    overload_member m c p r q (x ∷ xs) z calm two.0 (seen_topic true r z (One z Present) free (inl refl)) is
-overload_under m c p r x xs (One z Absent) calm listed free is = cc
-overload_under m c p r x xs (One z (StartLe t)) calm listed free is = cc
-overload_under m c p r x xs (One z (StartGe t)) calm listed free is = cc
-overload_under m c p r x xs (One z (EndLe t)) calm listed free is = cc
-overload_under m c p r x xs (One z (EndGe t)) calm listed free is = cc
-overload_under m c p r x xs (Two u v w) calm listed free is = cc
+    overload_member later m c p r q (x ∷ xs) z calm two.0 (seen_topic true r z (One z Present) free (inl refl)) is
+overload_under later m c p r x xs (One z Absent) calm listed free is = cc
+overload_under later m c p r x xs (One z (StartLe t)) calm listed free is = cc
+overload_under later m c p r x xs (One z (StartGe t)) calm listed free is = cc
+overload_under later m c p r x xs (One z (EndLe t)) calm listed free is = cc
+overload_under later m c p r x xs (One z (EndGe t)) calm listed free is = cc
+overload_under later m c p r x xs (Two u v w) calm listed free is = cc
 
-overload_asked : (m : Data) (c : ℕ) (p : Seq) (r : Region) (s : List ℕ) (guess : Option Guess) → IsCalm m c p r → is_asked (lists m (Overload c s)) r guess ≡ true → overload_row (times_of (looked_at guess r)) (is_task m (looked_at guess r) p) s ≡ true → ⊥
-overload_asked m c p r [] guess calm asked is = no_task_set (is_task m (looked_at guess r) p) (both (is_task_set (is_task m (looked_at guess r) p) []) (is_overload []) is).0
-overload_asked m c p r (x ∷ xs) None calm asked is =
+overload_asked : (later : Bool) (m : Data) (c : ℕ) (p : Seq) (r : Region) (s : List ℕ) (guess : Option Guess) → IsCalm later m c p r → is_asked (lists m (Overload c s)) r guess ≡ true → overload_row (times_of (looked_at guess r)) (is_task m (looked_at guess r) p) s ≡ true → ⊥
+overload_asked later m c p r [] guess calm asked is = no_task_set (is_task m (looked_at guess r) p) (both (is_task_set (is_task m (looked_at guess r) p) []) (is_overload []) is).0
+overload_asked later m c p r (x ∷ xs) None calm asked is =
     let set = task_set_of (is_task m r p) x xs (both (is_task_set (is_task m r p) (x ∷ xs)) _ is).0 in
     let two = task_of m r p x (set.inside x (has_first x xs)) in
-    overload_member m c p r r (x ∷ xs) (record { 0 = x }) calm two.0 (seen_plain true r (record { 0 = x }) two.1) is
-overload_asked m c p r (x ∷ xs) (Some g) calm asked is =
+    overload_member later m c p r r (x ∷ xs) (record { 0 = x }) calm two.0 (seen_plain true r (record { 0 = x }) two.1) is
+overload_asked later m c p r (x ∷ xs) (Some g) calm asked is =
     let two = both_true (lists m (Overload c (x ∷ xs)) g) (is_open_end r g) asked in
-    overload_under m c p r x xs (topic g) calm two.0 (both_true (admits r g) (is_end r (topic g)) two.1).0 is
+    overload_under later m c p r x xs (topic g) calm two.0 (both_true (admits r g) (is_end r (topic g)) two.1).0 is
 
-overload_silent : (m : Data) (c : ℕ) (p : Seq) (r : Region) (best : Option ℤ) (s : List ℕ) → IsCalm m c p r → IsSilent m r best (Overload c s)
-overload_silent m c p r best s calm guess asked = unless (refutes m (seen_at r best guess) (Overload c s)) (λ h.
+overload_silent : (later : Bool) (m : Data) (c : ℕ) (p : Seq) (r : Region) (best : Option ℤ) (s : List ℕ) → IsCalm later m c p r → IsSilent m r best (Overload c s)
+overload_silent later m c p r best s calm guess asked = unless (refutes m (seen_at r best guess) (Overload c s)) (λ h.
     let q = looked_at guess r in
     let row = row_true (Overload c s) (passes (overload_of m q s) (slice_get m.constraints c)) h in
-    overload_asked m c p r s guess calm asked (in_sequence (overload_in m q s) (sequence_at m c) p calm.sequence (sym (overload_by m q s (slice_get m.constraints c)) ∙ row)))
+    overload_asked later m c p r s guess calm asked (in_sequence (overload_in m q s) (sequence_at m c) p calm.sequence (sym (overload_by m q s (slice_get m.constraints c)) ∙ row)))
 
-edge_silent : (m : Data) (c : ℕ) (p : Seq) (r : Region) (best : Option ℤ) (side i : ℕ) (s u v : List ℕ) → IsCalm m c p r → IsSilent m r best (Edge c side i s u v)
+edge_silent : (m : Data) (c : ℕ) (p : Seq) (r : Region) (best : Option ℤ) (side i : ℕ) (s u v : List ℕ) → IsCalm true m c p r → IsSilent m r best (Edge c side i s u v)
 edge_silent m c p r best side i s u v calm guess asked = unless (refutes m (seen_at r best guess) (Edge c side i s u v)) (λ h.
     let q = looked_at guess r in
     let t = is_task m q p in
@@ -148,12 +153,12 @@ edge_silent m c p r best side i s u v calm guess asked = unless (refutes m (seen
     let a = both (is_outside t i s && is_task_set t s && is_set (holds s) u && is_task_set (holds s) v) _ two.1 in
     let b = both (is_outside t i s && is_task_set t s && is_set (holds s) u) (is_task_set (holds s) v) a.0 in
     let one = task_of m q p i (both (t i) _ (three (is_outside t i s) (is_task_set t s) (is_set (holds s) u) b.0).0).0 in
-    let on = on_side m c p r (λ n. NoEdge n r) calm side two.0 calm.first.edge calm.second.edge in
+    let on = on_side true m c p r (λ n. NoEdge n r) calm side two.0 calm.first.0 calm.second.0 in
     let told = on.quiet in
-    edge_none side r q (record { 0 = i }) on.zs told.rows s u v (noted m c p r side true (asks_early side) on.zs told.rows calm on.members (record { size = told.are.size; each = told.are.each })) told.overloads told.pass (in_those m p on.zs on.members (record { 0 = i }) one.0)
+    edge_none side r q (record { 0 = i }) on.zs told.rows s u v (noted true m c p r side true (asks_early side) on.zs told.rows calm on.members (record { size = told.are.size; each = told.are.each })) told.overloads told.pass (in_those m p on.zs on.members (record { 0 = i }) one.0)
     (seen_asked (asks_early side) r (record { 0 = i }) (lists m (Edge c side i s u v)) guess (λ g listed end. starts_told side r (record { 0 = i }) (topic g) listed end) asked one.1) (edge_those m p q on.zs (turned side (times_of q)) i s u v on.members ∙ two.1))
 
-detect_silent : (m : Data) (c : ℕ) (p : Seq) (r : Region) (best : Option ℤ) (side i : ℕ) (s : List ℕ) → IsCalm m c p r → IsSilent m r best (Detect c side i s)
+detect_silent : (m : Data) (c : ℕ) (p : Seq) (r : Region) (best : Option ℤ) (side i : ℕ) (s : List ℕ) → IsCalm false m c p r → IsSilent m r best (Detect c side i s)
 detect_silent m c p r best side i s calm guess asked = unless (refutes m (seen_at r best guess) (Detect c side i s)) (λ h.
     let q = looked_at guess r in
     let t = is_task m q p in
@@ -161,12 +166,12 @@ detect_silent m c p r best side i s calm guess asked = unless (refutes m (seen_a
     let two = both_true (nat_lt side 2) _ (in_sequence (detect_in m q side i s) (sequence_at m c) p calm.sequence (sym (detect_by m q side i s (slice_get m.constraints c)) ∙ row)) in
     let a = three (is_outside t i s) (is_task_set t s) _ two.1 in
     let one = task_of m q p i (both (t i) _ a.0).0 in
-    let on = on_side m c p r (λ n. NoDetect n r) calm side two.0 calm.first.detect calm.second.detect in
+    let on = on_side false m c p r (λ n. NoDetect n r) calm side two.0 calm.first.1 calm.second in
     let told = on.quiet in
-    late_none side (asks_early side) r q (record { 0 = i }) on.zs told.rows s (noted m c p r side false (asks_early side) on.zs told.rows calm on.members (record { size = told.are.size; each = told.are.each })) told.pass (in_those m p on.zs on.members (record { 0 = i }) one.0)
+    late_none side (asks_early side) r q (record { 0 = i }) on.zs told.rows s (noted false m c p r side false (asks_early side) on.zs told.rows calm on.members (record { size = told.are.size; each = told.are.each })) told.pass (in_those m p on.zs on.members (record { 0 = i }) one.0)
     (seen_asked (asks_early side) r (record { 0 = i }) (lists m (Detect c side i s)) guess (λ g listed end. starts_told side r (record { 0 = i }) (topic g) listed end) asked one.1) (detect_those m p q on.zs (turned side (times_of q)) i s on.members ∙ two.1))
 
-not_end_silent : (m : Data) (c : ℕ) (p : Seq) (r : Region) (best : Option ℤ) (side i : ℕ) (s : List ℕ) → IsCalm m c p r → IsSilent m r best (NotEnd c side i s)
+not_end_silent : (m : Data) (c : ℕ) (p : Seq) (r : Region) (best : Option ℤ) (side i : ℕ) (s : List ℕ) → IsCalm true m c p r → IsSilent m r best (NotEnd c side i s)
 not_end_silent m c p r best side i s calm guess asked = unless (refutes m (seen_at r best guess) (NotEnd c side i s)) (λ h.
     let q = looked_at guess r in
     let t = is_task m q p in
@@ -174,45 +179,55 @@ not_end_silent m c p r best side i s calm guess asked = unless (refutes m (seen_
     let two = both_true (nat_lt side 2) _ (in_sequence (not_end_in m q side i s) (sequence_at m c) p calm.sequence (sym (not_end_by m q side i s (slice_get m.constraints c)) ∙ row)) in
     let a = three (is_outside t i s) (is_task_set t s) _ two.1 in
     let one = task_of m q p i (both (t i) _ a.0).0 in
-    let on = on_side m c p r (λ n. NoNotEnd n r) calm side two.0 calm.first.not_end calm.second.not_end in
+    let on = on_side true m c p r (λ n. NoNotEnd n r) calm side two.0 calm.first.1 calm.second.1 in
     let told = on.quiet in
-    late_none side (asks_late side) r q (record { 0 = i }) on.zs told.rows s (noted m c p r side false (asks_late side) on.zs told.rows calm on.members (record { size = told.are.size; each = told.are.each })) told.pass (in_those m p on.zs on.members (record { 0 = i }) one.0)
+    late_none side (asks_late side) r q (record { 0 = i }) on.zs told.rows s (noted true m c p r side false (asks_late side) on.zs told.rows calm on.members (record { size = told.are.size; each = told.are.each })) told.pass (in_those m p on.zs on.members (record { 0 = i }) one.0)
     (seen_asked (asks_late side) r (record { 0 = i }) (lists m (NotEnd c side i s)) guess (λ g listed end. ends_told side r (record { 0 = i }) (topic g) listed end) asked one.1)
     (detect_those m p q on.zs (turned side (times_of q)) i s on.members ∙ not_end_detects (turned side (times_of q)) t i s two.1))
 
--- each witness of a constraint by its number
+-- each witness of a constraint by its number, and a round by its kinds
 at_number : (P : ℕ → Type 0) (c d : ℕ) → nat_eq c d ≡ true → P c → P d
 at_number P c d same h = subst P (same_number c d same) h
 
-pub sets_quiet : (m : Data) (c : ℕ) (p : Seq) (r : Region) (best : Option ℤ) → IsValid m → IsRegionOf m r → sequence_at m c ≡ Some p → (xs ys : List Itv) → IsReordered (members_of m p) xs → IsReordered (members_of m p) ys → IsSideQuiet 0 r xs → IsSideQuiet 1 r ys → quiet m c r best
-sets_quiet m c p r best valid of sequence xs ys one_order other_order first second = record { unrefuted = λ w guess mine asked. silent w mine guess asked }
+not_later : (later : Bool) → not later ≡ true → later ≡ false
+not_later false h = refl
+not_later true h = cc
+
+pub sets_quiet : (later : Bool) (m : Data) (c : ℕ) (p : Seq) (r : Region) (best : Option ℤ) → IsValid m → IsRegionOf m r → sequence_at m c ≡ Some p → (xs ys : List Itv) → IsReordered (members_of m p) xs → IsReordered (members_of m p) ys → IsSideQuiet later 0 r xs → IsSideQuiet later 1 r ys → quiet later m c r best
+sets_quiet later m c p r best valid of sequence xs ys one_order other_order first second = record { unrefuted = λ w guess mine asked. silent w mine guess asked }
   where
-    calm : IsCalm m c p r
+    calm : IsCalm later m c p r
     calm = record { valid = valid; of = of; sequence = sequence; xs = xs; ys = ys; first_members = one_order; second_members = other_order; first = first; second = second }
 
-    silent : (w : SeqWitness) → looks_after m c w ≡ true → IsSilent m r best w
+    silent : (w : SeqWitness) → looks_after later m c w ≡ true → IsSilent m r best w
     silent (Pair d a b k) mine = cc
     silent (Triple q x y z) mine = cc
-    silent (Overload d s) mine = at_number (λ n. IsSilent m r best (Overload n s)) c d mine (overload_silent m c p r best s calm)
-    silent (Edge d side i s u v) mine = at_number (λ n. IsSilent m r best (Edge n side i s u v)) c d mine (edge_silent m c p r best side i s u v calm)
-    silent (NotEnd d side i s) mine = at_number (λ n. IsSilent m r best (NotEnd n side i s)) c d mine (not_end_silent m c p r best side i s calm)
-    silent (Detect d side i s) mine = at_number (λ n. IsSilent m r best (Detect n side i s)) c d mine (detect_silent m c p r best side i s calm)
+    silent (Overload d s) mine = at_number (λ n. IsSilent m r best (Overload n s)) c d mine (overload_silent later m c p r best s calm)
+    silent (Edge d side i s u v) mine =
+        let two = both_true later (nat_eq c d) mine in
+        at_number (λ n. IsSilent m r best (Edge n side i s u v)) c d two.1 (edge_silent m c p r best side i s u v (subst (λ t. IsCalm t m c p r) two.0 calm))
+    silent (NotEnd d side i s) mine =
+        let two = both_true later (nat_eq c d) mine in
+        at_number (λ n. IsSilent m r best (NotEnd n side i s)) c d two.1 (not_end_silent m c p r best side i s (subst (λ t. IsCalm t m c p r) two.0 calm))
+    silent (Detect d side i s) mine =
+        let two = both_true (not later) (nat_eq c d) mine in
+        at_number (λ n. IsSilent m r best (Detect n side i s)) c d two.1 (detect_silent m c p r best side i s (subst (λ t. IsCalm t m c p r) (not_later later two.0) calm))
 
 -- and a constraint of another kind has none
-pub nothing_quiet : (m : Data) (c : ℕ) (r : Region) (best : Option ℤ) → sequence_at m c ≡ None → quiet m c r best
-nothing_quiet m c r best none = record { unrefuted = λ w guess mine asked. silent w mine guess }
+pub nothing_quiet : (later : Bool) (m : Data) (c : ℕ) (r : Region) (best : Option ℤ) → sequence_at m c ≡ None → quiet later m c r best
+nothing_quiet later m c r best none = record { unrefuted = λ w guess mine asked. silent w mine guess }
   where
     shut : (l : Region) (w : SeqWitness) (b : Bool) (f : Seq → Bool) → b ≡ passes f (sequence_at m c) → (is_valid w && b) ≡ false
     shut l w b f by = unless (is_valid w && b) (λ h. none_in_it f (sequence_at m c) none (sym by ∙ row_true w b h))
 
-    silent : (w : SeqWitness) → looks_after m c w ≡ true → (guess : Option Guess) → refutes m (seen_at r best guess) w ≡ false
+    silent : (w : SeqWitness) → looks_after later m c w ≡ true → (guess : Option Guess) → refutes m (seen_at r best guess) w ≡ false
     silent (Pair d a b k) mine guess = cc
     silent (Triple q x y z) mine guess = cc
     silent (Overload d s) mine guess = at_number (λ n. refutes m (seen_at r best guess) (Overload n s) ≡ false) c d mine
         (shut (looked_at guess r) (Overload c s) _ (overload_in m (looked_at guess r) s) (overload_by m (looked_at guess r) s (slice_get m.constraints c)))
-    silent (Edge d side i s u v) mine guess = at_number (λ n. refutes m (seen_at r best guess) (Edge n side i s u v) ≡ false) c d mine
+    silent (Edge d side i s u v) mine guess = at_number (λ n. refutes m (seen_at r best guess) (Edge n side i s u v) ≡ false) c d (both_true later (nat_eq c d) mine).1
         (shut (looked_at guess r) (Edge c side i s u v) _ (edge_in m (looked_at guess r) side i s u v) (edge_by m (looked_at guess r) side i s u v (slice_get m.constraints c)))
-    silent (NotEnd d side i s) mine guess = at_number (λ n. refutes m (seen_at r best guess) (NotEnd n side i s) ≡ false) c d mine
+    silent (NotEnd d side i s) mine guess = at_number (λ n. refutes m (seen_at r best guess) (NotEnd n side i s) ≡ false) c d (both_true later (nat_eq c d) mine).1
         (shut (looked_at guess r) (NotEnd c side i s) _ (not_end_in m (looked_at guess r) side i s) (not_end_by m (looked_at guess r) side i s (slice_get m.constraints c)))
-    silent (Detect d side i s) mine guess = at_number (λ n. refutes m (seen_at r best guess) (Detect n side i s) ≡ false) c d mine
+    silent (Detect d side i s) mine guess = at_number (λ n. refutes m (seen_at r best guess) (Detect n side i s) ≡ false) c d (both_true (not later) (nat_eq c d) mine).1
         (shut (looked_at guess r) (Detect c side i s) _ (detect_in m (looked_at guess r) side i s) (detect_by m (looked_at guess r) side i s (slice_get m.constraints c)))

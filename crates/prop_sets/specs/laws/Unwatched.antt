@@ -1,5 +1,5 @@
 -- A quiet propagator stays quiet where nothing that it watches changes.
-use Rattle.std.specs.Prelude.{◌≡◌, ℕ, ℤ, Bool, true, false, ◌&&◌, nat_eq, nat_lt, IsTrue, List, [], ◌∷◌, Option, Some, None, slice_get}
+use Rattle.std.specs.Prelude.{◌≡◌, ℕ, ℤ, Bool, true, false, not, ◌&&◌, nat_eq, nat_lt, IsTrue, List, [], ◌∷◌, Option, Some, None, slice_get}
 use Rattle.std.proofs.Common.{refl, sym, ap, subst, ◌∙◌, arith}
 use Rattle.std.proofs.lemmas.Bool.{and_parts}
 use Rattle.std.proofs.lemmas.Bool.Decides.{nat_tests}
@@ -125,13 +125,13 @@ silent_kept m c w r q a b looks among of also alike silent guess asked = by_case
         let here = asked_alike m (reads_all (members_at m c)) (lists m w) guess r q of also (among guess row) alike asked in
         sym (refuted_alike refutes m w (reads_all (members_at m c)) r q a b guess looks of also alike (λ uses. cc uses) (asked_admits (lists m w) r guess here) (asked_admits (lists m w) q guess asked)) ∙ silent guess here
 
-pub unwatched : (m : Data) (k : ℕ) (r q : Region) (b c : Option ℤ) → IsRegionOf m r → IsRegionOf m q → ((cell : CellName) → IsTrue (watching m k cell) → SameCell cell r q) → (IsTrue (watching_best m k) → b ≡ c) → quiet m k r b → quiet m k q c
-unwatched m k r q b c of also cells best still = record { unrefuted = λ w guess mine asked. kept w mine guess asked }
+pub unwatched : (later : Bool) (m : Data) (k : ℕ) (r q : Region) (b c : Option ℤ) → IsRegionOf m r → IsRegionOf m q → ((cell : CellName) → IsTrue (watching m k cell) → SameCell cell r q) → (IsTrue (watching_best m k) → b ≡ c) → quiet later m k r b → quiet later m k q c
+unwatched later m k r q b c of also cells best still = record { unrefuted = λ w guess mine asked. kept w mine guess asked }
   where
     alike : AreAlike (reads_all (members_at m k)) r q
     alike = alike_from_cells m (reads_all (members_at m k)) r q of also cells
 
-    silent : (w : SeqWitness) → looks_after m k w ≡ true → IsSilent m r b w
+    silent : (w : SeqWitness) → looks_after later m k w ≡ true → IsSilent m r b w
     silent w mine guess asked = still.unrefuted w guess mine asked
 
     itself : nat_eq k k ≡ true
@@ -140,18 +140,22 @@ unwatched m k r q b c of also cells best still = record { unrefuted = λ w guess
     back : (n : ℕ) (P : ℕ → Type 0) → nat_eq k n ≡ true → P k → P n
     back n P same h = subst P (same_number k n same) h
 
-    kept : (w : SeqWitness) → looks_after m k w ≡ true → IsSilent m q c w
+    -- a kind of the round that is silent stays so, whatever the number
+    of_round : (t : Bool) (w : ℕ → SeqWitness) (n : ℕ) → ((t && nat_eq k k) ≡ true → IsSilent m q c (w k)) → (t && nat_eq k n) ≡ true → IsSilent m q c (w n)
+    of_round t w n on mine = back n (λ i. (t && nat_eq k i) ≡ true → IsSilent m q c (w i)) (and_parts t (nat_eq k n) mine).1 on mine
+
+    kept : (w : SeqWitness) → looks_after later m k w ≡ true → IsSilent m q c w
     kept (Pair d x y n) mine = cc
     kept (Triple p x y z) mine = cc
     kept (Overload d s) mine = back d (λ n. IsSilent m q c (Overload n s)) mine (silent_kept m k (Overload k s) r q b c (overload_looks m k s)
         (λ guess row g listed. member_among (members_at m k) s (topic g) (overload_members m (looked_at guess q) s (sequence_at m k) (sym (overload_by m (looked_at guess q) s (slice_get m.constraints k)) ∙ row)) listed)
         of also alike (silent (Overload k s) itself))
-    kept (Edge d side i s u v) mine = back d (λ n. IsSilent m q c (Edge n side i s u v)) mine (silent_kept m k (Edge k side i s u v) r q b c (edge_looks m k side i s u v)
+    kept (Edge d side i s u v) mine = of_round later (λ n. Edge n side i s u v) d (λ on. silent_kept m k (Edge k side i s u v) r q b c (edge_looks m k side i s u v)
         (λ guess row g listed. start_among (members_at m k) side i (topic g) (edge_member m (looked_at guess q) side i s u v (sequence_at m k) (sym (edge_by m (looked_at guess q) side i s u v (slice_get m.constraints k)) ∙ row)) listed)
-        of also alike (silent (Edge k side i s u v) itself))
-    kept (NotEnd d side i s) mine = back d (λ n. IsSilent m q c (NotEnd n side i s)) mine (silent_kept m k (NotEnd k side i s) r q b c (not_end_looks m k side i s)
+        of also alike (silent (Edge k side i s u v) on)) mine
+    kept (NotEnd d side i s) mine = of_round later (λ n. NotEnd n side i s) d (λ on. silent_kept m k (NotEnd k side i s) r q b c (not_end_looks m k side i s)
         (λ guess row g listed. end_among (members_at m k) side i (topic g) (not_end_member m (looked_at guess q) side i s (sequence_at m k) (sym (not_end_by m (looked_at guess q) side i s (slice_get m.constraints k)) ∙ row)) listed)
-        of also alike (silent (NotEnd k side i s) itself))
-    kept (Detect d side i s) mine = back d (λ n. IsSilent m q c (Detect n side i s)) mine (silent_kept m k (Detect k side i s) r q b c (detect_looks m k side i s)
+        of also alike (silent (NotEnd k side i s) on)) mine
+    kept (Detect d side i s) mine = of_round (not later) (λ n. Detect n side i s) d (λ on. silent_kept m k (Detect k side i s) r q b c (detect_looks m k side i s)
         (λ guess row g listed. start_among (members_at m k) side i (topic g) (detect_member m (looked_at guess q) side i s (sequence_at m k) (sym (detect_by m (looked_at guess q) side i s (slice_get m.constraints k)) ∙ row)) listed)
-        of also alike (silent (Detect k side i s) itself))
+        of also alike (silent (Detect k side i s) on)) mine

@@ -1,6 +1,6 @@
 use Rattle.std.proofs.Common.{◌∙◌, ap, length, List, ℕ}
 use Rattle.prop_sets.specs.code.Busy.{ids_of}
-use Rattle.prop_sets.proofs.Answered.{overload_by}
+use Rattle.prop_sets.proofs.Answered.{overload_by, itself}
 use Rattle.prop_sets.proofs.answering.answer_overload.Goals as goal
 
 pub answer-requires-clause-busy : goal.answer-requires-clause-busy
@@ -8,3 +8,6 @@ answer-requires-clause-busy c =
     let ids : List ℕ → List ℕ = λ l. ids_of c.args.members.now l (length c.args.model.now.intervals) in
     overload_by _ _ _ _ _ (length c.args.model.now.intervals) _ c.args.members.now c.args.found.now.set.items _ c.member_at-i.ensures
     (c.in_ok-s.ensures ∙ ap ids c.deref.ensures.value) c.requires.busy
+
+pub returns-clause-busy : goal.returns-clause-busy
+returns-clause-busy c = λ later. c.answer.ensures.busy later (itself c.args.c)

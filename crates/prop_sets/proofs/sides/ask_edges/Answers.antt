@@ -1,4 +1,4 @@
-use Rattle.std.proofs.Common.{subst, List, None}
+use Rattle.std.proofs.Common.{subst, List, true, None}
 use Rattle.std.specs.Prelude.{IfSome, IfNone}
 use Rattle.theta_passes.specs.declared.rows.Row.{Row}
 use Rattle.theta_passes.specs.code.Over.{NoOverloads}
@@ -22,3 +22,6 @@ returns-clause-none c =
     let none = subst (λ o. IfNone o (NoOverloads c.deref.result.now)) c.in_default.is c.in_ok-found.ensures.none in
     let pass = subst (λ o. IfNone o (PassOrNone c.deref-2.result.now None)) c.in_default-2.is c.in_ok-found-2.ensures.none in
     no_edge _ _ _ _ _ _ _ c.in_ok-rows.ensures.rowed (subst NoOverloads c.deref.ensures.value none) (subst (λ (rs : List Row). PassOrNone rs None) c.deref-2.ensures.value pass)
+
+pub returns-in-Some-clause-busy : goal.returns-in-Some-clause-busy
+returns-in-Some-clause-busy c = c.answer_overload.ensures.busy true

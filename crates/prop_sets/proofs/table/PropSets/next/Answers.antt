@@ -5,7 +5,7 @@ use Rattle.sched_base.specs.declared.ids.Itv.{Itv}
 use Rattle.sched_model.specs.Data.{members_of}
 use Rattle.findings.specs.code.Tables.{members_in}
 use Rattle.prop_sets.specs.declared.known.Numbers.{Numbers}
-use Rattle.prop_sets.specs.code.Tasks.{sequence_at}
+use Rattle.prop_sets.specs.code.Tasks.{quiet, sequence_at}
 use Rattle.prop_sets.specs.code.Known.{AreNumbers, IsStill}
 use Rattle.prop_sets.specs.laws.Known.{known_at, still_again, still_quiet}
 use Rattle.prop_sets.proofs.table.PropSets.next.Goals as goal
@@ -28,13 +28,17 @@ returns-then-is_remembered-clause-none c =
     let same : slice_index_or c.self.inside.known.items k None ≡ Some c.deref.result.now
     = sym (c.index-2.ensures ∙ get_or_default c.self.inside.known.items k c.index-2.result.now None (omega (arith, within, as_many))) ∙ c.is_remembered.ensures c.if-is_remembered.true in
     let numbers = subst (λ (ns : List Numbers). AreNumbers c.args.region.now.region c.as_slice.result.now (length c.as_slice.result.now) ns) (sym c.deref.ensures.value) c.in_ok-now.ensures in
-    still_quiet m k c.in-Some.p c.args.region.now.region c.args.best ms c.sequences.ensures.valid c.requires.region sequence members
-    (still_again c.args.region.now.region ms c.deref.result.now (known_at c.self.inside.members.items c.self.inside.known.items k c.deref.result.now within same known)
-    (subst (λ (zs : List Itv). AreNumbers c.args.region.now.region zs (length zs) c.deref.result.now) at numbers))
+    let later = c.self.inside.later in
+    subst (λ t. quiet t m k c.args.region.now.region c.args.best) (ap (λ t. t.later) c.self.view_is)
+    (still_quiet later m k c.in-Some.p c.args.region.now.region c.args.best ms c.sequences.ensures.valid c.requires.region sequence members
+    (still_again later c.args.region.now.region ms c.deref.result.now (known_at later c.self.inside.members.items c.self.inside.known.items k c.deref.result.now within same known)
+    (subst (λ (zs : List Itv). AreNumbers c.args.region.now.region zs (length zs) c.deref.result.now) at numbers)))
 
 pub returns-in_default-2-clause-none : goal.returns-in_default-2-clause-none
 returns-in_default-2-clause-none c =
     let m = c.args.model.now in
     let sequence : sequence_at m c.args.k ≡ Some c.in-Some.p = search rules in
-    still_quiet m c.args.k c.in-Some.p c.args.region.now.region c.args.best (members_of m c.in-Some.p) c.sequences.ensures.valid c.requires.region sequence refl
-    (subst (λ o. IfNone o (IsStill c.args.region.now.region (members_of m c.in-Some.p))) c.in_default-2.is c.in_ok-found.ensures.none)
+    let later = c.self.inside.later in
+    subst (λ t. quiet t m c.args.k c.args.region.now.region c.args.best) (ap (λ t. t.later) c.self.view_is)
+    (still_quiet later m c.args.k c.in-Some.p c.args.region.now.region c.args.best (members_of m c.in-Some.p) c.sequences.ensures.valid c.requires.region sequence refl
+    (subst (λ o. IfNone o (IsStill later c.args.region.now.region (members_of m c.in-Some.p))) c.in_default-2.is c.in_ok-found.ensures.none))
