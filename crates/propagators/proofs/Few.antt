@@ -12,7 +12,7 @@ use Rattle.prop_sets.specs.code.Tasks.{size_of as size_of_sets}
 use Rattle.prop_cumul.specs.code.Tasks.{size_of as size_of_cumul}
 use Rattle.prop_state.specs.code.Tasks.{size_of as size_of_state}
 
-pub not_too_many : (m : Data) → IsValid m → (n : ℕ) → n ≤ size_of m + (size_of_temporal m + (size_of_hier m + (size_of_unary m + (size_of_sets m + (size_of_cumul m + size_of_state m))))) → (2 ^ 32) ≤ n → ⊥
+pub not_too_many : (m : Data) → IsValid m → (n : ℕ) → n ≤ size_of m + (size_of_temporal m + (size_of_hier m + (size_of_unary m + (size_of_sets m + (size_of_sets m + (size_of_cumul m + size_of_state m)))))) → (2 ^ 32) ≤ n → ⊥
 not_too_many m valid n all many =
     let limits = limits_of m valid.limits in
     let intervals = limits.intervals in

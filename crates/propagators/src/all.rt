@@ -9,7 +9,7 @@ ghost use Rattle.propagators.specs.Quiet.{IsQuietRegion};
 use crate::basic::FromBasic;
 use crate::cumul::FromCumul;
 use crate::hier::FromHier;
-use crate::sets::FromSets;
+use crate::sets::{FromLaterSets, FromSets};
 use crate::state::FromState;
 use crate::temporal::FromTemporal;
 use crate::unary::FromUnary;
@@ -28,8 +28,11 @@ use std::alloc::Global;
 /// The propagators of cumulative and state functions.
 pub type OfFunctions = Both<FromCumul, FromState>;
 
+/// Those of sets of members of sequences, in two rounds, and of functions.
+pub type OfSets = Both<FromSets, Both<FromLaterSets, OfFunctions>>;
+
 /// Those of sequences, by few members at a time and by sets, and of functions.
-pub type OfMany = Both<FromUnary, Both<FromSets, OfFunctions>>;
+pub type OfMany = Both<FromUnary, OfSets>;
 
 /// Those of an interval and its parts, of sequences, and of functions.
 pub type OfGroups = Both<FromHier, OfMany>;
@@ -48,13 +51,17 @@ pub fn start(alloc: Global, model: &Model) -> Result<Engine<All>, NoMemory>
     let temporal = FromTemporal(PropTemporal::new(alloc, model)?);
     let hier = FromHier(PropHier::new(alloc, model)?);
     let unary = FromUnary(PropUnary::new(alloc, model)?);
-    let sets = FromSets(PropSets::new(alloc, model)?);
+    let sets = FromSets(PropSets::new(alloc, model, false)?);
+    let later = FromLaterSets(PropSets::new(alloc, model, true)?);
     let cumul = FromCumul(PropCumul::new(alloc, model)?);
     let state = FromState(PropState::new(alloc, model)?);
     let Some(functions) = Both::new(cumul, state) else {
         unreachable!();
     };
-    let Some(many) = Both::new(sets, functions) else {
+    let Some(behind) = Both::new(later, functions) else {
+        unreachable!();
+    };
+    let Some(many) = Both::new(sets, behind) else {
         unreachable!();
     };
     let Some(grouped) = Both::new(unary, many) else {

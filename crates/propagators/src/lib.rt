@@ -14,7 +14,7 @@ pub use all::{All, covers, start};
 pub use basic::FromBasic;
 pub use cumul::FromCumul;
 pub use hier::FromHier;
-pub use sets::FromSets;
+pub use sets::{FromLaterSets, FromSets};
 pub use state::FromState;
 pub use temporal::FromTemporal;
 pub use unary::FromUnary;

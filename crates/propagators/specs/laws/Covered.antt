@@ -93,7 +93,8 @@ pub record AllQuiet (m : Data) (r : Region) (best : Option ℤ) : Type 0 where
   pub temporal : (k : ℕ) → k < size_of_temporal m → quiet_temporal m k r best
   pub hier : (k : ℕ) → k < size_of_hier m → quiet_hier m k r best
   pub unary : (k : ℕ) → k < size_of_unary m → quiet_unary m k r best
-  pub sets : (k : ℕ) → k < size_of_sets m → quiet_sets m k r best
+  pub sets : (k : ℕ) → k < size_of_sets m → quiet_sets false m k r best
+  pub later_sets : (k : ℕ) → k < size_of_sets m → quiet_sets true m k r best
   pub cumul : (k : ℕ) → k < size_of_cumul m → quiet_cumul m k r best
   pub state : (k : ℕ) → k < size_of_state m → quiet_state m k r best
 
@@ -104,14 +105,21 @@ basic_unrefuted m r best of all w guess derived asked = elim (own_or_temporal w 
   | inr also ↦ unrefuted_by refutes lists looks_after_temporal (size_of_temporal m) m r best of all.temporal w (λ l stays none. unowned_temporal m l w also none) guess asked
 ]
 
--- so is a kind of `refute_seq`: by few members at a time, or by sets
-unary_or_sets : (w : SeqWitness) → (is_unary w ≡ true) ⊎ (is_sets w ≡ true)
+-- so is a kind of `refute_seq`: by few members at a time, or by sets in the first round or in the later one
+unary_or_sets : (w : SeqWitness) → (is_unary w ≡ true) ⊎ ((is_sets false w ≡ true) ⊎ (is_sets true w ≡ true))
 unary_or_sets (Pair c a b k) = inl refl
 unary_or_sets (Triple p x y z) = inl refl
-unary_or_sets (Overload c s) = inr refl
-unary_or_sets (Edge c side i s u v) = inr refl
-unary_or_sets (NotEnd c side i s) = inr refl
-unary_or_sets (Detect c side i s) = inr refl
+unary_or_sets (Overload c s) = inr (inl refl)
+unary_or_sets (Edge c side i s u v) = inr (inr refl)
+unary_or_sets (NotEnd c side i s) = inr (inr refl)
+unary_or_sets (Detect c side i s) = inr (inl refl)
+
+sets_unrefuted : (m : Data) (r : Region) (best : Option ℤ) → IsRegionOf m r → AllQuiet m r best
+    → (w : SeqWitness) (guess : Option Guess) → (is_sets false w ≡ true) ⊎ (is_sets true w ≡ true) → IsTrue (is_asked (lists_seq m w) r guess) → refutes_seq m (seen_at r best guess) w ≡ false
+sets_unrefuted m r best of all w guess (inl first) asked =
+    unrefuted_by refutes_seq lists_seq (looks_after_sets false) (size_of_sets m) m r best of all.sets w (λ l stays none. unowned_sets false m l w first none) guess asked
+sets_unrefuted m r best of all w guess (inr later) asked =
+    unrefuted_by refutes_seq lists_seq (looks_after_sets true) (size_of_sets m) m r best of all.later_sets w (λ l stays none. unowned_sets true m l w later none) guess asked
 
 -- so is a kind of `refute_state`
 state_kind : (w : StateWitness) → is_state w ≡ true
@@ -125,7 +133,7 @@ all_unrefuted m r best valid of all (Hier w) guess derived asked =
     unrefuted_by refutes_hier lists_hier looks_after_hier (size_of_hier m) m r best of all.hier w (λ l stays none. unowned_hier m l w stays refl none) guess asked
 all_unrefuted m r best valid of all (Seq w) guess derived asked = elim (unary_or_sets w) [
   | inl few ↦ unrefuted_by refutes_seq lists_seq looks_after_unary (size_of_unary m) m r best of all.unary w (λ l stays none. unowned_unary m l w stays few none) guess asked
-  | inr sets ↦ unrefuted_by refutes_seq lists_seq looks_after_sets (size_of_sets m) m r best of all.sets w (λ l stays none. unowned_sets m l w sets none) guess asked
+  | inr sets ↦ sets_unrefuted m r best of all w guess sets asked
 ]
 all_unrefuted m r best valid of all (Cumul w) guess derived asked =
     unrefuted_by refutes_cumul lists_cumul looks_after_cumul (size_of_cumul m) m r best of all.cumul w (λ l stays none. unowned_cumul m l w stays refl none) guess asked
