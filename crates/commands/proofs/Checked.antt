@@ -3,6 +3,7 @@ use Rattle.sched_base.specs.declared.desk.Failed.{Failed}
 use Rattle.sched_base.specs.declared.desk.Port.TheVariants.{Out}
 use Rattle.cpo_elab.specs.Answers.Answer.{Accepted}
 use Rattle.commands.specs.declared.ended.Ended.TheVariants as end
+use Rattle.given_files.specs.declared.stop.Stop.TheVariants as given
 use Rattle.commands.specs.declared.stop.Stop.TheVariants as stop
 use Rattle.commands.specs.CheckText.{check_text}
 use Rattle.std.proofs.Common.{◌≡◌, ◌≤◌, ◌+◌, ℕ, List, Option, Some, None, Ok, Err, length, take, refl, sym, ap, subst, ◌∙◌, inr, arith}
@@ -19,9 +20,11 @@ use Rattle.checker.specs.declared.judging.CheckFault.{CheckFault}
 use Rattle.checker.specs.declared.judging.CheckFault.TheVariants as fault
 use Rattle.checker.specs.Judgement.{log_limit}
 use Rattle.checker.specs.Checking.{Checks, Judges, log_bytes}
-use Rattle.commands.specs.Runs.{IfFile, FileDeserves, AcceptsLog, ReadsModel, ReadsLog}
+use Rattle.given_files.specs.Files.{IfFile, FileDeserves, ReadsModel}
+use Rattle.given_files.specs.code.Reading.{OnlyReads}
+use Rattle.commands.specs.Runs.{AcceptsLog, ReadsLog}
 use Rattle.commands.specs.code.Stops.{stop_of_check}
-use Rattle.commands.specs.code.Tries.{OnlyReads, OnlyJudges, JudgesFile, TriesCheck}
+use Rattle.commands.specs.code.Tries.{OnlyJudges, JudgesFile, TriesCheck}
 
 in_file : (files : Option (List File)) (name : Bytes) (P : Bytes → Type 0) → IfSome (option_and_then (λ fs. bytes_of fs name) files) P → IfSome files (λ fs. IfSome (bytes_of fs name) P)
 in_file None name P is = tt
@@ -85,7 +88,7 @@ accept_printed m model log bytes c u old s t w reads kept deserved far judged ju
 
 -- or a front part of it
 pub accept_half_printed : (m : Data) (model log bytes : Bytes) (c : Checked) (e : Failed) (old s t w : State) → OnlyReads old s → s.faults ≡ old.faults → FileDeserves old model (Accepted m) → OnlyJudges s t → JudgesFile m log (Ok c) s t
-    → bytes ≡ check_text c.verdict c.nodes → Writes Out bytes (Err e) t w → TriesCheck model log (Err stop.Fault) old w
+    → bytes ≡ check_text c.verdict c.nodes → Writes Out bytes (Err e) t w → TriesCheck model log (Err (stop.Given given.Fault)) old w
 accept_half_printed m model log bytes c e old s t w reads kept deserved judged judges spelt writes =
     let text : Bytes = check_text c.verdict c.nodes in
     let n : ℕ = writes.failed.0 in
@@ -95,7 +98,7 @@ accept_half_printed m model log bytes c e old s t w reads kept deserved judged j
     writes.failed.2
     ∙ ap (λ bs. record t { out = appended (take n bs) t.out; faults = w.faults }) spelt
     ∙ ap (λ (x : State). record x { out = appended (take n text) x.out; faults = w.faults }) here in
-    subst (TriesCheck model log (Err stop.Fault) old) (sym is) (record {
+    subst (TriesCheck model log (Err (stop.Given given.Fault)) old) (sym is) (record {
       only = refl;
       later = subst (λ k. k ≤ w.faults) faults writes.count.later;
       tried = (

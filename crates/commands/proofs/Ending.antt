@@ -2,7 +2,7 @@
 use Rattle.std.specs.Prelude.{⊤}
 use Rattle.std.proofs.Common.{◌≡◌, ◌≤◌, ◌+◌, ℕ, true, false, Option, Some, None, Ok, Err, refl, sym, ap, subst, ◌∙◌, inl, inr, arith}
 use Rattle.sched_base.specs.State.{State, Place}
-use Rattle.sched_base.specs.Calls.{Rose, appended, ReadsAtMost, AppendedFrom}
+use Rattle.sched_base.specs.Calls.{Rose, ReadsAtMost, AppendedFrom}
 use Rattle.sched_model.specs.declared.types.Answer.{Answer}
 use Rattle.sched_model.specs.declared.types.Answer.TheVariants as answer
 use Rattle.cpo_text.specs.declared.text.Refusal.{Refusal}
@@ -10,6 +10,11 @@ use Rattle.command_line.specs.declared.shop.Shop.{Shop}
 use Rattle.command_line.specs.Commands.{Command, Solve, Check, Verify, Show, Gen, Trial}
 use Rattle.textline.specs.Lines.{Bytes}
 use Rattle.checker.specs.Judgement.{log_limit}
+use Rattle.given_files.specs.declared.stop.Stop.TheVariants as given
+use Rattle.given_files.specs.Files.{file_of, schedule_limit, ReadsModel, ReadsSchedule}
+use Rattle.given_files.specs.Told.{Reports, fault_line, memory_line, refusal_line, unfit_line}
+use Rattle.given_files.specs.code.Reading.{OnlyReads}
+use Rattle.given_files.specs.laws.Endings.{tells_on}
 use Rattle.commands.specs.declared.ended.Ended.{Ended}
 use Rattle.commands.specs.declared.ended.Ended.TheVariants as end
 use Rattle.commands.specs.declared.stop.Stop.{Stop}
@@ -17,8 +22,8 @@ use Rattle.commands.specs.declared.stop.Stop.TheVariants as stop
 use Rattle.sched_text.specs.Canonical.{canonical_text}
 use Rattle.commands.specs.CheckText.{check_text}
 use Rattle.commands.specs.Ended.{is_success}
-use Rattle.commands.specs.Told.{Tells, Reports, usage_line, fault_line, memory_line, refusal_line, log_line, too_long_line, unfit_line}
-use Rattle.commands.specs.Runs.{Source, SourceDeserves, HasSource, ReadsSource, IsUnread, SolvePromise, shop_text, told_text, RunPromise, NeverRefused, EveryRun, CommandPromise, HasFiles, RefusesModel, ShowsPart, LogPromise, HoldsBegunLog, CutShort, AnswerPromise, AcceptsPart, ending_of, SolveEnds, file_of, ReadsModel, ReadsLog, schedule_limit, ReadsSchedule, VerifiesPart}
+use Rattle.commands.specs.Told.{usage_line, log_line, too_long_line}
+use Rattle.commands.specs.Runs.{Source, SourceDeserves, HasSource, ReadsSource, IsUnread, SolvePromise, shop_text, told_text, RunPromise, NeverRefused, EveryRun, CommandPromise, HasFiles, RefusesModel, ShowsPart, LogPromise, HoldsBegunLog, CutShort, AnswerPromise, AcceptsPart, ending_of, SolveEnds, ReadsLog, VerifiesPart}
 use Rattle.commands.specs.VerifyText.{verify_text}
 use Rattle.sched_model.specs.Solution.{objective_of}
 use Rattle.commands.specs.Runs.Source.{file, generated}
@@ -26,18 +31,7 @@ use Rattle.commands.specs.Runs.CutShort.{before_log, in_log, in_answer}
 use Rattle.cpo_elab.specs.Answers.Answer.{Refused}
 use Rattle.commands.specs.Runs.RefusesLog.{at_line, too_long}
 use Rattle.commands.proofs.Solved.{unread_on}
-use Rattle.commands.specs.code.Tries.{OnlyReads, TriesSolve, TriesCheck, TriesVerify, TriesShow, TriesGen, EndsStopped}
-
--- A line on standard error behind whatever a command has done.
-
-tells_on : (text : Bytes) (old s new : State) → s.err ≡ old.err → old.faults ≤ s.faults → Reports text s new → Tells text old new
-tells_on text old s new err later reports = record {
-  part = subst (λ e. AppendedFrom text e new.err) err reports.tells.part;
-  whole = elim reports.tells.whole [
-    | inl rose ↦ inl (omega (arith, rose, later))
-    | inr is ↦ inr (subst (λ e. new.err ≡ appended text e) err is)
-  ];
-}
+use Rattle.commands.specs.code.Tries.{TriesSolve, TriesCheck, TriesVerify, TriesShow, TriesGen, EndsStopped}
 
 -- What every run promises, by its ending.
 
@@ -252,16 +246,16 @@ solve_no_memory model log limit old s new only unread later out cut reports = as
 }) (taken model end.NoMemory (λ is. cc)) (λ no_fault enough. absurd (enough refl))
 
 pub solve_stopped : (model : Source) (log : Bytes) (limit : ℕ) (e : Stop) (ended : Ended) (old s new : State) → ((r : Refusal) → SourceDeserves old model (Refused r) → IsTaken model end.ModelRefused) → TriesSolve model log limit (Err e) old s → EndsStopped e ended s new → RunPromise (Some (solving model log limit)) ended old new
-solve_stopped model log limit stop.Fault ended old s new due tries ends = subst (λ x. RunPromise (Some (solving model log limit)) x old new) (sym ends.0)
+solve_stopped model log limit (stop.Given given.Fault) ended old s new due tries ends = subst (λ x. RunPromise (Some (solving model log limit)) x old new) (sym ends.0)
     (as_run model log limit end.Fault old new
     (faulted (solving model log limit) old s new (ap (λ (x : State). x.err) tries.only) tries.later tries.tried.0 (λ calm there. tries.tried.1 calm (source_there model log limit old there)) ends.1) (record {
       only = solve_only fault_line old s new tries.only ends.1;
       unread = unread_told model fault_line old s new tries.unread ends.1;
       ends = cut_told model log limit fault_line old s new tries.tried.2 ends.1;
     }) (taken model end.Fault (λ is. cc)) (λ no_fault enough. absurd (no_fault refl)))
-solve_stopped model log limit stop.NoMemory ended old s new due tries ends = subst (λ x. RunPromise (Some (solving model log limit)) x old new) (sym ends.0)
+solve_stopped model log limit (stop.Given given.NoMemory) ended old s new due tries ends = subst (λ x. RunPromise (Some (solving model log limit)) x old new) (sym ends.0)
     (solve_no_memory model log limit old s new tries.only tries.unread tries.later tries.tried.0 tries.tried.1 ends.1)
-solve_stopped model log limit (stop.ModelRefused r) ended old s new due tries (inl ends) =
+solve_stopped model log limit (stop.Given (given.ModelRefused r)) ended old s new due tries (inl ends) =
     let reads = tries.tried.0 in
     subst (λ x. RunPromise (Some (solving model log limit)) x old new) (sym ends.0)
     (as_run model log limit end.ModelRefused old new
@@ -270,13 +264,13 @@ solve_stopped model log limit (stop.ModelRefused r) ended old s new due tries (i
       unread = unread_told model (refusal_line r) old s new tries.unread ends.1;
       ends = refuses model old s new reads r tries.tried.2 ends.1;
     }) (due r tries.tried.2) (λ no_fault enough. source_read model (refusal_line r) old s new tries.tried.3 ends.1))
-solve_stopped model log limit (stop.ModelRefused r) ended old s new due tries (inr ends) =
+solve_stopped model log limit (stop.Given (given.ModelRefused r)) ended old s new due tries (inr ends) =
     let reads = tries.tried.0 in
     subst (λ x. RunPromise (Some (solving model log limit)) x old new) (sym ends.0)
     (solve_no_memory model log limit old s new tries.only tries.unread tries.later (ap (λ (x : State). x.out) reads.only) (before_log (subst (OnlyRefuses old) (sym reads.only) refl)) ends.1)
 solve_stopped model log limit (stop.LogRefused k) ended old s new due tries ends = absurd tries.tried
 solve_stopped model log limit stop.LogTooLong ended old s new due tries ends = absurd tries.tried
-solve_stopped model log limit (stop.ScheduleRefused r) ended old s new due tries ends = absurd tries.tried
+solve_stopped model log limit (stop.Given (given.ScheduleRefused r)) ended old s new due tries ends = absurd tries.tried
 
 -- `check`.
 
@@ -296,21 +290,21 @@ check_no_memory model log old s new only later out reports = record {
 }
 
 pub check_stopped : (model log : Bytes) (e : Stop) (ended : Ended) (old s new : State) → TriesCheck model log (Err e) old s → EndsStopped e ended s new → RunPromise (Some (Check model log)) ended old new
-check_stopped model log stop.Fault ended old s new tries ends = subst (λ x. RunPromise (Some (Check model log)) x old new) (sym ends.0) (record {
+check_stopped model log (stop.Given given.Fault) ended old s new tries ends = subst (λ x. RunPromise (Some (Check model log)) x old new) (sym ends.0) (record {
   every = faulted (Check model log) old s new (ap (λ (x : State). x.err) tries.only) tries.later tries.tried.0 (λ calm there. tries.tried.1 calm there.0 there.1) ends.1;
   its_own = record { only = check_only fault_line old s new tries.only ends.1; ends = part_told model log fault_line old s new tries.tried.2 ends.1 };
   reads = λ no_fault enough. absurd (no_fault refl);
 })
-check_stopped model log stop.NoMemory ended old s new tries ends = subst (λ x. RunPromise (Some (Check model log)) x old new) (sym ends.0)
+check_stopped model log (stop.Given given.NoMemory) ended old s new tries ends = subst (λ x. RunPromise (Some (Check model log)) x old new) (sym ends.0)
     (check_no_memory model log old s new tries.only tries.later tries.tried ends.1)
-check_stopped model log (stop.ModelRefused r) ended old s new tries (inl ends) =
+check_stopped model log (stop.Given (given.ModelRefused r)) ended old s new tries (inl ends) =
     let reads = tries.tried.0 in
     subst (λ x. RunPromise (Some (Check model log)) x old new) (sym ends.0) (record {
       every = model_refused (Check model log) (refusal_line r) old s new (ap (λ (x : State). x.out) reads.only) reads.later ends.1;
       its_own = record { only = check_only (refusal_line r) old s new tries.only ends.1; ends = refuses (file model) old s new reads r tries.tried.2 ends.1 };
       reads = λ no_fault enough. (model_read model (refusal_line r) old s new tries.tried.3 ends.1, λ served. absurd (served refl));
     })
-check_stopped model log (stop.ModelRefused r) ended old s new tries (inr ends) = subst (λ x. RunPromise (Some (Check model log)) x old new) (sym ends.0)
+check_stopped model log (stop.Given (given.ModelRefused r)) ended old s new tries (inr ends) = subst (λ x. RunPromise (Some (Check model log)) x old new) (sym ends.0)
     (check_no_memory model log old s new tries.only tries.later (ap (λ (x : State). x.out) tries.tried.0.only) ends.1)
 check_stopped model log (stop.LogRefused k) ended old s new tries (inl ends) = subst (λ x. RunPromise (Some (Check model log)) x old new) (sym ends.0) (record {
   every = log_refused (Check model log) (log_line k) old s new tries.tried.0 tries.later ends.1;
@@ -330,7 +324,7 @@ check_stopped model log stop.LogTooLong ended old s new tries ends = subst (λ x
   };
   reads = λ no_fault enough. (model_read model too_long_line old s new tries.tried.2 ends.1, λ served. log_read log too_long_line old s new tries.tried.3 ends.1);
 })
-check_stopped model log (stop.ScheduleRefused r) ended old s new tries ends = absurd tries.tried
+check_stopped model log (stop.Given (given.ScheduleRefused r)) ended old s new tries ends = absurd tries.tried
 
 -- `verify`.
 
@@ -364,23 +358,23 @@ verify_no_memory model schedule old s new only later out reports = record {
 }
 
 pub verify_stopped : (model schedule : Bytes) (e : Stop) (ended : Ended) (old s new : State) → TriesVerify model schedule (Err e) old s → EndsStopped e ended s new → RunPromise (Some (Verify model schedule)) ended old new
-verify_stopped model schedule stop.Fault ended old s new tries ends = subst (λ x. RunPromise (Some (Verify model schedule)) x old new) (sym ends.0) (record {
+verify_stopped model schedule (stop.Given given.Fault) ended old s new tries ends = subst (λ x. RunPromise (Some (Verify model schedule)) x old new) (sym ends.0) (record {
   every = faulted (Verify model schedule) old s new (ap (λ (x : State). x.err) tries.only) tries.later tries.tried.0 (λ calm there. tries.tried.1 calm there.0 there.1) ends.1;
   its_own = record { only = verify_only fault_line old s new tries.only ends.1; ends = verified_told model schedule fault_line old s new tries.tried.2 ends.1 };
   reads = λ no_fault enough. absurd (no_fault refl);
 })
-verify_stopped model schedule stop.NoMemory ended old s new tries ends = subst (λ x. RunPromise (Some (Verify model schedule)) x old new) (sym ends.0)
+verify_stopped model schedule (stop.Given given.NoMemory) ended old s new tries ends = subst (λ x. RunPromise (Some (Verify model schedule)) x old new) (sym ends.0)
     (verify_no_memory model schedule old s new tries.only tries.later tries.tried ends.1)
-verify_stopped model schedule (stop.ModelRefused r) ended old s new tries (inl ends) =
+verify_stopped model schedule (stop.Given (given.ModelRefused r)) ended old s new tries (inl ends) =
     let reads = tries.tried.0 in
     subst (λ x. RunPromise (Some (Verify model schedule)) x old new) (sym ends.0) (record {
       every = model_refused (Verify model schedule) (refusal_line r) old s new (ap (λ (x : State). x.out) reads.only) reads.later ends.1;
       its_own = record { only = verify_only (refusal_line r) old s new tries.only ends.1; ends = refuses (file model) old s new reads r tries.tried.2 ends.1 };
       reads = λ no_fault enough. (model_read model (refusal_line r) old s new tries.tried.3 ends.1, λ read. absurd (read refl));
     })
-verify_stopped model schedule (stop.ModelRefused r) ended old s new tries (inr ends) = subst (λ x. RunPromise (Some (Verify model schedule)) x old new) (sym ends.0)
+verify_stopped model schedule (stop.Given (given.ModelRefused r)) ended old s new tries (inr ends) = subst (λ x. RunPromise (Some (Verify model schedule)) x old new) (sym ends.0)
     (verify_no_memory model schedule old s new tries.only tries.later (ap (λ (x : State). x.out) tries.tried.0.only) ends.1)
-verify_stopped model schedule (stop.ScheduleRefused r) ended old s new tries (inl ends) = subst (λ x. RunPromise (Some (Verify model schedule)) x old new) (sym ends.0) (record {
+verify_stopped model schedule (stop.Given (given.ScheduleRefused r)) ended old s new tries (inl ends) = subst (λ x. RunPromise (Some (Verify model schedule)) x old new) (sym ends.0) (record {
   every = schedule_refused (Verify model schedule) (unfit_line r) old s new tries.tried.0 tries.later ends.1;
   its_own = record {
     only = verify_only (unfit_line r) old s new tries.only ends.1;
@@ -388,7 +382,7 @@ verify_stopped model schedule (stop.ScheduleRefused r) ended old s new tries (in
   };
   reads = λ no_fault enough. (model_read model (unfit_line r) old s new tries.tried.2 ends.1, λ read. schedule_read schedule (unfit_line r) old s new tries.tried.3 ends.1);
 })
-verify_stopped model schedule (stop.ScheduleRefused r) ended old s new tries (inr ends) = subst (λ x. RunPromise (Some (Verify model schedule)) x old new) (sym ends.0)
+verify_stopped model schedule (stop.Given (given.ScheduleRefused r)) ended old s new tries (inr ends) = subst (λ x. RunPromise (Some (Verify model schedule)) x old new) (sym ends.0)
     (verify_no_memory model schedule old s new tries.only tries.later tries.tried.0 ends.1)
 verify_stopped model schedule (stop.LogRefused k) ended old s new tries ends = absurd tries.tried
 verify_stopped model schedule stop.LogTooLong ended old s new tries ends = absurd tries.tried
@@ -422,25 +416,25 @@ show_no_memory model old s new only later out reports = record {
 }
 
 pub show_stopped : (model : Bytes) (e : Stop) (ended : Ended) (old s new : State) → TriesShow model (Err e) old s → EndsStopped e ended s new → RunPromise (Some (Show model)) ended old new
-show_stopped model stop.Fault ended old s new tries ends = subst (λ x. RunPromise (Some (Show model)) x old new) (sym ends.0) (record {
+show_stopped model (stop.Given given.Fault) ended old s new tries ends = subst (λ x. RunPromise (Some (Show model)) x old new) (sym ends.0) (record {
   every = faulted (Show model) old s new (ap (λ (x : State). x.err) tries.only) tries.later tries.tried.0.rose tries.tried.0.calm ends.1;
   its_own = record { only = show_only fault_line old s new tries.only ends.1; ends = shown_told model fault_line old s new tries.tried.1 ends.1 };
   reads = λ no_fault enough. absurd (no_fault refl);
 })
-show_stopped model stop.NoMemory ended old s new tries ends = subst (λ x. RunPromise (Some (Show model)) x old new) (sym ends.0)
+show_stopped model (stop.Given given.NoMemory) ended old s new tries ends = subst (λ x. RunPromise (Some (Show model)) x old new) (sym ends.0)
     (show_no_memory model old s new tries.only tries.later tries.tried ends.1)
-show_stopped model (stop.ModelRefused r) ended old s new tries (inl ends) =
+show_stopped model (stop.Given (given.ModelRefused r)) ended old s new tries (inl ends) =
     let reads = tries.tried.0 in
     subst (λ x. RunPromise (Some (Show model)) x old new) (sym ends.0) (record {
       every = model_refused (Show model) (refusal_line r) old s new (ap (λ (x : State). x.out) reads.only) reads.later ends.1;
       its_own = record { only = show_only (refusal_line r) old s new tries.only ends.1; ends = refuses (file model) old s new reads r tries.tried.2 ends.1 };
       reads = λ no_fault enough. model_read model (refusal_line r) old s new tries.tried.3 ends.1;
     })
-show_stopped model (stop.ModelRefused r) ended old s new tries (inr ends) = subst (λ x. RunPromise (Some (Show model)) x old new) (sym ends.0)
+show_stopped model (stop.Given (given.ModelRefused r)) ended old s new tries (inr ends) = subst (λ x. RunPromise (Some (Show model)) x old new) (sym ends.0)
     (show_no_memory model old s new tries.only tries.later (ap (λ (x : State). x.out) tries.tried.0.only) ends.1)
 show_stopped model (stop.LogRefused k) ended old s new tries ends = absurd tries.tried
 show_stopped model stop.LogTooLong ended old s new tries ends = absurd tries.tried
-show_stopped model (stop.ScheduleRefused r) ended old s new tries ends = absurd tries.tried
+show_stopped model (stop.Given (given.ScheduleRefused r)) ended old s new tries ends = absurd tries.tried
 
 -- `gen`.
 
@@ -459,20 +453,20 @@ generated_shop shop e old new tries = subst (λ x. RunPromise (Some (Gen shop)) 
 })
 
 pub gen_stopped : (shop : Shop) (e : Stop) (ended : Ended) (old s new : State) → TriesGen shop (Err e) old s → EndsStopped e ended s new → RunPromise (Some (Gen shop)) ended old new
-gen_stopped shop stop.Fault ended old s new tries ends = subst (λ x. RunPromise (Some (Gen shop)) x old new) (sym ends.0) (record {
+gen_stopped shop (stop.Given given.Fault) ended old s new tries ends = subst (λ x. RunPromise (Some (Gen shop)) x old new) (sym ends.0) (record {
   every = faulted (Gen shop) old s new (ap (λ (x : State). x.err) tries.only) tries.later tries.tried.0 (λ calm there. tries.tried.1 calm) ends.1;
   its_own = record { only = prints_only fault_line old s new tries.only ends.1; ends = subst (λ b. AppendedFrom (shop_text shop) old.out b) (sym (ap (λ (x : State). x.out) ends.1.only)) tries.tried.2 };
   reads = λ no_fault enough. tt;
 })
-gen_stopped shop stop.NoMemory ended old s new tries ends = subst (λ x. RunPromise (Some (Gen shop)) x old new) (sym ends.0) (record {
+gen_stopped shop (stop.Given given.NoMemory) ended old s new tries ends = subst (λ x. RunPromise (Some (Gen shop)) x old new) (sym ends.0) (record {
   every = no_memory (Gen shop) old s new (ap (λ (x : State). x.err) tries.only) tries.tried tries.later ends.1;
   its_own = record { only = prints_only memory_line old s new tries.only ends.1; ends = ap (λ (x : State). x.out) ends.1.only ∙ tries.tried };
   reads = λ no_fault enough. tt;
 })
-gen_stopped shop (stop.ModelRefused r) ended old s new tries ends = absurd tries.tried
+gen_stopped shop (stop.Given (given.ModelRefused r)) ended old s new tries ends = absurd tries.tried
 gen_stopped shop (stop.LogRefused k) ended old s new tries ends = absurd tries.tried
 gen_stopped shop stop.LogTooLong ended old s new tries ends = absurd tries.tried
-gen_stopped shop (stop.ScheduleRefused r) ended old s new tries ends = absurd tries.tried
+gen_stopped shop (stop.Given (given.ScheduleRefused r)) ended old s new tries ends = absurd tries.tried
 
 -- Words that are no command, and words for which memory was refused.
 

@@ -3,7 +3,5 @@ pub mod Searched
 pub mod Shown
 pub mod Solved
 pub mod Checked
-pub mod Failing
-pub mod Tested
 pub mod Verified
 pub mod Ending

@@ -9,6 +9,9 @@ use Rattle.sched_model.specs.Data.{Data}
 use Rattle.textline.specs.Lines.{Bytes}
 use Rattle.command_line.specs.declared.shop.Shop.{Shop}
 use Rattle.cpo_elab.specs.Answers.Answer.{Accepted}
+use Rattle.given_files.specs.declared.stop.Stop.{Stop as GivenStop}
+use Rattle.given_files.specs.declared.stop.Stop.TheVariants as given
+use Rattle.given_files.specs.code.Reading.{OnlyReads}
 use Rattle.commands.specs.declared.ended.Ended.{Ended}
 use Rattle.commands.specs.declared.stop.Stop.{Stop}
 use Rattle.commands.specs.declared.stop.Stop.TheVariants as stop
@@ -16,7 +19,7 @@ use Rattle.commands.specs.Ended.{is_success}
 use Rattle.commands.specs.Runs.{Source, SourceDeserves, ReadsSource, IsUnread, told_text, LogPromise, HoldsBegunLog, CutShort, ending_of}
 use Rattle.commands.specs.Runs.Source.{file, generated}
 use Rattle.commands.specs.Runs.CutShort.{before_log, in_log, in_answer}
-use Rattle.commands.specs.code.Tries.{OnlyReads, BeginsSearch, Searches, MakesModel, TriesSolve}
+use Rattle.commands.specs.code.Tries.{BeginsSearch, Searches, MakesModel, TriesSolve}
 
 -- where nothing is read
 pub nothing_read : (s : State) → OnlyReads s s
@@ -54,7 +57,7 @@ begun_cut m limit model log old s t reads deserved (inr begun) =
 
 -- the search came to no answer
 pub stopped : (m : Data) (limit : ℕ) (model : Source) (log : Bytes) (e : Stop) (old s t : State) → OnlyReads old s → IsUnread model old s → s.faults ≡ old.faults → SourceDeserves old model (Accepted m) → Searches m log limit (Err e) s t → TriesSolve model log limit (Err e) old t
-stopped m limit model log stop.Fault old s t reads unread kept deserved says = record {
+stopped m limit model log (stop.Given given.Fault) old s t reads unread kept deserved says = record {
   only = begun_only m log old s t reads says.3;
   unread = unread_on model old s t unread (begun_model m log s t says.3);
   later = omega (arith, reads.later, says.2);
@@ -64,25 +67,23 @@ stopped m limit model log stop.Fault old s t reads unread kept deserved says = r
     begun_cut m limit model log old s t reads deserved says.3,
   );
 }
-stopped m limit model log stop.NoMemory old s t reads unread kept deserved says = record {
+stopped m limit model log (stop.Given given.NoMemory) old s t reads unread kept deserved says = record {
   only = begun_only m log old s t reads says.1;
   unread = unread_on model old s t unread (begun_model m log s t says.1);
   later = omega (arith, reads.later, says.0);
   tried = (begun_out m log old s t reads says.1, begun_cut m limit model log old s t reads deserved says.1);
 }
-stopped m limit model log (stop.ModelRefused r) old s t reads unread kept deserved says = absurd says
+stopped m limit model log (stop.Given (given.ModelRefused r)) old s t reads unread kept deserved says = absurd says
 stopped m limit model log (stop.LogRefused k) old s t reads unread kept deserved says = absurd says
 stopped m limit model log stop.LogTooLong old s t reads unread kept deserved says = absurd says
-stopped m limit model log (stop.ScheduleRefused r) old s t reads unread kept deserved says = absurd says
+stopped m limit model log (stop.Given (given.ScheduleRefused r)) old s t reads unread kept deserved says = absurd says
 
 -- a job shop's text came to no model
-pub unmade : (shop : Shop) (log : Bytes) (limit : ℕ) (e : Stop) (old : State) → MakesModel shop (Err e) → TriesSolve (generated shop) log limit (Err e) old old
-unmade shop log limit stop.NoMemory old makes = record { only = refl; unread = refl; later = omega arith; tried = (refl, before_log refl) }
-unmade shop log limit (stop.ModelRefused r) old makes = record { only = refl; unread = refl; later = omega arith; tried = (nothing_read old, refl, makes, tt) }
-unmade shop log limit stop.Fault old makes = absurd makes
-unmade shop log limit (stop.LogRefused k) old makes = absurd makes
-unmade shop log limit stop.LogTooLong old makes = absurd makes
-unmade shop log limit (stop.ScheduleRefused r) old makes = absurd makes
+pub unmade : (shop : Shop) (log : Bytes) (limit : ℕ) (e : GivenStop) (old : State) → MakesModel shop (Err e) → TriesSolve (generated shop) log limit (Err (stop.Given e)) old old
+unmade shop log limit given.NoMemory old makes = record { only = refl; unread = refl; later = omega arith; tried = (refl, before_log refl) }
+unmade shop log limit (given.ModelRefused r) old makes = record { only = refl; unread = refl; later = omega arith; tried = (nothing_read old, refl, makes, tt) }
+unmade shop log limit given.Fault old makes = absurd makes
+unmade shop log limit (given.ScheduleRefused r) old makes = absurd makes
 
 -- the answer is there: what stands on the desk by then
 answered : (m : Data) (log : Bytes) (limit : ℕ) (solved : Solved) (old s t : State) → OnlyReads old s → Searches m log limit (Ok solved) s t → t ≡ record old { model = s.model; logged = t.logged; created = true; logs = with_log log old.logs; faults = s.faults }
@@ -113,7 +114,7 @@ printed m limit solved model log ended u old s t w reads unread kept deserved fa
 
 -- or a front part of it
 pub half_printed : (m : Data) (limit : ℕ) (solved : Solved) (model : Source) (log : Bytes) (e : Failed) (old s t w : State) → OnlyReads old s → IsUnread model old s → s.faults ≡ old.faults → SourceDeserves old model (Accepted m) → Searches m log limit (Ok solved) s t
-    → Writes Out (told_text model m solved) (Err e) t w → TriesSolve model log limit (Err stop.Fault) old w
+    → Writes Out (told_text model m solved) (Err e) t w → TriesSolve model log limit (Err (stop.Given given.Fault)) old w
 half_printed m limit solved model log e old s t w reads unread kept deserved says writes =
     let text : Bytes = told_text model m solved in
     let n : ℕ = writes.failed.0 in
@@ -122,7 +123,7 @@ half_printed m limit solved model log e old s t w reads unread kept deserved say
     let is : w ≡ record old { model = s.model; out = appended (take n text) old.out; logged = t.logged; created = true; logs = with_log log old.logs; faults = w.faults } =
     writes.failed.2
     ∙ ap (λ (x : State). record x { out = appended (take n text) x.out; faults = w.faults }) here in
-    subst (TriesSolve model log limit (Err stop.Fault) old) (sym is) (record {
+    subst (TriesSolve model log limit (Err (stop.Given given.Fault)) old) (sym is) (record {
       only = refl;
       unread = unread_on model old s _ unread refl;
       later = subst (λ k. k ≤ w.faults) faults writes.count.later;

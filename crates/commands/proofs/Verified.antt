@@ -10,25 +10,17 @@ use Rattle.sched_model.specs.Data.{Data}
 use Rattle.sched_model.specs.Solution.{objective_of}
 use Rattle.cpo_elab.specs.Answers.Answer.{Accepted}
 use Rattle.textline.specs.Lines.{Bytes}
+use Rattle.given_files.specs.declared.stop.Stop.TheVariants as given
+use Rattle.given_files.specs.Files.{FileDeserves, ReadsModel, ReadsSchedule}
+use Rattle.given_files.specs.code.Reading.{OnlyReads}
+use Rattle.given_files.specs.code.Testing.{OnlyTests, TestsFile}
+use Rattle.given_files.specs.laws.Verified.{both_only, verifies}
 use Rattle.commands.specs.declared.ended.Ended.TheVariants as end
-use Rattle.commands.specs.declared.stop.ScheduleRefusal.{ScheduleRefusal}
 use Rattle.commands.specs.declared.stop.Stop.TheVariants as stop
-use Rattle.commands.specs.Runs.{IfFile, FileDeserves, ReadsModel, ReadsSchedule, SpellsWithin, IsUnfit, IsVerified, RefusalDue}
-use Rattle.commands.specs.code.Tries.{OnlyReads, OnlyTests, TestsFile, TriesVerify}
 use Rattle.commands.specs.VerifyText.{verify_text}
+use Rattle.commands.specs.code.Tries.{TriesVerify}
 
--- The model and a schedule were read, and the schedule is a solution.
-
-verifies : (m : Data) (model schedule : Bytes) (a : Assignment) (old s t : State) → OnlyReads old s → FileDeserves old model (Accepted m) → TestsFile m schedule (Ok a) s t → IsVerified model schedule m a old
-verifies m model schedule a old s t reads deserved tests = record {
-  deserved = deserved;
-  spells = subst (λ (files : Option (List File)). IfFile (record old { files = files }) schedule (λ bytes. SpellsWithin m bytes a)) (ap (λ (x : State). x.files) reads.only) tests.1;
-  solves = tests.2;
-}
-
-both_only : (old s t : State) → OnlyReads old s → OnlyTests s t → t ≡ record old { model = s.model; schedule = t.schedule; faults = t.faults }
-both_only old s t reads tested = tested.only ∙ ap (λ (x : State). record x { schedule = t.schedule; faults = t.faults }) reads.only
-
+-- how far the schedule was read, from before the model was
 read_behind : (schedule : Bytes) (old s t : State) → OnlyReads old s → ReadsSchedule schedule s t → ReadsSchedule schedule old t
 read_behind schedule old s t reads far = subst (λ (files : Option (List File)). ReadsSchedule schedule (record old { files = files }) t) (ap (λ (x : State). x.files) reads.only) far
 
@@ -50,7 +42,7 @@ verify_printed m model schedule bytes a u old s t w reads kept deserved far test
 
 -- or a front part of it
 pub verify_half_printed : (m : Data) (model schedule bytes : Bytes) (a : Assignment) (e : Failed) (old s t w : State) → OnlyReads old s → s.faults ≡ old.faults → FileDeserves old model (Accepted m) → OnlyTests s t → TestsFile m schedule (Ok a) s t
-    → bytes ≡ verify_text (objective_of m a) → Writes Out bytes (Err e) t w → TriesVerify model schedule (Err stop.Fault) old w
+    → bytes ≡ verify_text (objective_of m a) → Writes Out bytes (Err e) t w → TriesVerify model schedule (Err (stop.Given given.Fault)) old w
 verify_half_printed m model schedule bytes a e old s t w reads kept deserved tested tests spelt writes =
     let text : Bytes = verify_text (objective_of m a) in
     let n : ℕ = writes.failed.0 in
@@ -60,7 +52,7 @@ verify_half_printed m model schedule bytes a e old s t w reads kept deserved tes
     writes.failed.2
     ∙ ap (λ bs. record t { out = appended (take n bs) t.out; faults = w.faults }) spelt
     ∙ ap (λ (x : State). record x { out = appended (take n text) x.out; faults = w.faults }) here in
-    subst (TriesVerify model schedule (Err stop.Fault) old) (sym is) (record {
+    subst (TriesVerify model schedule (Err (stop.Given given.Fault)) old) (sym is) (record {
       only = refl;
       later = subst (λ k. k ≤ w.faults) faults writes.count.later;
       tried = (
@@ -69,19 +61,3 @@ verify_half_printed m model schedule bytes a e old s t w reads kept deserved tes
         inr (m, a, verifies m model schedule a old s t reads deserved tests, (n, subst (λ bs. n ≤ length bs) spelt writes.failed.1, refl)),
       );
     })
-
--- The schedule is to be refused.
-pub schedule_refused : (m : Data) (model schedule : Bytes) (r : ScheduleRefusal) (old s t : State) → OnlyReads old s → FileDeserves old model (Accepted m) → ReadsModel model old s → OnlyTests s t → TestsFile m schedule (Err (stop.ScheduleRefused r)) s t
-    → TriesVerify model schedule (Err (stop.ScheduleRefused r)) old t
-schedule_refused m model schedule r old s t reads deserved far tested tests =
-    let is = both_only old s t reads tested in
-    let due : RefusalDue model schedule r old = record {
-      m = m;
-      deserved = deserved;
-      unfit = subst (λ (files : Option (List File)). IfFile (record old { files = files }) schedule (λ bytes. IsUnfit m bytes r)) (ap (λ (x : State). x.files) reads.only) tests.0;
-    } in
-    record {
-      only = subst (λ (x : State). x ≡ record old { model = x.model; schedule = x.schedule; out = x.out; faults = x.faults }) (sym is) refl;
-      later = omega (arith, reads.later, tested.later);
-      tried = (ap (λ (x : State). x.out) is, due, subst (λ (x : State). ReadsModel model old x) (sym is) far, read_behind schedule old s t reads tests.1);
-    }

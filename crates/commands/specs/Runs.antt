@@ -1,17 +1,14 @@
 -- What a run promises: which ending it has, and what it has done to the desk by then.
-use Rattle.std.specs.Prelude.{◌≡◌, ◌↔◌, ◌⊎◌, ℕ, ◌+◌, ◌≤◌, true, false, List, [], take, Option, Some, None, option_map, option_and_then, IfSome, IsSome, ⊤, ◌<◌, length, slice_get}
-use Rattle.sched_base.specs.declared.desk.File.{File}
-use Rattle.sched_base.specs.State.{State, bytes_of, with_log}
+use Rattle.std.specs.Prelude.{◌≡◌, ◌↔◌, ◌⊎◌, ℕ, ◌+◌, ◌≤◌, true, false, List, [], Option, Some, None, option_map, ⊤}
+use Rattle.sched_base.specs.State.{State, with_log}
 use Rattle.sched_base.specs.Calls.{Rose, appended, ReadsAtMost, AppendedFrom}
 use Rattle.sched_model.specs.declared.types.Answer.{Answer as Printed}
 use Rattle.sched_model.specs.declared.types.Answer.TheVariants as answer
 use Rattle.sched_model.specs.declared.types.Solved.{Solved}
 use Rattle.sched_model.specs.declared.types.Assignment.{Assignment}
-use Rattle.sched_model.specs.declared.types.Constraint.{Constraint as Sentence}
 use Rattle.sched_model.specs.Words.{is_empty}
 use Rattle.sched_model.specs.Data.{Data}
-use Rattle.sched_model.specs.Sentences.{Holds}
-use Rattle.sched_model.specs.Solution.{IsSolution, objective_of}
+use Rattle.sched_model.specs.Solution.{objective_of}
 use Rattle.cpo_text.specs.declared.text.Refusal.{Refusal}
 use Rattle.cpo_elab.specs.Answers.{Answer}
 use Rattle.cpo_elab.specs.Answers.Answer.{Accepted, Refused}
@@ -23,7 +20,6 @@ use Rattle.command_line.specs.declared.shop.Shop.{Shop}
 use Rattle.command_line.specs.Commands.{Command, Solve, Check, Verify, Show, Gen, Trial, command_of}
 use Rattle.modelgen.specs.Generated.{generated_text}
 use Rattle.textline.specs.Lines.{Bytes}
-use Rattle.read_schedule.specs.Schedules.{Spells, IsRefused as IsNoSchedule}
 use Rattle.sched_text.specs.Answers.{answer_text, summary_text}
 use Rattle.sched_text.specs.Canonical.{canonical_text}
 use Rattle.logtext.specs.Logs.{PlainLine, IsPlainLog, plain_log}
@@ -31,53 +27,26 @@ use Rattle.checker.specs.Judgement.{IsAccepted, IsRefused, IsTooLong, log_limit}
 use Rattle.checker.specs.Checking.{log_bytes}
 use Rattle.solver.specs.Splits.{SplitFrom}
 use Rattle.solver.specs.Answers.{IsAnswer, verdict_in, shown_in, is_unfinished}
+use Rattle.given_files.specs.declared.stop.ScheduleRefusal.{ScheduleRefusal}
+use Rattle.given_files.specs.Files.{IfFile, HasFile, FileDeserves, file_of, ReadsModel, ReadsSchedule}
+use Rattle.given_files.specs.Schedules.{IsVerified, RefusalDue}
+use Rattle.given_files.specs.Told.{Tells, Reports, fault_line, memory_line, refusal_line, unfit_line}
 use Rattle.commands.specs.declared.ended.Ended.{Ended}
 use Rattle.commands.specs.declared.ended.Ended.TheVariants as end
-use Rattle.commands.specs.declared.stop.ScheduleRefusal.{ScheduleRefusal}
-use Rattle.commands.specs.declared.stop.ScheduleRefusal.TheVariants.{TooLong, Line, Constraint}
 use Rattle.commands.specs.CheckText.{check_text}
 use Rattle.commands.specs.Ended.{is_success}
 use Rattle.commands.specs.LastSchedule.{last_schedule}
-use Rattle.commands.specs.Told.{Tells, Reports, usage_line, fault_line, memory_line, refusal_line, log_line, too_long_line, unfit_line}
+use Rattle.commands.specs.Told.{usage_line, log_line, too_long_line}
 use Rattle.commands.specs.VerifyText.{verify_text}
 
 -- The files of a desk.
 
--- where the desk tells its files, the file of this name is there, and this holds of its bytes
-abbrev pub IfFile : State → Bytes → (Bytes → Type 0) → Type 0
-IfFile s name P = IfSome s.files (λ files. IsSome (bytes_of files name)) × IfSome s.files (λ files. IfSome (bytes_of files name) P)
-
--- of a longer file the first 16,777,217 bytes decide
-abbrev pub model_bytes : Bytes → Bytes
-model_bytes bytes = take 16777217 bytes
-
--- of the file of this name, where the desk tells its files and this one is there, so many bytes were read at most, and the
--- others are left in its slot: of the model one byte beyond its limit of 16,777,216, of the log one beyond 2^62, and of the
--- schedule one beyond its limit of 67,108,864
-abbrev pub file_of : State → Bytes → Option Bytes
-file_of s name = option_and_then (λ files. bytes_of files name) s.files
-
-abbrev pub ReadsModel : Bytes → State → State → Type 0
-ReadsModel name old new = ReadsAtMost 16777217 (file_of old name) new.model.left
-
+-- of the file of this name, where the desk tells its files and this one is there, one byte beyond the log's limit of 2^62 was
+-- read at most, and the others are left in its slot
 abbrev pub ReadsLog : Bytes → State → State → Type 0
 ReadsLog name old new = ReadsAtMost (log_limit + 1) (file_of old name) new.log.left
 
-abbrev pub schedule_limit : ℕ
-schedule_limit = 67108864
-
-abbrev pub ReadsSchedule : Bytes → State → State → Type 0
-ReadsSchedule name old new = ReadsAtMost (schedule_limit + 1) (file_of old name) new.schedule.left
-
--- the text in the file of this name deserves this
-abbrev pub FileDeserves : State → Bytes → Answer → Type 0
-FileDeserves s name answer = IfFile s name (λ bytes. Deserves (model_bytes bytes) answer)
-
--- the desk tells its files, and this one is there
-abbrev pub HasFile : State → Bytes → Type 0
-HasFile s name = (files : List File) × (s.files ≡ Some files) × IsSome (bytes_of files name)
-
--- so is each file that the command reads
+-- the desk tells its files, and each that the command reads is there
 abbrev pub HasFiles : Option Command → State → Type 0
 HasFiles None s = ⊤
 HasFiles (Some (Solve model log limit)) s = HasFile s model
@@ -275,44 +244,15 @@ pub record CheckPromise (model log : Bytes) (result : Ended) (old new : State) :
 
 -- What `verify` promises.
 
--- the schedule's bytes are within their limit, and spell this assignment
-abbrev pub SpellsWithin : Data → Bytes → Assignment → Type 0
-SpellsWithin m bytes a = (length bytes ≤ schedule_limit) × Spells m bytes a
-
--- this constraint doesn't hold, and each before it does
-pub record FailsFirst (m : Data) (a : Assignment) (c : ℕ) : Type 0 where
-  pub before : (j : ℕ) (k : Sentence) → j < c → slice_get m.constraints j ≡ Some k → Holds m a k
-  pub sentence : Sentence
-  pub there : slice_get m.constraints c ≡ Some sentence
-  pub fails : Holds m a sentence → ⊥
-
--- The refusal that is due of these bytes: they are longer than their limit; or they are no schedule text, and this is the
--- first line that is wrong or missing; or the assignment that they spell breaks a constraint, and this is the first of them.
-abbrev pub IsUnfit : Data → Bytes → ScheduleRefusal → Type 0
-IsUnfit m bytes TooLong = schedule_limit < length bytes
-IsUnfit m bytes (Line k) = (length bytes ≤ schedule_limit) × IsNoSchedule m bytes k
-IsUnfit m bytes (Constraint c) = (a : Assignment) × SpellsWithin m bytes a × FailsFirst m a c
-
--- the text of the model's file deserves this model, and the schedule's file spells this assignment, which is a solution
-pub record IsVerified (model schedule : Bytes) (m : Data) (a : Assignment) (s : State) : Type 0 where
-  pub deserved : FileDeserves s model (Accepted m)
-  pub spells : IfFile s schedule (λ bytes. SpellsWithin m bytes a)
-  pub solves : IsSolution m a
-
--- it is, and exactly the text that says so, with its value where the model has an objective, was printed
+-- the schedule's file holds a solution of the model that the text of the model's file deserves, and exactly the text that says
+-- so, with its value where the model has an objective, was printed
 pub record VerifiesSchedule (model schedule : Bytes) (old new : State) : Type 0 where
   pub m : Data
   pub a : Assignment
   pub verified : IsVerified model schedule m a old
   pub printed : new.out ≡ appended (verify_text (objective_of m a)) old.out
 
--- the text of the model's file deserves this model, and this refusal of the schedule's file is due
-pub record RefusalDue (model schedule : Bytes) (r : ScheduleRefusal) (s : State) : Type 0 where
-  pub m : Data
-  pub deserved : FileDeserves s model (Accepted m)
-  pub unfit : IfFile s schedule (λ bytes. IsUnfit m bytes r)
-
--- it is, and is told
+-- this refusal of the schedule's file is due, and is told
 pub record RefusesSchedule (model schedule : Bytes) (old new : State) : Type 0 where
   pub refusal : ScheduleRefusal
   pub due : RefusalDue model schedule refusal old

@@ -1,24 +1,15 @@
 ghost use Rattle.std.specs.Prelude.{◌≡◌, ◌++◌, ◌∷◌, [], OnOk, IfOk};
-ghost use Rattle.std.specs.Fmt.{decimal, signed_decimal};
+ghost use Rattle.std.specs.Fmt.{signed_decimal};
 ghost use Rattle.kernel.specs.declared.types.Verdict.TheVariants.{Unclosed};
 ghost use Rattle.textline.specs.Lines.{line};
 ghost use Rattle.commands.specs.CheckText.{verdict_words, nodes_line, check_text};
 
 use checker::Checked;
-use itoa::Buffer;
+use given_files::push_told;
 use kernel::Verdict;
 use sched_base::NoMemory;
 use std::alloc::Global;
 use textline::push_number;
-
-/// Puts the decimal spelling of a count behind the bytes.
-pub fn push_count(bytes: &mut Vec<u8>, n: u64) -> Result<(), NoMemory>
-    ensures { OnOk result (bytes.new.items ≡ bytes.old.items ++ decimal n) }
-{
-    let mut buffer = Buffer::new();
-    bytes.extend_from_slice(buffer.format(n).as_bytes())?;
-    Ok(())
-}
 
 /// A line of a word and a number.
 pub fn push_valued(bytes: &mut Vec<u8>, word: &[u8], v: i64) -> Result<(), NoMemory>
@@ -56,8 +47,7 @@ fn push_verdict(bytes: &mut Vec<u8>, verdict: Verdict) -> Result<(), NoMemory>
 fn push_nodes(bytes: &mut Vec<u8>, n: u64) -> Result<(), NoMemory>
     ensures { OnOk result (bytes.new.items ≡ bytes.old.items ++ nodes_line n) }
 {
-    bytes.extend_from_slice(b"nodes ")?;
-    push_count(bytes, n)?;
+    push_told(bytes, b"nodes ", n)?;
     bytes.extend_from_slice(b"\n")?;
     Ok(())
 }

@@ -5,10 +5,10 @@ ghost use Rattle.commands.specs.code.Tries.{JudgesFile, OnlyJudges, TriesCheck};
 
 use crate::accepted::check_bytes;
 use crate::ended::Ended;
-use crate::load::read;
 use crate::report::end_stopped;
 use crate::stop::Stop;
 use checker::{Checked, check};
+use given_files::{Stop as Given, read_file};
 use sched_base::{Desk, Inlet, Port};
 use sched_model::Model;
 use std::alloc::Global;
@@ -32,12 +32,12 @@ fn judge_file<D: Desk>(
 fn check_file<D: Desk>(alloc: Global, desk: &mut D, name: &str, log: &str) -> Result<Ended, Stop>
     ensures { TriesCheck name.now log.now result (D.state desk.old) (D.state desk.new) }
 {
-    let model = read(alloc, desk, name)?;
+    let model = read_file(alloc, desk, name)?;
     let checked = judge_file(alloc, desk, &model, log)?;
     let text = check_bytes(alloc, checked)?;
     match desk.write(Port::Out, text.as_slice()) {
         Ok(()) => Ok(Ended::Accepted),
-        Err(_) => Err(Stop::Fault),
+        Err(_) => Err(Stop::Given(Given::Fault)),
     }
 }
 

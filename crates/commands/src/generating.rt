@@ -9,6 +9,7 @@ use crate::report::end_stopped;
 use crate::stop::Stop;
 use command_line::Shop;
 use cpo_elab::read_model;
+use given_files::Stop as Given;
 use modelgen::generate;
 use sched_base::{Desk, NoMemory, Port};
 use sched_model::Model;
@@ -27,7 +28,7 @@ fn text_of(alloc: Global, shop: Shop) -> Result<Vec<u8>, NoMemory>
 }
 
 /// The model of a job shop.
-pub fn generated_model(alloc: Global, shop: Shop) -> Result<Model, Stop>
+pub fn generated_model(alloc: Global, shop: Shop) -> Result<Model, Given>
     requires { IsShop shop }
     ensures { MakesModel shop result }
 {
@@ -44,7 +45,7 @@ fn print_shop<D: Desk>(alloc: Global, desk: &mut D, shop: Shop) -> Result<Ended,
     let text = text_of(alloc, shop)?;
     match desk.write(Port::Out, text.as_slice()) {
         Ok(()) => Ok(Ended::Done),
-        Err(_) => Err(Stop::Fault),
+        Err(_) => Err(Stop::Given(Given::Fault)),
     }
 }
 

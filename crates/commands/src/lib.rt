@@ -6,7 +6,6 @@ mod checking;
 mod ended;
 mod generating;
 mod laws;
-mod load;
 mod report;
 mod running;
 mod showing;

@@ -1,43 +1,14 @@
-ghost use Rattle.std.specs.Prelude.{◌≡◌, ◌++◌, ◌∷◌, [], codes, OnOk, IfOk};
-ghost use Rattle.std.specs.Fmt.{decimal};
-ghost use Rattle.textline.specs.Lines.{line};
-ghost use Rattle.commands.specs.Told.{Reports, log_line, refusal_line, unfit_line};
+ghost use Rattle.std.specs.Prelude.{◌≡◌, IfOk};
+ghost use Rattle.commands.specs.Told.{log_line};
+ghost use Rattle.commands.specs.code.Stops.{ending_of_stop};
 ghost use Rattle.commands.specs.code.Tries.{EndsStopped};
 ghost use Rattle.commands.specs.declared.stop.Stop.TheVariants as stop;
 
-use crate::accepted::push_count;
 use crate::ended::Ended;
-use crate::stop::{ScheduleRefusal, Stop};
-use cpo_text::Refusal;
-use sched_base::{Desk, NoMemory, Port};
+use crate::stop::Stop;
+use given_files::{Stop as Given, push_told, report, tell};
+use sched_base::{Desk, NoMemory};
 use std::alloc::Global;
-
-/// Puts a line on standard error. A write that fails is passed over: the ending stands.
-pub fn report<D: Desk>(desk: &mut D, line: &[u8])
-    ensures { Reports line.now (D.state desk.old) (D.state desk.new) }
-{
-    let _ = desk.write(Port::Err, line);
-}
-
-/// A number, and what stands before it.
-fn push_told(bytes: &mut Vec<u8>, before: &[u8], n: u64) -> Result<(), NoMemory>
-    ensures { OnOk result (bytes.new.items ≡ bytes.old.items ++ (before.now ++ decimal n)) }
-{
-    bytes.extend_from_slice(before)?;
-    push_count(bytes, n)
-}
-
-/// The line that tells a refusal of the model.
-fn refusal_text(alloc: Global, r: Refusal) -> Result<Vec<u8>, NoMemory>
-    ensures { IfOk result (λ v. v.items ≡ refusal_line r) }
-{
-    let mut bytes = Vec::new(alloc);
-    push_told(&mut bytes, b"model refused ", u64::from(r.number))?;
-    push_told(&mut bytes, b" statement ", u64::from(r.statement))?;
-    push_told(&mut bytes, b" at ", r.at)?;
-    bytes.extend_from_slice(b"\n")?;
-    Ok(bytes)
-}
 
 /// The line that tells which line of the log is refused.
 fn log_text(alloc: Global, line: u64) -> Result<Vec<u8>, NoMemory>
@@ -47,45 +18,6 @@ fn log_text(alloc: Global, line: u64) -> Result<Vec<u8>, NoMemory>
     push_told(&mut bytes, b"log refused line ", line)?;
     bytes.extend_from_slice(b"\n")?;
     Ok(bytes)
-}
-
-/// What a schedule is refused at: a line, or a constraint.
-fn push_unfit(bytes: &mut Vec<u8>, word: &[u8], n: u32) -> Result<(), NoMemory>
-    ensures { OnOk result (bytes.new.items ≡ bytes.old.items ++ line (codes "schedule" ∷ codes "refused" ∷ word.now ∷ decimal n ∷ [])) }
-{
-    bytes.extend_from_slice(b"schedule refused ")?;
-    bytes.extend_from_slice(word)?;
-    push_told(bytes, b" ", u64::from(n))?;
-    bytes.extend_from_slice(b"\n")?;
-    Ok(())
-}
-
-/// The line that tells why the schedule is refused.
-fn unfit_text(alloc: Global, r: ScheduleRefusal) -> Result<Vec<u8>, NoMemory>
-    ensures { IfOk result (λ v. v.items ≡ unfit_line r) }
-{
-    let mut bytes = Vec::new(alloc);
-    match r {
-        ScheduleRefusal::TooLong => bytes.extend_from_slice(b"schedule refused line 0\n")?,
-        ScheduleRefusal::Line(k) => push_unfit(&mut bytes, b"line", k)?,
-        ScheduleRefusal::Constraint(c) => push_unfit(&mut bytes, b"constraint", c)?,
-    }
-    Ok(bytes)
-}
-
-fn end_model_refused<D: Desk>(alloc: Global, desk: &mut D, r: Refusal) -> Ended
-    ensures { EndsStopped (stop.ModelRefused r) result (D.state desk.old) (D.state desk.new) }
-{
-    match refusal_text(alloc, r) {
-        Ok(text) => {
-            report(desk, text.as_slice());
-            Ended::ModelRefused
-        }
-        Err(_) => {
-            report(desk, b"no memory\n");
-            Ended::NoMemory
-        }
-    }
 }
 
 fn end_log_refused<D: Desk>(alloc: Global, desk: &mut D, line: u64) -> Ended
@@ -103,19 +35,21 @@ fn end_log_refused<D: Desk>(alloc: Global, desk: &mut D, line: u64) -> Ended
     }
 }
 
-fn end_schedule_refused<D: Desk>(alloc: Global, desk: &mut D, r: ScheduleRefusal) -> Ended
-    ensures { EndsStopped (stop.ScheduleRefused r) result (D.state desk.old) (D.state desk.new) }
+fn ended_of(stop: Given) -> Ended
+    ensures { result ≡ ending_of_stop stop }
 {
-    match unfit_text(alloc, r) {
-        Ok(text) => {
-            report(desk, text.as_slice());
-            Ended::ScheduleRefused
-        }
-        Err(_) => {
-            report(desk, b"no memory\n");
-            Ended::NoMemory
-        }
+    match stop {
+        Given::Fault => Ended::Fault,
+        Given::NoMemory => Ended::NoMemory,
+        Given::ModelRefused(_) => Ended::ModelRefused,
+        Given::ScheduleRefused(_) => Ended::ScheduleRefused,
     }
+}
+
+fn end_given<D: Desk>(alloc: Global, desk: &mut D, given: Given) -> Ended
+    ensures { EndsStopped (stop.Given given) result (D.state desk.old) (D.state desk.new) }
+{
+    ended_of(tell(alloc, desk, given))
 }
 
 /// The ending of a command that came to no answer, with its line on standard error.
@@ -123,20 +57,11 @@ pub fn end_stopped<D: Desk>(alloc: Global, desk: &mut D, stop: Stop) -> Ended
     ensures { EndsStopped stop result (D.state desk.old) (D.state desk.new) }
 {
     match stop {
-        Stop::Fault => {
-            report(desk, b"fault\n");
-            Ended::Fault
-        }
-        Stop::NoMemory => {
-            report(desk, b"no memory\n");
-            Ended::NoMemory
-        }
-        Stop::ModelRefused(r) => end_model_refused(alloc, desk, r),
+        Stop::Given(given) => end_given(alloc, desk, given),
         Stop::LogRefused(line) => end_log_refused(alloc, desk, line),
         Stop::LogTooLong => {
             report(desk, b"log too long\n");
             Ended::LogRefused
         }
-        Stop::ScheduleRefused(r) => end_schedule_refused(alloc, desk, r),
     }
 }

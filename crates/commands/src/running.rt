@@ -1,17 +1,20 @@
 ghost use Rattle.std.specs.Prelude.{◌≡◌, Err, IfOk, map, string_bytes};
+ghost use Rattle.given_files.specs.Told.{Reports, memory_line};
 ghost use Rattle.commands.specs.Runs.{Runs};
-ghost use Rattle.commands.specs.Told.{Reports, memory_line, usage_line};
+ghost use Rattle.commands.specs.Told.{usage_line};
 ghost use Rattle.commands.specs.declared.ended.Ended.TheVariants as end;
 
 use crate::checking::run_check;
 use crate::ended::Ended;
 use crate::generating::run_gen;
-use crate::report::report;
+use crate::report::end_stopped;
 use crate::showing::run_show;
 use crate::solving::run_solve;
+use crate::stop::Stop;
 use crate::trying::run_trial;
 use crate::verifying::run_verify;
 use command_line::{Command, WordsFault, read_command};
+use given_files::{Stop as Given, report};
 use sched_base::Desk;
 use std::alloc::Global;
 
@@ -21,14 +24,6 @@ fn end_usage<D: Desk>(desk: &mut D) -> Ended
 {
     report(desk, b"usage: schedtool COMMAND ARGUMENTS\n");
     Ended::Usage
-}
-
-fn end_no_memory<D: Desk>(desk: &mut D) -> Ended
-    ensures ended { result ≡ end.NoMemory }
-    ensures told { Reports memory_line (D.state desk.old) (D.state desk.new) }
-{
-    report(desk, b"no memory\n");
-    Ended::NoMemory
 }
 
 fn run_words<D: Desk>(alloc: Global, words: &[String], desk: &mut D) -> Ended
@@ -42,7 +37,7 @@ fn run_words<D: Desk>(alloc: Global, words: &[String], desk: &mut D) -> Ended
         Ok(Command::Gen { shop }) => run_gen(alloc, desk, shop),
         Ok(Command::Trial { shop, log, nodes }) => run_trial(alloc, desk, shop, log, nodes),
         Err(WordsFault::Usage) => end_usage(desk),
-        Err(WordsFault::NoMemory) => end_no_memory(desk),
+        Err(WordsFault::NoMemory) => end_stopped(alloc, desk, Stop::Given(Given::NoMemory)),
     }
 }
 
@@ -56,6 +51,6 @@ pub fn run<D: Desk>(alloc: Global, words: Result<Vec<String>, WordsFault>, desk:
     match words {
         Ok(words) => run_words(alloc, words.as_slice(), desk),
         Err(WordsFault::Usage) => end_usage(desk),
-        Err(WordsFault::NoMemory) => end_no_memory(desk),
+        Err(WordsFault::NoMemory) => end_stopped(alloc, desk, Stop::Given(Given::NoMemory)),
     }
 }

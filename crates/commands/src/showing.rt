@@ -4,9 +4,9 @@ ghost use Rattle.commands.specs.Runs.{RunPromise};
 ghost use Rattle.commands.specs.code.Tries.{TriesShow};
 
 use crate::ended::Ended;
-use crate::load::read;
 use crate::report::end_stopped;
 use crate::stop::Stop;
+use given_files::{Stop as Given, read_file};
 use sched_base::Desk;
 use sched_text::print_model;
 use std::alloc::Global;
@@ -15,10 +15,10 @@ use std::alloc::Global;
 fn show_file<D: Desk>(alloc: Global, desk: &mut D, name: &str) -> Result<Ended, Stop>
     ensures { TriesShow name.now result (D.state desk.old) (D.state desk.new) }
 {
-    let model = read(alloc, desk, name)?;
+    let model = read_file(alloc, desk, name)?;
     match print_model(&model, desk) {
         Ok(()) => Ok(Ended::Done),
-        Err(_) => Err(Stop::Fault),
+        Err(_) => Err(Stop::Given(Given::Fault)),
     }
 }
 

@@ -6,9 +6,9 @@ ghost use Rattle.commands.specs.Runs.{RunPromise, ending_of, file};
 ghost use Rattle.commands.specs.code.Tries.{Searches, TriesSolve};
 
 use crate::ended::Ended;
-use crate::load::read;
 use crate::report::end_stopped;
 use crate::stop::Stop;
+use given_files::{Stop as Given, read_file};
 use sched_base::Desk;
 use sched_model::{Answer, Model, Solved};
 use sched_text::write_answer;
@@ -55,11 +55,11 @@ fn solve_file<D: Desk>(
     requires { IsLimit nodes }
     ensures { TriesSolve (file name.now) log.now nodes result (D.state desk.old) (D.state desk.new) }
 {
-    let model = read(alloc, desk, name)?;
+    let model = read_file(alloc, desk, name)?;
     let solved = search_logged(alloc, desk, &model, log, nodes)?;
     match write_answer(&model, &solved, desk) {
         Ok(()) => Ok(ending(&solved.answer)),
-        Err(_) => Err(Stop::Fault),
+        Err(_) => Err(Stop::Given(Given::Fault)),
     }
 }
 

@@ -1,81 +1,50 @@
 use checker::CheckFault;
-use cpo_text::{ReadFault, Refusal};
-use read_schedule::ScheduleFault;
-use sched_base::{Failed, NoMemory, ReadError};
+use given_files::Stop as Given;
+use sched_base::{Failed, NoMemory};
 use solver::SolveFault;
-
-/// Why a schedule is refused.
-#[derive(Clone, Copy, Debug)]
-pub enum ScheduleRefusal {
-    /// Its file is longer than its limit.
-    TooLong,
-    /// This line is the first that can't be continued to a schedule text of the model, or is missing.
-    Line(u32),
-    /// This constraint of the model is the first that doesn't hold.
-    Constraint(u32),
-}
 
 /// Why a command comes to no answer.
 #[derive(Clone, Copy, Debug)]
 pub enum Stop {
-    /// The outside failed.
-    Fault,
-    NoMemory,
-    /// The model's text deserves this.
-    ModelRefused(Refusal),
+    /// What may stop a run that reads a model and a schedule.
+    Given(Given),
     /// This line of the log is the first that is wrong or missing.
     LogRefused(u64),
     LogTooLong,
-    ScheduleRefused(ScheduleRefusal),
+}
+
+impl From<Given> for Stop {
+    ghost use Rattle.std.specs.Prelude.{◌≡◌};
+    ghost use Rattle.commands.specs.declared.stop.Stop.TheVariants as stop;
+
+    ghost from_gives = { λ e s. s ≡ stop.Given e };
+
+    fn from(e: Given) -> Stop {
+        Stop::Given(e)
+    }
 }
 
 impl From<Failed> for Stop {
     ghost use Rattle.std.specs.Prelude.{◌≡◌};
+    ghost use Rattle.given_files.specs.declared.stop.Stop.TheVariants as given;
     ghost use Rattle.commands.specs.declared.stop.Stop.TheVariants as stop;
 
-    ghost from_gives = { λ _ s. s ≡ stop.Fault };
+    ghost from_gives = { λ _ s. s ≡ stop.Given given.Fault };
 
     fn from(_: Failed) -> Stop {
-        Stop::Fault
+        Stop::Given(Given::Fault)
     }
 }
 
 impl From<NoMemory> for Stop {
     ghost use Rattle.std.specs.Prelude.{◌≡◌};
+    ghost use Rattle.given_files.specs.declared.stop.Stop.TheVariants as given;
     ghost use Rattle.commands.specs.declared.stop.Stop.TheVariants as stop;
 
-    ghost from_gives = { λ _ s. s ≡ stop.NoMemory };
+    ghost from_gives = { λ _ s. s ≡ stop.Given given.NoMemory };
 
     fn from(_: NoMemory) -> Stop {
-        Stop::NoMemory
-    }
-}
-
-impl From<ReadError> for Stop {
-    ghost use Rattle.std.specs.Prelude.{◌≡◌};
-    ghost use Rattle.commands.specs.code.Stops.{stop_of_read};
-
-    ghost from_gives = { λ e s. s ≡ stop_of_read e };
-
-    fn from(e: ReadError) -> Stop {
-        match e {
-            ReadError::Failed => Stop::Fault,
-            ReadError::NoMemory => Stop::NoMemory,
-        }
-    }
-}
-
-impl From<ReadFault> for Stop {
-    ghost use Rattle.std.specs.Prelude.{◌≡◌};
-    ghost use Rattle.commands.specs.code.Stops.{stop_of_text};
-
-    ghost from_gives = { λ e s. s ≡ stop_of_text e };
-
-    fn from(e: ReadFault) -> Stop {
-        match e {
-            ReadFault::Refused(r) => Stop::ModelRefused(r),
-            ReadFault::NoMemory => Stop::NoMemory,
-        }
+        Stop::Given(Given::NoMemory)
     }
 }
 
@@ -87,8 +56,8 @@ impl From<SolveFault> for Stop {
 
     fn from(e: SolveFault) -> Stop {
         match e {
-            SolveFault::Fault => Stop::Fault,
-            SolveFault::NoMemory => Stop::NoMemory,
+            SolveFault::Fault => Stop::Given(Given::Fault),
+            SolveFault::NoMemory => Stop::Given(Given::NoMemory),
         }
     }
 }
@@ -103,22 +72,8 @@ impl From<CheckFault> for Stop {
         match e {
             CheckFault::Refused { line } => Stop::LogRefused(line),
             CheckFault::TooLong => Stop::LogTooLong,
-            CheckFault::Fault => Stop::Fault,
-            CheckFault::NoMemory => Stop::NoMemory,
-        }
-    }
-}
-
-impl From<ScheduleFault> for Stop {
-    ghost use Rattle.std.specs.Prelude.{◌≡◌};
-    ghost use Rattle.commands.specs.code.Stops.{stop_of_schedule};
-
-    ghost from_gives = { λ e s. s ≡ stop_of_schedule e };
-
-    fn from(e: ScheduleFault) -> Stop {
-        match e {
-            ScheduleFault::Refused { line } => Stop::ScheduleRefused(ScheduleRefusal::Line(line)),
-            ScheduleFault::NoMemory => Stop::NoMemory,
+            CheckFault::Fault => Stop::Given(Given::Fault),
+            CheckFault::NoMemory => Stop::Given(Given::NoMemory),
         }
     }
 }

@@ -12,6 +12,7 @@ use crate::stop::Stop;
 use command_line::Shop;
 use cpo_elab::answer_is_determined;
 use generated_models::generated_texts_deserve;
+use given_files::Stop as Given;
 use sched_base::Desk;
 use sched_text::write_summary;
 use std::alloc::Global;
@@ -33,7 +34,7 @@ fn solve_shop<D: Desk>(
     let solved = search_logged(alloc, desk, &model, log, nodes)?;
     match write_summary(&solved, desk) {
         Ok(()) => Ok(ending(&solved.answer)),
-        Err(_) => Err(Stop::Fault),
+        Err(_) => Err(Stop::Given(Given::Fault)),
     }
 }
 

@@ -1,7 +1,5 @@
 -- What drawing a schedule has done, from what its steps did.
-use Rattle.std.proofs.Common.{◌≡◌, ◌≤◌, ℕ, List, Option, Ok, Err, take, refl, sym, ap, subst, ◌∙◌, inl, inr, arith}
-use Rattle.std.specs.Prelude.{◌⊎◌}
-use Rattle.sched_base.specs.declared.desk.File.{File}
+use Rattle.std.proofs.Common.{◌≡◌, ◌≤◌, ℕ, Ok, Err, take, refl, sym, ap, subst, ◌∙◌, inl, inr, arith}
 use Rattle.sched_base.specs.declared.desk.Failed.{Failed}
 use Rattle.sched_base.specs.declared.desk.Port.TheVariants.{Out}
 use Rattle.sched_base.specs.State.{State}
@@ -11,28 +9,22 @@ use Rattle.sched_model.specs.Data.{Data}
 use Rattle.cpo_elab.specs.Answers.Answer.{Accepted}
 use Rattle.textline.specs.Lines.{Bytes}
 use Rattle.svg_page.specs.Page.{IsPage}
+use Rattle.given_files.specs.declared.stop.Stop.{Stop}
+use Rattle.given_files.specs.declared.stop.Stop.TheVariants as stop
+use Rattle.given_files.specs.Files.{FileDeserves}
+use Rattle.given_files.specs.Told.{Reports, fault_line, memory_line, refusal_line, unfit_line}
+use Rattle.given_files.specs.code.Reading.{OnlyReads}
+use Rattle.given_files.specs.code.Telling.{EndsStopped}
+use Rattle.given_files.specs.code.Testing.{OnlyTests, TestsFile}
+use Rattle.given_files.specs.laws.Endings.{tells_on}
+use Rattle.given_files.specs.laws.Verified.{both_only, verifies}
 use Rattle.gantt.specs.declared.ended.Ended.{Ended}
 use Rattle.gantt.specs.declared.ended.Ended.TheVariants as end
-use Rattle.gantt.specs.declared.stop.ScheduleRefusal.{ScheduleRefusal}
-use Rattle.gantt.specs.declared.stop.Stop.{Stop}
-use Rattle.gantt.specs.declared.stop.Stop.TheVariants as stop
-use Rattle.gantt.specs.Told.{Tells, Reports, fault_line, memory_line, refusal_line, unfit_line}
-use Rattle.gantt.specs.Runs.{IfFile, FileDeserves, SpellsWithin, IsUnfit, IsVerified, RefusalDue, DrawPromise, DrawsPart}
-use Rattle.gantt.specs.code.Tries.{OnlyReads, OnlyTests, TestsFile, TriesDraw, EndsStopped}
+use Rattle.gantt.specs.Runs.{DrawPromise, DrawsPart}
+use Rattle.gantt.specs.code.Ended.{ending_of_stop}
+use Rattle.gantt.specs.code.Tries.{TriesDraw}
 
--- The model and a schedule were read, and the schedule is a solution.
-
-verifies : (m : Data) (model schedule : Bytes) (a : Assignment) (old s t : State) → OnlyReads old s → FileDeserves old model (Accepted m) → TestsFile m schedule (Ok a) s t → IsVerified model schedule m a old
-verifies m model schedule a old s t reads deserved tests = record {
-  deserved = deserved;
-  spells = subst (λ (files : Option (List File)). IfFile (record old { files = files }) schedule (λ bytes. SpellsWithin m bytes a)) (ap (λ (x : State). x.files) reads.only) tests.1;
-  solves = tests.2;
-}
-
-both_only : (old s t : State) → OnlyReads old s → OnlyTests s t → t ≡ record old { model = s.model; schedule = t.schedule; faults = t.faults }
-both_only old s t reads tested = tested.only ∙ ap (λ (x : State). record x { schedule = t.schedule; faults = t.faults }) reads.only
-
--- the page was printed
+-- The model and a schedule were read, and the schedule is a solution: its page was printed
 pub page_printed : (m : Data) (model schedule page : Bytes) (a : Assignment) (u v : Unit {0}) (old s t w : State) → OnlyReads old s → s.faults ≡ old.faults → FileDeserves old model (Accepted m) → OnlyTests s t → TestsFile m schedule (Ok a) s t
     → IsPage m a page → Writes Out page (Ok u) t w → TriesDraw model schedule (Ok v) old w
 page_printed m model schedule page a u v old s t w reads kept deserved tested tests drawn writes =
@@ -64,22 +56,6 @@ page_half_printed m model schedule page a e old s t w reads kept deserved tested
       );
     })
 
--- The schedule is to be refused.
-pub schedule_refused : (m : Data) (model schedule : Bytes) (r : ScheduleRefusal) (old s t : State) → OnlyReads old s → FileDeserves old model (Accepted m) → OnlyTests s t → TestsFile m schedule (Err (stop.ScheduleRefused r)) s t
-    → TriesDraw model schedule (Err (stop.ScheduleRefused r)) old t
-schedule_refused m model schedule r old s t reads deserved tested tests =
-    let is = both_only old s t reads tested in
-    let due : RefusalDue model schedule r old = record {
-      m = m;
-      deserved = deserved;
-      unfit = subst (λ (files : Option (List File)). IfFile (record old { files = files }) schedule (λ bytes. IsUnfit m bytes r)) (ap (λ (x : State). x.files) reads.only) tests;
-    } in
-    record {
-      only = subst (λ (x : State). x ≡ record old { model = x.model; schedule = x.schedule; out = x.out; faults = x.faults }) (sym is) refl;
-      later = omega (arith, reads.later, tested.later);
-      tried = (ap (λ (x : State). x.out) is, due);
-    }
-
 -- How a run ended.
 
 abbrev OnlyEnds : State → State → Type 0
@@ -90,16 +66,6 @@ OnlyTold s new = new ≡ record s { err = new.err; faults = new.faults }
 
 err_of : (old s : State) → s ≡ record old { model = s.model; schedule = s.schedule; out = s.out; faults = s.faults } → s.err ≡ old.err
 err_of old s is = ap (λ (x : State). x.err) is
-
--- the line on standard error, told from before the steps
-tells_from : (text : Bytes) (old s new : State) → s.err ≡ old.err → old.faults ≤ s.faults → Tells text s new → Tells text old new
-tells_from text old s new err later tells = record {
-  part = (tells.part.0, tells.part.1, tells.part.2 ∙ ap (appended (take tells.part.0 text)) err);
-  whole = elim tells.whole as (λ w. Rose old.faults new.faults ⊎ (new.err ≡ appended text old.err)) [
-    | inl rose ↦ inl (omega (arith, rose, later))
-    | inr all ↦ inr (all ∙ ap (appended text) err)
-  ];
-}
 
 whole_only : (old s new : State) → OnlyEnds old s → OnlyTold s new → new ≡ record old { model = new.model; schedule = new.schedule; out = new.out; err = new.err; faults = new.faults }
 whole_only old s new first told =
@@ -124,34 +90,34 @@ out_told s new told = ap (λ (x : State). x.out) told
 no_memory : (model schedule : Bytes) (old s new : State) → OnlyEnds old s → old.faults ≤ s.faults → s.out ≡ old.out → Reports memory_line s new → DrawPromise model schedule end.NoMemory old new
 no_memory model schedule old s new first later out told = record {
   only = whole_only old s new first told.only;
-  ends = (out_told s new told.only ∙ out, tells_from memory_line old s new (err_of old s first) later told.tells);
+  ends = (out_told s new told.only ∙ out, tells_on memory_line old s new (err_of old s first) later told);
 }
 
 ended_as : (model schedule : Bytes) (e ended : Ended) (old new : State) → ended ≡ e → DrawPromise model schedule e old new → DrawPromise model schedule ended old new
 ended_as model schedule e ended old new is promise = subst (λ x. DrawPromise model schedule x old new) (sym is) promise
 
-pub stopped : (model schedule : Bytes) (why : Stop) (ended : Ended) (old s new : State) → TriesDraw model schedule (Err why) old s → EndsStopped why ended s new → DrawPromise model schedule ended old new
+pub stopped : (model schedule : Bytes) (why : Stop) (ended : Ended) (old s new : State) → TriesDraw model schedule (Err why) old s → EndsStopped ending_of_stop why ended s new → DrawPromise model schedule ended old new
 stopped model schedule stop.Fault ended old s new tries ends = ended_as model schedule end.Fault ended old new ends.0 (record {
   only = whole_only old s new tries.only ends.1.only;
   ends = (
     (let rose = tries.tried.0 in let later = ends.1.later in omega (arith, rose, later)),
     tries.tried.1,
     part_same model schedule old s new (out_told s new ends.1.only) tries.tried.2,
-    tells_from fault_line old s new (err_of old s tries.only) tries.later ends.1.tells,
+    tells_on fault_line old s new (err_of old s tries.only) tries.later ends.1,
   );
 })
 stopped model schedule stop.NoMemory ended old s new tries ends = ended_as model schedule end.NoMemory ended old new ends.0 (no_memory model schedule old s new tries.only tries.later tries.tried ends.1)
 stopped model schedule (stop.ModelRefused r) ended old s new tries ends = elim ends as (λ w. DrawPromise model schedule ended old new) [
   | inl told ↦ ended_as model schedule end.ModelRefused ended old new told.0 (record {
     only = whole_only old s new tries.only told.1.only;
-    ends = (out_told s new told.1.only ∙ tries.tried.0, (r, tries.tried.1, tells_from (refusal_line r) old s new (err_of old s tries.only) tries.later told.1.tells));
+    ends = (out_told s new told.1.only ∙ tries.tried.0, (r, tries.tried.1, tells_on (refusal_line r) old s new (err_of old s tries.only) tries.later told.1));
   })
   | inr none ↦ ended_as model schedule end.NoMemory ended old new none.0 (no_memory model schedule old s new tries.only tries.later tries.tried.0 none.1)
 ]
 stopped model schedule (stop.ScheduleRefused r) ended old s new tries ends = elim ends as (λ w. DrawPromise model schedule ended old new) [
   | inl told ↦ ended_as model schedule end.ScheduleRefused ended old new told.0 (record {
     only = whole_only old s new tries.only told.1.only;
-    ends = (out_told s new told.1.only ∙ tries.tried.0, (r, tries.tried.1, tells_from (unfit_line r) old s new (err_of old s tries.only) tries.later told.1.tells));
+    ends = (out_told s new told.1.only ∙ tries.tried.0, (r, tries.tried.1, tells_on (unfit_line r) old s new (err_of old s tries.only) tries.later told.1));
   })
   | inr none ↦ ended_as model schedule end.NoMemory ended old new none.0 (no_memory model schedule old s new tries.only tries.later tries.tried.0 none.1)
 ]

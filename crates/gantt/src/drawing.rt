@@ -3,10 +3,8 @@ ghost use Rattle.gantt.specs.code.Tries.{TriesDraw};
 ghost use Rattle.gantt.specs.Runs.{DrawPromise};
 
 use crate::ended::Ended;
-use crate::load::read;
 use crate::report::end_stopped;
-use crate::stop::Stop;
-use crate::testing::test_file;
+use given_files::{Stop, read_file, test_file};
 use sched_base::{Desk, Port};
 use std::alloc::Global;
 use svg_page::svg_page;
@@ -15,7 +13,7 @@ use svg_page::svg_page;
 fn draw_file<D: Desk>(alloc: Global, desk: &mut D, name: &str, schedule: &str) -> Result<(), Stop>
     ensures { TriesDraw name.now schedule.now result (D.state desk.old) (D.state desk.new) }
 {
-    let model = read(alloc, desk, name)?;
+    let model = read_file(alloc, desk, name)?;
     let a = test_file(alloc, desk, &model, schedule)?;
     let page = svg_page(alloc, &model, &a)?;
     match desk.write(Port::Out, page.as_slice()) {

@@ -4,11 +4,8 @@
 
 mod drawing;
 mod ended;
-mod load;
 mod report;
 mod running;
-mod stop;
-mod testing;
 
 use real_desk::{RealDesk, streams, words};
 use running::run;

@@ -1,11 +1,13 @@
 ghost use Rattle.std.specs.Prelude.{◌≡◌, Err, IfOk, map, string_bytes};
+ghost use Rattle.given_files.specs.Told.{Reports, memory_line};
 ghost use Rattle.gantt.specs.Runs.{Runs};
-ghost use Rattle.gantt.specs.Told.{Reports, memory_line, usage_line};
+ghost use Rattle.gantt.specs.Told.{usage_line};
 ghost use Rattle.gantt.specs.declared.ended.Ended.TheVariants as end;
 
 use crate::drawing::run_draw;
 use crate::ended::Ended;
-use crate::report::report;
+use crate::report::end_stopped;
+use given_files::{Stop, report};
 use real_desk::words::WordsFault;
 use sched_base::Desk;
 use std::alloc::Global;
@@ -16,14 +18,6 @@ fn end_usage<D: Desk>(desk: &mut D) -> Ended
 {
     report(desk, b"usage: gantt MODEL SCHEDULE\n");
     Ended::Usage
-}
-
-fn end_no_memory<D: Desk>(desk: &mut D) -> Ended
-    ensures ended { result ≡ end.NoMemory }
-    ensures told { Reports memory_line (D.state desk.old) (D.state desk.new) }
-{
-    report(desk, b"no memory\n");
-    Ended::NoMemory
 }
 
 fn run_words<D: Desk>(alloc: Global, words: &[String], desk: &mut D) -> Ended
@@ -51,6 +45,6 @@ pub fn run<D: Desk>(alloc: Global, words: Result<Vec<String>, WordsFault>, desk:
     match words {
         Ok(words) => run_words(alloc, words.as_slice(), desk),
         Err(WordsFault::NotUtf8) => end_usage(desk),
-        Err(WordsFault::NoMemory) => end_no_memory(desk),
+        Err(WordsFault::NoMemory) => end_stopped(alloc, desk, Stop::NoMemory),
     }
 }

@@ -1,5 +1,5 @@
 use Rattle.std.proofs.Common.{refl, subst, ◌∙◌, inl}
-use Rattle.commands.specs.Told.{Reports}
+use Rattle.given_files.specs.Told.{Reports}
 use Rattle.commands.proofs.report.end_log_refused.Goals as goal
 
 pub returns-in-Ok : goal.returns-in-Ok

@@ -8,5 +8,5 @@ pub returns-in-Err-NoMemory : goal.returns-in-Err-NoMemory
 returns-in-Err-NoMemory g c =
     let command = command_of (map string_bytes c.args.words.now) in
     let old = g.D.Desk.state c.args.desk.now in
-    let new = g.D.Desk.state c.end_no_memory.new.desk in
-    subst (λ e. RunPromise command e old new) (sym c.end_no_memory.ensures.ended) (words_unread command old new c.end_no_memory.ensures.told)
+    let new = g.D.Desk.state c.end_stopped.new.desk in
+    subst (λ e. RunPromise command e old new) (sym c.end_stopped.ensures.0) (words_unread command old new c.end_stopped.ensures.1)

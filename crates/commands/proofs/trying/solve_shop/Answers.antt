@@ -1,4 +1,5 @@
 use Rattle.std.proofs.Common.{◌≡◌, Err, rules, refl, sym, subst}
+use Rattle.commands.specs.declared.stop.Stop.TheVariants as stop
 use Rattle.commands.specs.Runs.Source.{generated}
 use Rattle.commands.specs.code.Tries.{TriesSolve}
 use Rattle.commands.proofs.Solved.{nothing_read, unmade, stopped, printed, half_printed}
@@ -7,7 +8,7 @@ use Rattle.commands.proofs.trying.solve_shop.Goals as goal
 pub returns-in_err-model : goal.returns-in_err-model
 returns-in_err-model g c =
     let old = g.D.Desk.state c.args.desk.now in
-    let is : c.from_residual.result ≡ Err c.in_err-model.field-0.0 = search rules in
+    let is : c.from_residual.result ≡ Err (stop.Given c.in_err-model.field-0.0) = search rules in
     subst (λ r. TriesSolve (generated c.args.shop) c.args.log.now c.args.nodes r old old) (sym is)
     (unmade c.args.shop c.args.log.now c.args.nodes c.in_err-model.field-0.0 old c.in_err-model.ensures)
 

@@ -1,0 +1,5 @@
+pub mod Files
+pub mod Schedules
+pub mod Told
+pub mod code
+pub mod laws
