@@ -1,3 +1,3 @@
-mod Alike
-mod Deserved
-mod Judged
+pub mod Alike
+pub mod Deserved
+pub mod Judged

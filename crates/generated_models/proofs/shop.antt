@@ -1,7 +1,7 @@
-mod Apart
-mod Lists
-mod Looked
-mod Objective
-mod ShopValid
-mod ShopWritten
-mod Sizes
+pub mod Apart
+pub mod Lists
+pub mod Looked
+pub mod Objective
+pub mod ShopValid
+pub mod ShopWritten
+pub mod Sizes

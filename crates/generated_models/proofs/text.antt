@@ -1,6 +1,6 @@
-mod Bytes
-mod Names
-mod Said
-mod SaidShops
-mod Shallow
-mod ShopSaid
+pub mod Bytes
+pub mod Names
+pub mod Said
+pub mod SaidShops
+pub mod Shallow
+pub mod ShopSaid
