@@ -18,16 +18,6 @@ use Rattle.prop_state.specs.code.Walks.{AreNamed, IsNamed, AreAll, AreAsked}
 use Rattle.prop_state.specs.code.Known.{AreKnown, AreUnknown, IfKnown, IsKnown, remembered, AreFresh, Remembers}
 use Rattle.prop_state.specs.laws.Again.{quiet_again, quiet_still}
 
-pub same_bounds : (a b : Bounds) → a.presence ≡ b.presence → a.smin ≡ b.smin → a.smax ≡ b.smax → a.emin ≡ b.emin → a.emax ≡ b.emax → a.pmin ≡ b.pmin → a.pmax ≡ b.pmax → a ≡ b
-same_bounds a b presence smin smax emin emax pmin pmax =
-    ap (λ z. record { presence = z; smin = a.smin; smax = a.smax; emin = a.emin; emax = a.emax; pmin = a.pmin; pmax = a.pmax }) presence
-    ∙ ap (λ z. record { presence = b.presence; smin = z; smax = a.smax; emin = a.emin; emax = a.emax; pmin = a.pmin; pmax = a.pmax }) smin
-    ∙ ap (λ z. record { presence = b.presence; smin = b.smin; smax = z; emin = a.emin; emax = a.emax; pmin = a.pmin; pmax = a.pmax }) smax
-    ∙ ap (λ z. record { presence = b.presence; smin = b.smin; smax = b.smax; emin = z; emax = a.emax; pmin = a.pmin; pmax = a.pmax }) emin
-    ∙ ap (λ z. record { presence = b.presence; smin = b.smin; smax = b.smax; emin = b.emin; emax = z; pmin = a.pmin; pmax = a.pmax }) emax
-    ∙ ap (λ z. record { presence = b.presence; smin = b.smin; smax = b.smax; emin = b.emin; emax = b.emax; pmin = z; pmax = a.pmax }) pmin
-    ∙ ap (λ z. record { presence = b.presence; smin = b.smin; smax = b.smax; emin = b.emin; emax = b.emax; pmin = b.pmin; pmax = z }) pmax
-
 -- at first nothing is remembered
 pub none_known : AreUnknown 0 []
 none_known = record { size = refl; each = λ k. refl }

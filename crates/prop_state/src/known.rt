@@ -43,7 +43,6 @@ fn is_same_presence(a: Presence, b: Presence) -> bool
     }
 }
 
-#[tactic(auto, using(crate::proofs::Remembering::same_bounds))]
 fn is_same(a: Bounds, b: Bounds) -> bool
     ensures { result ≡ true → a ≡ b }
 {
