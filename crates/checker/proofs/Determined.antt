@@ -4,7 +4,7 @@ use Rattle.std.proofs.lemmas.List.{append-nil}
 use Rattle.sched_model.specs.Data.{Data}
 use Rattle.sched_model.specs.Valid.{IsValid}
 use Rattle.textline.specs.Lines.{Bytes}
-use Rattle.kernel.specs.declared.types.Verdict.{Verdict}
+use Rattle.sched_model.specs.declared.types.Verdict.{Verdict}
 use Rattle.kernel.specs.Steps.{LogState, opening, verdict_of}
 use Rattle.kernel.specs.Promises.{Means}
 use Rattle.logtext.specs.declared.entry.Entry.TheVariants.{Head, Finish}

@@ -1,7 +1,7 @@
 -- How the bytes of a log are judged.
 use Rattle.std.specs.Prelude.{◌≡◌, ℕ, ◌+◌, ◌^◌, ◌<◌, ◌≤◌, List, ◌++◌, length, take, Ok}
 use Rattle.sched_model.specs.Data.{Data}
-use Rattle.kernel.specs.declared.types.Verdict.{Verdict}
+use Rattle.sched_model.specs.declared.types.Verdict.{Verdict}
 use Rattle.kernel.specs.declared.no_extra.NoWitness.{NoWitness}
 use Rattle.kernel.specs.NoExtra.{numbers_of, is_valid, refutes_none}
 use Rattle.kernel.specs.Refuting.{refutes_with}

@@ -2,7 +2,7 @@
 use Rattle.std.specs.Prelude.{◌≡◌, ℕ, List}
 use Rattle.sched_model.specs.Data.{Data}
 use Rattle.sched_model.specs.Valid.{IsValid}
-use Rattle.kernel.specs.declared.types.Verdict.{Verdict}
+use Rattle.sched_model.specs.declared.types.Verdict.{Verdict}
 use Rattle.kernel.specs.Steps.{LogState, verdict_of}
 use Rattle.kernel.specs.Promises.{Means}
 use Rattle.textline.specs.Lines.{Bytes}

@@ -12,12 +12,13 @@ use Rattle.kernel.specs.declared.types.Witness.{Witness}
 use Rattle.kernel.specs.declared.types.Line.{Line}
 use Rattle.kernel.specs.declared.types.Line.TheVariants.{Derive, Fail, Split, Sol}
 use Rattle.kernel.specs.declared.types.Found.{Found}
-use Rattle.kernel.specs.declared.types.Verdict.TheVariants.{Unclosed}
+use Rattle.sched_model.specs.declared.types.Verdict.TheVariants.{Unclosed}
 use Rattle.region.specs.Looks.{Refuting}
 use Rattle.kernel.specs.Steps.{LogState, Node, Outcome, Steps, step, step_at, best_of, best_verdict, closed_verdict}
 use Rattle.kernel.specs.Steps.Steps.{done, more}
 use Rattle.kernel.specs.laws.Outcomes.{unless_ok}
-use Rattle.solver.specs.Answers.{verdict_in, is_unfinished}
+use Rattle.sched_model.specs.Answers.{verdict_in}
+use Rattle.solver.specs.Answers.{is_unfinished}
 use Rattle.commands.specs.LastSchedule.{schedule_in, last_schedule}
 
 abbrev pub found_schedule : Option Found → Option Assignment

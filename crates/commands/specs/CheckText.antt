@@ -1,8 +1,8 @@
 -- What `check` prints: lines of words, each line ended by a line feed.
 use Rattle.std.specs.Prelude.{ℕ, List, [], ◌∷◌, ◌++◌, codes}
 use Rattle.std.specs.Fmt.{decimal, signed_decimal}
-use Rattle.kernel.specs.declared.types.Verdict.{Verdict}
-use Rattle.kernel.specs.declared.types.Verdict.TheVariants.{Optimal, Feasible, Infeasible, Unclosed}
+use Rattle.sched_model.specs.declared.types.Verdict.{Verdict}
+use Rattle.sched_model.specs.declared.types.Verdict.TheVariants.{Optimal, Feasible, Infeasible, Unclosed}
 use Rattle.textline.specs.Lines.{Bytes, line}
 use Rattle.sched_text.specs.Answers.{unfinished_words}
 

@@ -13,7 +13,7 @@ use Rattle.cpo_text.specs.declared.text.Refusal.{Refusal}
 use Rattle.cpo_elab.specs.Answers.{Answer}
 use Rattle.cpo_elab.specs.Answers.Answer.{Accepted, Refused}
 use Rattle.cpo_elab.specs.Deserves.{Deserves}
-use Rattle.kernel.specs.declared.types.Verdict.{Verdict}
+use Rattle.sched_model.specs.declared.types.Verdict.{Verdict}
 use Rattle.kernel.specs.Steps.{LogState, opening}
 use Rattle.kernel.specs.Promises.{Means}
 use Rattle.command_line.specs.declared.shop.Shop.{Shop}
@@ -26,7 +26,8 @@ use Rattle.logtext.specs.Logs.{PlainLine, IsPlainLog, plain_log}
 use Rattle.checker.specs.Judgement.{IsAccepted, IsRefused, IsTooLong, log_limit}
 use Rattle.checker.specs.Checking.{log_bytes}
 use Rattle.solver.specs.Splits.{SplitFrom}
-use Rattle.solver.specs.Answers.{IsAnswer, verdict_in, shown_in, is_unfinished}
+use Rattle.sched_model.specs.Answers.{verdict_in}
+use Rattle.solver.specs.Answers.{IsAnswer, shown_in, is_unfinished}
 use Rattle.given_files.specs.declared.stop.ScheduleRefusal.{ScheduleRefusal}
 use Rattle.given_files.specs.Files.{IfFile, HasFile, FileDeserves, file_of, ReadsModel, ReadsSchedule}
 use Rattle.given_files.specs.Schedules.{IsVerified, RefusalDue}

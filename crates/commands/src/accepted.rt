@@ -1,6 +1,6 @@
 ghost use Rattle.std.specs.Prelude.{◌≡◌, ◌++◌, ◌∷◌, [], OnOk, IfOk};
 ghost use Rattle.std.specs.Fmt.{signed_decimal};
-ghost use Rattle.kernel.specs.declared.types.Verdict.TheVariants.{Unclosed};
+ghost use Rattle.sched_model.specs.declared.types.Verdict.TheVariants.{Unclosed};
 ghost use Rattle.textline.specs.Lines.{line};
 ghost use Rattle.commands.specs.CheckText.{verdict_words, nodes_line, check_text};
 

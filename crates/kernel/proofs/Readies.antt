@@ -29,7 +29,7 @@ use Rattle.kernel.specs.declared.types.Line.TheVariants.{Derive, Fail, Split, So
 use Rattle.kernel.specs.declared.types.Found.{Found}
 use Rattle.kernel.specs.declared.types.StepFault.{StepFault}
 use Rattle.kernel.specs.declared.types.StepFault.TheVariants.{NothingLeft, NotRefuted, NotTight, NotSplitting, NotSolution, NoMemory}
-use Rattle.kernel.specs.declared.types.Verdict.TheVariants.{Unclosed}
+use Rattle.sched_model.specs.declared.types.Verdict.TheVariants.{Unclosed}
 use Rattle.region.specs.Looks.{Refuting}
 use Rattle.kernel.specs.Refuting.{refutes_with}
 use Rattle.kernel.specs.Steps.{LogState, Gives, Steps, done, more, step, opening, open_regions, is_wanted, best_of, best_verdict, closed_verdict, verdict_of}

@@ -15,10 +15,10 @@ ghost use Rattle.kernel.specs.declared.types.StepFault.TheVariants.{NoMemory as 
 use crate::agenda::Agenda;
 use crate::refuting::{is_tight, refutes};
 use crate::solution::is_wanted_solution;
-use crate::types::{Found, Line, StepFault, Verdict, Witness};
+use crate::types::{Found, Line, StepFault, Witness};
 use region::{Guess, Refuter, Region};
 use sched_base::NoMemory;
-use sched_model::{Assignment, Model, value};
+use sched_model::{Assignment, Model, Verdict, value};
 use std::alloc::Global;
 use std::marker::PhantomData;
 

@@ -15,4 +15,5 @@ pub use kernel::Kernel;
 pub use laws::loses_nothing;
 pub use no_extra::{NoExtra, NoWitness};
 pub use pending::Pending;
-pub use types::{Found, Line, StepFault, Verdict, Witness};
+pub use sched_model::Verdict;
+pub use types::{Found, Line, StepFault, Witness};

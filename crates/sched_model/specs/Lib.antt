@@ -10,6 +10,7 @@ pub mod Cumulative
 pub mod States
 pub mod Sentences
 pub mod Solution
+pub mod Answers
 pub mod Ranges
 pub mod Hull
 pub mod Valid

@@ -31,6 +31,6 @@ pub use slots::Slots;
 pub use temporal::is_precedence;
 pub use types::{
     Answer, Assignment, CompareOp, Constraint, CumulDef, End, Expr, IntervalDef, MatrixDef, Name,
-    Objective, Part, Segment, Sense, SequenceDef, Shape, Slot, Solved, StateDef, Window,
+    Objective, Part, Segment, Sense, SequenceDef, Shape, Slot, Solved, StateDef, Verdict, Window,
 };
 pub use values::value_in;

@@ -5,8 +5,6 @@ use Rattle.sched_model.specs.declared.types.Answer.{Answer}
 use Rattle.sched_model.specs.declared.types.Answer.TheVariants.{Optimal, Feasible, Infeasible, Unfinished}
 use Rattle.sched_model.specs.Data.{Data}
 use Rattle.sched_model.specs.Solution.{IsSolution, is_better, objective_of}
-use Rattle.kernel.specs.declared.types.Verdict.{Verdict}
-use Rattle.kernel.specs.declared.types.Verdict.TheVariants as verdict
 
 -- a solution of this value
 pub record IsSolutionOf (m : Data) (v : ℤ) (a : Assignment) : Type 0 where
@@ -40,13 +38,6 @@ IsAnswer m (Unfinished found) = IfFound m found
 abbrev pub is_unfinished : Answer → Bool
 is_unfinished (Unfinished found) = true
 is_unfinished _ = false
-
--- the verdict of the log behind an answer
-abbrev pub verdict_in : Answer → Verdict
-verdict_in (Optimal v a) = verdict.Optimal v
-verdict_in (Feasible a) = verdict.Feasible
-verdict_in Infeasible = verdict.Infeasible
-verdict_in (Unfinished found) = verdict.Unclosed (option_map (λ va. va.0) found)
 
 -- the schedule in it
 abbrev pub shown_in : Answer → Option Assignment

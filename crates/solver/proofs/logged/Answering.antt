@@ -10,11 +10,12 @@ use Rattle.sched_model.specs.Data.{Data}
 use Rattle.sched_model.specs.Words.{is_empty}
 use Rattle.region.specs.Cells.{Region}
 use Rattle.kernel.specs.declared.types.Found.{Found}
-use Rattle.kernel.specs.declared.types.Verdict.TheVariants.{Unclosed}
+use Rattle.sched_model.specs.declared.types.Verdict.TheVariants.{Unclosed}
 use Rattle.kernel.specs.Promises.{IsFound, Means, IfFound}
 use Rattle.kernel.specs.Steps.{LogState, open_regions, best_of, closed_verdict, best_verdict, verdict_of}
 use Rattle.logtext.specs.Logs.{PlainLine, plain_log}
-use Rattle.solver.specs.Answers.{IsAnswer, verdict_in, shown_in, is_unfinished, IfFound as IfValued}
+use Rattle.sched_model.specs.Answers.{verdict_in}
+use Rattle.solver.specs.Answers.{IsAnswer, shown_in, is_unfinished, IfFound as IfValued}
 use Rattle.solver.specs.code.Solving.{Solves}
 use Rattle.engine.specs.declared.propagator.Propagator.{Ghosts}
 use Rattle.solver.specs.declared.state.Search.{Search}

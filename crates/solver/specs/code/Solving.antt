@@ -9,7 +9,8 @@ use Rattle.logtext.specs.Logs.{PlainLine, IsPlainLog, plain_log}
 use Rattle.solver.specs.declared.fault.SolveFault.{SolveFault}
 use Rattle.solver.specs.declared.fault.SolveFault.TheVariants.{Fault, NoMemory}
 use Rattle.solver.specs.Splits.{SplitFrom}
-use Rattle.solver.specs.Answers.{IsAnswer, verdict_in, shown_in, is_unfinished}
+use Rattle.sched_model.specs.Answers.{verdict_in}
+use Rattle.solver.specs.Answers.{IsAnswer, shown_in, is_unfinished}
 
 -- the lines are a log of the model that ends with this answer, each of its splits on a bound cuts at the middle, and each comes
 -- only where nothing is left to derive, or its node has as many lines that derive as it may; it is

@@ -1,6 +1,6 @@
 use Rattle.std.proofs.Common.{◌≡◌, ◌++◌, Some, rules, sym, subst, SFits, w64}
 use Rattle.std.proofs.lemmas.Int.{to_z-of_z}
-use Rattle.kernel.specs.declared.types.Verdict.TheVariants.{Unclosed}
+use Rattle.sched_model.specs.declared.types.Verdict.TheVariants.{Unclosed}
 use Rattle.textline.specs.Lines.{line}
 use Rattle.commands.specs.CheckText.{verdict_words}
 use Rattle.commands.proofs.accepted.push_unfinished.Goals as goal
