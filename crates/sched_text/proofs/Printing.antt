@@ -1,29 +1,18 @@
 -- Printing: one step, one step after another, and what is left.
 use Rattle.std.proofs.Common.{◌≡◌, ℕ, ◌+◌, ◌≤◌, true, false, [], ◌++◌, length, take, refl, sym, ap, ◌∙◌, subst, arith, append-nil, append_assoc, length-append}
-use Rattle.std.specs.Prelude.{Ok, Err}
-use Rattle.std.proofs.lemmas.List.{take-append-le}
+use Rattle.std.specs.Prelude.{Bool, Result, Ok, Err, OnOk}
+use Rattle.std.proofs.lemmas.List.{take-append-le, take-append-drop}
 use Rattle.std.proofs.Math.Seq.{take-append-add}
 use Rattle.sched_base.specs.declared.desk.Failed.{Failed}
 use Rattle.sched_base.specs.declared.desk.Port.TheVariants.{Out}
 use Rattle.sched_base.specs.State.{State, with_faults, with_held}
 use Rattle.sched_base.specs.Calls.{Rose, Writes, appended}
+use Rattle.gatherer.specs.code.Gathering.{Gathers}
+use Rattle.gatherer.specs.laws.Gathering.{goes as goes_as, fails as fails_as}
 use Rattle.sched_base.specs.laws.Appended.{appended_nothing, appended_twice}
 use Rattle.textline.specs.Lines.{Bytes}
 use Rattle.sched_text.specs.declared.page.Page.{Page}
 use Rattle.sched_text.specs.code.Printing.{IsPrinted, Leaves, Prints}
-
--- the text stands behind what waited
-pub holds : {text : Bytes} {old new : Page} {s : State} → new.waiting.items ≡ old.waiting.items ++ text → new.failed ≡ old.failed → Prints text old new s s
-holds {text} {old} {new} {s} is same = record {
-  leaves = λ start whole rest printed. record {
-    going = λ goes. let before = printed.going (sym same ∙ goes) in (
-      before.0,
-      before.1,
-      ap (λ (t : Bytes). before.0 ++ (t ++ rest)) is ∙ ap (λ (t : Bytes). before.0 ++ t) (append_assoc old.waiting.items text rest) ∙ before.2,
-    );
-    failed = λ fails. printed.failed (sym same ∙ fails);
-  };
-}
 
 -- nothing is done after a failure
 pub passes_over : {text : Bytes} {old new : Page} {s : State} → old.failed ≡ true → new.failed ≡ true → Prints text old new s s
@@ -34,23 +23,26 @@ passes_over {text} {old} {new} {s} failed fails = record {
   };
 }
 
--- some bytes were written, and what was left of the text follows
-pub writes : {bytes text : Bytes} {u : Unit {0}} {old new : Page} {s t : State} → old.failed ≡ false → new.failed ≡ false → bytes ++ new.waiting.items ≡ old.waiting.items ++ text → Writes Out bytes (Ok u) s t
-    → Prints text old new s t
-writes {bytes} {text} {u} {old} {new} {s} {t} went goes same wrote = record {
+-- what waited and the text: a front part was written, and the others wait
+pub gathered : {text : Bytes} {u : Unit {0}} {old new : Page} {s t : State} → old.failed ≡ false → new.failed ≡ false → Gathers Out text (Ok u) old.waiting new.waiting s t → Prints text old new s t
+gathered {text} {u} {old} {new} {s} {t} went goes is = record {
   leaves = λ start whole rest printed.
       let before = printed.going went in
+      let w : Bytes = before.0 in
+      let all : Bytes = old.waiting ++ text in
+      let bytes : Bytes = take is.part.0 all in
+      let same : bytes ++ new.waiting ≡ all = ap (λ (x : Bytes). bytes ++ x) is.part.3 ∙ take-append-drop is.part.0 all in
       record {
         going = λ _. (
-          before.0 ++ bytes,
-          wrote.written
+          w ++ bytes,
+          goes_as is
               ∙ ap (λ (x : State). with_held Out (appended bytes x.out) x) before.1
-              ∙ ap (λ held. with_held Out held start) (appended_twice before.0 bytes start.out),
-          append_assoc before.0 bytes (new.waiting.items ++ rest)
-              ∙ ap (λ (x : Bytes). before.0 ++ x) (
-              sym (append_assoc bytes new.waiting.items rest)
+              ∙ ap (λ held. with_held Out held start) (appended_twice w bytes start.out),
+          append_assoc w bytes (new.waiting ++ rest)
+              ∙ ap (λ (x : Bytes). w ++ x) (
+              sym (append_assoc bytes new.waiting rest)
               ∙ ap (λ (x : Bytes). x ++ rest) same
-              ∙ append_assoc old.waiting.items text rest)
+              ∙ append_assoc old.waiting text rest)
               ∙ before.2,
         );
         failed = λ fails. let absurd : false ≡ true = sym goes ∙ fails in cc;
@@ -63,31 +55,29 @@ front_part w bytes more n within =
     ∙ sym (take-append-add w (bytes ++ more) n)
     ∙ ap (take (length w + n)) (sym (append_assoc w bytes more))
 
--- a front part of these bytes was written
-pub cut_off : {bytes : Bytes} (more : Bytes) {text : Bytes} {e : Failed} {old new : Page} {s t : State} → old.failed ≡ false → new.failed ≡ true → bytes ++ more ≡ old.waiting.items ++ text → Writes Out bytes (Err e) s t
-    → Prints text old new s t
-cut_off {bytes} more {text} {e} {old} {new} {s} {t} went fails same wrote = record {
+-- a write failed while they were gathered
+pub cut_off : {text : Bytes} {e : Failed} {old new : Page} {s t : State} → old.failed ≡ false → new.failed ≡ true → Gathers Out text (Err e) old.waiting new.waiting s t → Prints text old new s t
+cut_off {text} {e} {old} {new} {s} {t} went fails is = record {
   leaves = λ start whole rest printed.
       let before = printed.going went in
-      let n : ℕ = wrote.failed.0 in
       let w : Bytes = before.0 in
-      let is : whole ≡ (w ++ bytes) ++ (more ++ rest) =
+      let bytes : Bytes = old.waiting ++ text in
+      let wrote = fails_as is in
+      let n : ℕ = wrote.failed.0 in
+      let parts : whole ≡ (w ++ bytes) ++ rest =
       sym before.2
-      ∙ ap (λ (x : Bytes). w ++ x) (
-      sym (append_assoc old.waiting.items text rest)
-      ∙ ap (λ (x : Bytes). x ++ rest) (sym same)
-      ∙ append_assoc bytes more rest)
-      ∙ sym (append_assoc w bytes (more ++ rest)) in
+      ∙ ap (λ (x : Bytes). w ++ x) (sym (append_assoc old.waiting text rest))
+      ∙ sym (append_assoc w bytes rest) in
       record {
         going = λ goes. let absurd : true ≡ false = sym fails ∙ goes in cc;
         failed = λ _. record {
           part = (
             length w + n,
-            subst (λ (x : Bytes). length w + n ≤ length x) (sym is) (omega (arith, wrote.failed.1, length-append w bytes, length-append (w ++ bytes) (more ++ rest))),
+            subst (λ (x : Bytes). length w + n ≤ length x) (sym parts) (omega (arith, wrote.failed.1, length-append w bytes, length-append (w ++ bytes) rest)),
             wrote.failed.2
                 ∙ ap (λ (x : State). with_faults t.faults (with_held Out (appended (take n bytes) x.out) x)) before.1
                 ∙ ap (λ held. with_faults t.faults (with_held Out held start)) (appended_twice w (take n bytes) start.out)
-                ∙ ap (λ (x : Bytes). with_faults t.faults (with_held Out (appended x start.out) start)) (front_part w bytes (more ++ rest) n wrote.failed.1 ∙ ap (take (length w + n)) (sym is)),
+                ∙ ap (λ (x : Bytes). with_faults t.faults (with_held Out (appended x start.out) start)) (front_part w bytes rest n wrote.failed.1 ∙ ap (take (length w + n)) (sym parts)),
           );
           later = subst (λ (x : State). x.faults ≤ t.faults) before.1 wrote.count.later;
           rose = subst (λ (x : State). Rose x.faults t.faults) before.1 wrote.count.failed;
@@ -95,10 +85,6 @@ cut_off {bytes} more {text} {e} {old} {new} {s} {t} went fails same wrote = reco
         };
       };
 }
-
--- beside nothing that waits
-pub alone : (text : Bytes) {old new : Bytes} → old ≡ [] → new ≡ [] → text ++ new ≡ old ++ text
-alone text {old} {new} none no_more = ap (λ (x : Bytes). text ++ x) no_more ∙ append-nil text ∙ ap (λ (x : Bytes). x ++ text) (sym none)
 
 -- one step after another
 pub then : {a b c : Bytes} {old mid new : Page} {s t u : State} → Leaves a b old mid s t → Leaves b c mid new t u → Leaves a c old new s u
@@ -142,15 +128,15 @@ pub «as» : {a b : Bytes} {old new : Page} {s t : State} → Prints a old new s
 «as» {a} {b} {old} {new} {s} {t} prints is = subst (λ (x : Bytes). Prints x old new s t) is prints
 
 -- on a new page
-pub begins : {page : Page} {s : State} (whole : Bytes) → page.waiting.items ≡ [] → page.failed ≡ false → IsPrinted s whole (whole ++ []) page s
+pub begins : {page : Page} {s : State} (whole : Bytes) → page.waiting ≡ [] → page.failed ≡ false → IsPrinted s whole (whole ++ []) page s
 begins {page} {s} whole none goes = record {
   going = λ _. ([], ap (λ held. with_held Out held s) (appended_nothing s.out), ap (λ (x : Bytes). x ++ (whole ++ [])) none ∙ append-nil whole);
   failed = λ fails. let absurd : false ≡ true = sym goes ∙ fails in cc;
 }
 
 -- what was printed is one write
-pub printed : {start : State} {whole : Bytes} {page : Page} {now : State} (u : Unit {0}) → page.failed ≡ false → page.waiting.items ≡ [] → IsPrinted start whole [] page now → Writes Out whole (Ok u) start now
-printed {start} {whole} {page} {now} u goes none is =
+all_printed : {start : State} {whole : Bytes} {page : Page} {now : State} (u : Unit {0}) → page.failed ≡ false → page.waiting ≡ [] → IsPrinted start whole [] page now → Writes Out whole (Ok u) start now
+all_printed {start} {whole} {page} {now} u goes none is =
     let text : (is.going goes).0 ≡ whole = sym (append-nil (is.going goes).0) ∙ ap (λ (x : Bytes). (is.going goes).0 ++ (x ++ [])) (sym none) ∙ (is.going goes).2 in
     let here : now ≡ with_held Out (appended whole start.out) start = (is.going goes).1 ∙ ap (λ (x : Bytes). with_held Out (appended x start.out) start) text in
     record {
@@ -173,3 +159,16 @@ half_printed {start} {whole} {page} {now} e fails is =
       count = record { later = cut.later; ok = tt; failed = cut.rose };
       calm = λ calm. absurd (cut.calm calm);
     }
+
+abbrev page_of : Bytes → Bool → Page
+page_of waiting failed = record { waiting = waiting; failed = failed }
+
+-- the rest of a page was written
+pub printed : {start : State} {whole : Bytes} {page : Page} {kept : Bytes} {now end : State} (r : Result (Unit {0}) Failed) → page.failed ≡ false → IsPrinted start whole [] page now → Gathers Out [] r page.waiting kept now end → OnOk r (kept ≡ [])
+    → Writes Out whole r start end
+printed {start} {whole} {page} {kept} {now} {end} (Ok u) goes is gathers none =
+    let next : Prints [] page (page_of kept false) now end = gathered goes refl gathers in
+    all_printed u refl none (next.leaves start whole [] is)
+printed {start} {whole} {page} {kept} {now} {end} (Err e) goes is gathers none =
+    let next : Prints [] page (page_of kept true) now end = cut_off goes refl gathers in
+    half_printed e refl (next.leaves start whole [] is)

@@ -1,5 +1,5 @@
 -- The text of an answer, and of a schedule: lines of words.
-use Rattle.std.specs.Prelude.{ℕ, List, [], ◌∷◌, ◌++◌, Option, Some, None, codes, flat_map, option_map, ℤ}
+use Rattle.std.specs.Prelude.{ℕ, List, [], ◌∷◌, ◌++◌, Option, Some, None, codes, flat_map, ℤ}
 use Rattle.std.specs.Fmt.{decimal, signed_decimal}
 use Rattle.sched_base.specs.declared.ids.Itv.{Itv}
 use Rattle.sched_model.specs.declared.types.IntervalDef.{IntervalDef}
@@ -12,6 +12,9 @@ use Rattle.sched_model.specs.declared.types.Assignment.{Assignment}
 use Rattle.sched_model.specs.declared.types.Answer.{Answer}
 use Rattle.sched_model.specs.declared.types.Answer.TheVariants.{Optimal, Feasible, Infeasible, Unfinished}
 use Rattle.sched_model.specs.declared.types.Solved.{Solved}
+use Rattle.sched_model.specs.declared.types.Verdict.{Verdict}
+use Rattle.sched_model.specs.declared.types.Verdict.TheVariants as verdict
+use Rattle.sched_model.specs.Answers.{verdict_in}
 use Rattle.sched_model.specs.Data.{Data}
 use Rattle.textline.specs.Lines.{Bytes, line}
 use Rattle.sched_text.specs.Pieces.{at_places, interval_names}
@@ -47,11 +50,17 @@ abbrev pub unfinished_words : Option ℤ → List Bytes
 unfinished_words None = codes "unfinished" ∷ codes "none" ∷ []
 unfinished_words (Some v) = codes "unfinished" ∷ signed_decimal v ∷ []
 
-abbrev pub verdict_words : Answer → List Bytes
-verdict_words (Optimal v a) = codes "optimal" ∷ signed_decimal v ∷ []
-verdict_words (Feasible a) = codes "feasible" ∷ []
-verdict_words Infeasible = codes "infeasible" ∷ []
-verdict_words (Unfinished found) = unfinished_words (option_map (λ va. va.0) found)
+abbrev pub verdict_words : Verdict → List Bytes
+verdict_words (verdict.Optimal v) = codes "optimal" ∷ signed_decimal v ∷ []
+verdict_words verdict.Feasible = codes "feasible" ∷ []
+verdict_words verdict.Infeasible = codes "infeasible" ∷ []
+verdict_words (verdict.Unclosed best) = unfinished_words best
+
+abbrev pub nodes_line : ℕ → Bytes
+nodes_line n = line (codes "nodes" ∷ decimal n ∷ [])
+
+abbrev pub end_line : Bytes
+end_line = line (codes "end" ∷ [])
 
 abbrev pub found_schedule : Data → Option (ℤ × Assignment) → Bytes
 found_schedule m None = []
@@ -65,8 +74,12 @@ shown_schedule m (Unfinished found) = found_schedule m found
 
 -- the verdict, the count of nodes, the schedule where there is one, and the end
 abbrev pub answer_text : Data → Solved → Bytes
-answer_text m s = line (verdict_words s.answer) ++ line (codes "nodes" ∷ decimal s.nodes ∷ []) ++ shown_schedule m s.answer ++ line (codes "end" ∷ [])
+answer_text m s = line (verdict_words (verdict_in s.answer)) ++ nodes_line s.nodes ++ shown_schedule m s.answer ++ end_line
 
 -- the same without the schedule
 abbrev pub summary_text : Solved → Bytes
-summary_text s = line (verdict_words s.answer) ++ line (codes "nodes" ∷ decimal s.nodes ∷ []) ++ line (codes "end" ∷ [])
+summary_text s = line (verdict_words (verdict_in s.answer)) ++ nodes_line s.nodes ++ end_line
+
+-- that a log is accepted with this verdict, the count of nodes, and the end
+abbrev pub check_text : Verdict → ℕ → Bytes
+check_text v n = line (codes "accepted" ∷ verdict_words v) ++ nodes_line n ++ end_line

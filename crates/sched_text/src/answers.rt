@@ -1,8 +1,9 @@
 ghost use Rattle.std.specs.Prelude.{◌≡◌, ◌++◌, ◌∷◌, [], codes, flat_map};
 ghost use Rattle.std.specs.Fmt.{decimal, signed_decimal};
 ghost use Rattle.sched_base.specs.Calls.{Writes};
+ghost use Rattle.sched_model.specs.Answers.{verdict_in};
 ghost use Rattle.textline.specs.Lines.{line, spaced};
-ghost use Rattle.sched_text.specs.Answers.{slot_words, slot_line, label, order_line, segment_words, segments_line, schedule_lines, unfinished_words, verdict_words, shown_schedule, answer_text, summary_text};
+ghost use Rattle.sched_text.specs.Answers.{slot_words, slot_line, label, order_line, segment_words, segments_line, schedule_lines, unfinished_words, verdict_words, nodes_line, end_line, shown_schedule, answer_text, summary_text, check_text};
 ghost use Rattle.sched_text.specs.Pieces.{at_places, interval_name};
 ghost use Rattle.sched_text.specs.code.Printing.{Prints};
 
@@ -10,7 +11,7 @@ use crate::page::{Page, finish, new_page, put_text};
 use crate::pieces::{put_count, put_interval, put_number};
 use sched_base::{Desk, Failed, Itv, List, Port};
 use sched_model::{
-    Answer, Assignment, IntervalDef, Model, Segment, SequenceDef, Slot, Solved, StateDef,
+    Answer, Assignment, IntervalDef, Model, Segment, SequenceDef, Slot, Solved, StateDef, Verdict,
 };
 
 /// A line of a word and a number.
@@ -180,26 +181,45 @@ fn put_found<D: Desk>(page: &mut Page, desk: &mut D, best: Option<i64>)
     }
 }
 
-fn put_verdict<D: Desk>(page: &mut Page, desk: &mut D, answer: &Answer)
-    ensures { Prints (line (verdict_words answer.now)) page.old page.new (D.state desk.old) (D.state desk.new) }
+/// The line of a verdict.
+fn put_verdict<D: Desk>(page: &mut Page, desk: &mut D, verdict: Verdict)
+    ensures { Prints (line (verdict_words verdict)) page.old page.new (D.state desk.old) (D.state desk.new) }
 {
-    match answer {
-        Answer::Optimal(v, _) => put_valued(page, desk, b"optimal", *v),
-        Answer::Feasible(_) => put_text(page, desk, b"feasible\n"),
-        Answer::Infeasible => put_text(page, desk, b"infeasible\n"),
-        Answer::Unfinished(found) => match found {
-            None => put_found(page, desk, None),
-            Some((v, _)) => put_found(page, desk, Some(*v)),
-        },
+    match verdict {
+        Verdict::Optimal(v) => put_valued(page, desk, b"optimal", v),
+        Verdict::Feasible => put_text(page, desk, b"feasible\n"),
+        Verdict::Infeasible => put_text(page, desk, b"infeasible\n"),
+        Verdict::Unclosed { best } => put_found(page, desk, best),
     }
 }
 
+/// The line of a count of nodes.
 fn put_nodes<D: Desk>(page: &mut Page, desk: &mut D, n: u64)
-    ensures { Prints (line (codes "nodes" ∷ decimal n ∷ [])) page.old page.new (D.state desk.old) (D.state desk.new) }
+    ensures { Prints (nodes_line n) page.old page.new (D.state desk.old) (D.state desk.new) }
 {
     put_text(page, desk, b"nodes ");
     put_count(page, desk, n);
     put_text(page, desk, b"\n");
+}
+
+/// The last line.
+fn put_end<D: Desk>(page: &mut Page, desk: &mut D)
+    ensures { Prints end_line page.old page.new (D.state desk.old) (D.state desk.new) }
+{
+    put_text(page, desk, b"end\n");
+}
+
+/// What an answer says without its schedules.
+fn verdict_of(answer: &Answer) -> Verdict
+    ensures { result ≡ verdict_in answer.now }
+{
+    match answer {
+        Answer::Optimal(v, _) => Verdict::Optimal(*v),
+        Answer::Feasible(_) => Verdict::Feasible,
+        Answer::Infeasible => Verdict::Infeasible,
+        Answer::Unfinished(None) => Verdict::Unclosed { best: None },
+        Answer::Unfinished(Some((v, _))) => Verdict::Unclosed { best: Some(*v) },
+    }
 }
 
 fn put_shown<D: Desk>(page: &mut Page, desk: &mut D, model: &Model, answer: &Answer)
@@ -219,10 +239,10 @@ fn put_shown<D: Desk>(page: &mut Page, desk: &mut D, model: &Model, answer: &Ans
 fn put_answer<D: Desk>(page: &mut Page, desk: &mut D, model: &Model, solved: &Solved)
     ensures { Prints (answer_text model.now solved.now) page.old page.new (D.state desk.old) (D.state desk.new) }
 {
-    put_verdict(page, desk, &solved.answer);
+    put_verdict(page, desk, verdict_of(&solved.answer));
     put_nodes(page, desk, solved.nodes);
     put_shown(page, desk, model, &solved.answer);
-    put_text(page, desk, b"end\n");
+    put_end(page, desk);
 }
 
 /// Writes the text of an answer to standard output, as one write does: a line with the verdict and a
@@ -239,9 +259,9 @@ pub fn write_answer<D: Desk>(model: &Model, solved: &Solved, desk: &mut D) -> Re
 fn put_summary<D: Desk>(page: &mut Page, desk: &mut D, solved: &Solved)
     ensures { Prints (summary_text solved.now) page.old page.new (D.state desk.old) (D.state desk.new) }
 {
-    put_verdict(page, desk, &solved.answer);
+    put_verdict(page, desk, verdict_of(&solved.answer));
     put_nodes(page, desk, solved.nodes);
-    put_text(page, desk, b"end\n");
+    put_end(page, desk);
 }
 
 /// Writes the text of an answer without the lines of its schedule to standard output, as one write
@@ -251,5 +271,24 @@ pub fn write_summary<D: Desk>(solved: &Solved, desk: &mut D) -> Result<(), Faile
 {
     let mut page = new_page();
     put_summary(&mut page, desk, solved);
+    finish(page, desk)
+}
+
+fn put_accepted<D: Desk>(page: &mut Page, desk: &mut D, verdict: Verdict, nodes: u64)
+    ensures { Prints (check_text verdict nodes) page.old page.new (D.state desk.old) (D.state desk.new) }
+{
+    put_text(page, desk, b"accepted ");
+    put_verdict(page, desk, verdict);
+    put_nodes(page, desk, nodes);
+    put_end(page, desk);
+}
+
+/// Writes the text of a log's acceptance to standard output, as one write does: a line with `accepted`
+/// and the verdict, one with the count of nodes, and `end`. It takes no memory.
+pub fn write_accepted<D: Desk>(verdict: Verdict, nodes: u64, desk: &mut D) -> Result<(), Failed>
+    ensures { Writes Port.Out (check_text verdict nodes) result (D.state desk.old) (D.state desk.new) }
+{
+    let mut page = new_page();
+    put_accepted(&mut page, desk, verdict, nodes);
     finish(page, desk)
 }

@@ -12,6 +12,6 @@ mod laws;
 mod page;
 mod pieces;
 
-pub use answers::{write_answer, write_summary};
+pub use answers::{write_accepted, write_answer, write_summary};
 pub use canonical::print_model;
 pub use laws::answer_is_told;

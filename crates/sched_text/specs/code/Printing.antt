@@ -15,7 +15,7 @@ pub record IsCutOff (start : State) (whole : Bytes) (now : State) : Type 0 where
 
 -- of the whole text some was written since the start, some waits on the page, and this is left; or a write of it failed
 pub record IsPrinted (start : State) (whole left : Bytes) (page : Page) (now : State) : Type 0 where
-  pub going : page.failed ≡ false → (written : Bytes) × (now ≡ with_held Out (appended written start.out) start) × (written ++ (page.waiting.items ++ left) ≡ whole)
+  pub going : page.failed ≡ false → (written : Bytes) × (now ≡ with_held Out (appended written start.out) start) × (written ++ (page.waiting ++ left) ≡ whole)
   pub failed : page.failed ≡ true → IsCutOff start whole now
 
 -- where this text was left to print, the second is left now

@@ -10,6 +10,7 @@ use Rattle.sched_model.specs.declared.types.Answer.{Answer}
 use Rattle.sched_model.specs.declared.types.Answer.TheVariants.{Optimal, Feasible, Infeasible, Unfinished}
 use Rattle.sched_model.specs.declared.types.Solved.{Solved}
 use Rattle.sched_model.specs.Data.{Data}
+use Rattle.sched_model.specs.Answers.{verdict_in}
 use Rattle.sched_model.specs.Words.{placewise}
 use Rattle.sched_model.specs.Domain.{is_in_domain, fits_def, lists_present, are_segments}
 use Rattle.sched_model.specs.Valid.{IsValid, is_interval_def, is_sequence_def, is_state_def}
@@ -22,7 +23,7 @@ use Rattle.textline.specs.Words.{is_word, are_words}
 use Rattle.textline.specs.laws.Lines.{line_told, one_word}
 use Rattle.textline.specs.laws.Numbers.{decimal_is_word, signed_is_word}
 use Rattle.sched_text.specs.Pieces.{at_places}
-use Rattle.sched_text.specs.Answers.{slot_line, order_line, segments_line, schedule_lines, verdict_words, shown_schedule}
+use Rattle.sched_text.specs.Answers.{slot_line, order_line, segments_line, schedule_lines, verdict_words, nodes_line, end_line, shown_schedule}
 use Rattle.sched_text.specs.code.Told.{IsPrintable, IsNumber, AnswersAreTold}
 use Rattle.sched_text.specs.laws.Places.{places_told, placewise_more}
 use Rattle.sched_text.specs.laws.Names.{names_of}
@@ -61,21 +62,24 @@ number_mag (negsuc n) h = omega (arith, ints, h.0)
 number_words : (w : Bytes) (z : ℤ) → is_word w ≡ true → IsNumber z → are_words (w ∷ signed_decimal z ∷ []) ≡ true
 number_words w z h small = one_word w (signed_decimal z ∷ []) h (one_word (signed_decimal z) [] (signed_is_word z (number_mag z small)) refl)
 
-verdict_is_words : (m : Data) (x : Answer) → IsPrintable m x → are_words (verdict_words x) ≡ true
+abbrev told_words : Answer → List Bytes
+told_words x = verdict_words (verdict_in x)
+
+verdict_is_words : (m : Data) (x : Answer) → IsPrintable m x → are_words (told_words x) ≡ true
 verdict_is_words m (Optimal v a) h = number_words (codes "optimal") v refl h.0
 verdict_is_words m (Feasible a) h = refl
 verdict_is_words m Infeasible h = refl
 verdict_is_words m (Unfinished None) h = refl
 verdict_is_words m (Unfinished (Some va)) h = number_words (codes "unfinished") va.0 refl h.0
 
-verdict_first : (x : Answer) → (w : Bytes) × (ws : List Bytes) × (verdict_words x ≡ w ∷ ws)
+verdict_first : (x : Answer) → (w : Bytes) × (ws : List Bytes) × (told_words x ≡ w ∷ ws)
 verdict_first (Optimal v a) = (codes "optimal", signed_decimal v ∷ [], refl)
 verdict_first (Feasible a) = (codes "feasible", [], refl)
 verdict_first Infeasible = (codes "infeasible", [], refl)
 verdict_first (Unfinished None) = (codes "unfinished", codes "none" ∷ [], refl)
 verdict_first (Unfinished (Some va)) = (codes "unfinished", signed_decimal va.0 ∷ [], refl)
 
-verdict_told : (m : Data) (x y : Answer) (p q : Bytes) → IsPrintable m x → IsPrintable m y → line (verdict_words x) ++ p ≡ line (verdict_words y) ++ q → (verdict_words x ≡ verdict_words y) × (p ≡ q)
+verdict_told : (m : Data) (x y : Answer) (p q : Bytes) → IsPrintable m x → IsPrintable m y → line (told_words x) ++ p ≡ line (told_words y) ++ q → (told_words x ≡ told_words y) × (p ≡ q)
 verdict_told m x y p q hx hy e =
     let a = verdict_first x in
     let b = verdict_first y in
@@ -109,7 +113,7 @@ kind (Feasible a) = 102
 kind Infeasible = 105
 kind (Unfinished found) = 117
 
-first_byte : (x : Answer) → tag (verdict_words x) ≡ kind x
+first_byte : (x : Answer) → tag (told_words x) ≡ kind x
 first_byte (Optimal v a) = refl
 first_byte (Feasible a) = refl
 first_byte Infeasible = refl
@@ -119,7 +123,7 @@ first_byte (Unfinished (Some va)) = refl
 abbrev found_of : ℤ → Assignment → Answer
 found_of v a = Unfinished (Some (v, a))
 
-same_answer : (m : Data) → IsValid m → (x y : Answer) (p : Bytes) → IsPrintable m x → IsPrintable m y → verdict_words x ≡ verdict_words y → shown_schedule m x ++ p ≡ shown_schedule m y ++ p → x ≡ y
+same_answer : (m : Data) → IsValid m → (x y : Answer) (p : Bytes) → IsPrintable m x → IsPrintable m y → told_words x ≡ told_words y → shown_schedule m x ++ p ≡ shown_schedule m y ++ p → x ≡ y
 same_answer m valid (Optimal v a) (Optimal w b) p hx hy words e =
     let number = signed_decimal_injective v w (number_mag v hx.0) (number_mag w hy.0) (second _ _ _ _ words) in
     ap (λ z. Optimal z a) number ∙ ap (Optimal w) (schedules_told m valid a b p p hx.1 hy.1 e).0
@@ -133,7 +137,7 @@ same_answer m valid (Unfinished (Some va)) (Unfinished (Some vb)) p hx hy words 
     ap (λ z. found_of z va.1) number ∙ ap (found_of vb.0) (schedules_told m valid va.1 vb.1 p p hx.1 hy.1 e).0
 same_answer m valid x y p _ _ words e = absurd (omega (arith, sym (first_byte x) ∙ ap tag words ∙ first_byte y))
 
-nodes_told : (n k : ℕ) (p q : Bytes) → n < 2 ^ 64 → k < 2 ^ 64 → line (codes "nodes" ∷ decimal n ∷ []) ++ p ≡ line (codes "nodes" ∷ decimal k ∷ []) ++ q → (n ≡ k) × (p ≡ q)
+nodes_told : (n k : ℕ) (p q : Bytes) → n < 2 ^ 64 → k < 2 ^ 64 → nodes_line n ++ p ≡ nodes_line k ++ q → (n ≡ k) × (p ≡ q)
 nodes_told n k p q hn hk e =
     let told = line_told (codes "nodes") (decimal n ∷ []) (codes "nodes") (decimal k ∷ []) p q (one_word (codes "nodes") (decimal n ∷ []) refl (one_word (decimal n) [] (decimal_is_word n hn) refl)) (one_word (codes "nodes") (decimal k ∷ []) refl (one_word (decimal k) [] (decimal_is_word k hk) refl)) e in
     (decimal_injective n k hn hk (second _ _ _ _ told.0), told.1)
@@ -146,9 +150,9 @@ made_solved n x = record { nodes = n; answer = x }
 
 pub answers_told : AnswersAreTold
 answers_told m s t valid ns nt hs ht e =
-    let whole = sym (four_parts (line (verdict_words s.answer)) (line (codes "nodes" ∷ decimal s.nodes ∷ [])) (shown_schedule m s.answer) (line (codes "end" ∷ [])))
-    ∙ e ∙ four_parts (line (verdict_words t.answer)) (line (codes "nodes" ∷ decimal t.nodes ∷ [])) (shown_schedule m t.answer) (line (codes "end" ∷ [])) in
+    let whole = sym (four_parts (line (told_words s.answer)) (nodes_line s.nodes) (shown_schedule m s.answer) end_line)
+    ∙ e ∙ four_parts (line (told_words t.answer)) (nodes_line t.nodes) (shown_schedule m t.answer) end_line in
     let words = verdict_told m s.answer t.answer _ _ hs ht whole in
     let nodes = nodes_told s.nodes t.nodes _ _ ns nt words.1 in
-    let answer = same_answer m valid s.answer t.answer (line (codes "end" ∷ [])) hs ht words.0 nodes.1 in
+    let answer = same_answer m valid s.answer t.answer end_line hs ht words.0 nodes.1 in
     ap (λ n. made_solved n s.answer) nodes.0 ∙ ap (made_solved t.nodes) answer

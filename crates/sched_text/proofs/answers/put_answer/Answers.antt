@@ -1,5 +1,8 @@
-use Rattle.sched_text.proofs.Printing.{four}
+use Rattle.std.proofs.Common.{ap}
+use Rattle.textline.specs.Lines.{line}
+use Rattle.sched_text.specs.Answers.{verdict_words}
+use Rattle.sched_text.proofs.Printing.{«as», four}
 use Rattle.sched_text.proofs.answers.put_answer.Goals as goal
 
 pub returns : goal.returns
-returns g c = four c.put_verdict.ensures c.put_nodes.ensures c.put_shown.ensures c.put_text.ensures
+returns g c = four («as» c.put_verdict.ensures (ap (λ v. line (verdict_words v)) c.verdict_of.ensures)) c.put_nodes.ensures c.put_shown.ensures c.put_end.ensures
