@@ -9,7 +9,8 @@ use Rattle.sched_model.specs.declared.types.Solved.{Solved}
 use Rattle.sched_model.specs.declared.types.Assignment.{Assignment}
 use Rattle.sched_model.specs.Data.{Data}
 use Rattle.textline.specs.Lines.{Bytes, line}
-use Rattle.sched_text.specs.Answers.{answer_text, schedule_lines, shown_schedule, verdict_words}
+use Rattle.sched_model.specs.Answers.{verdict_in}
+use Rattle.sched_text.specs.Answers.{answer_text, nodes_line, schedule_lines, shown_schedule, verdict_words}
 use Rattle.sched_text.specs.laws.Answers.{answers_told}
 use Rattle.read_schedule.specs.Schedules.{IsHeader, IsVerdict, is_line, text}
 use Rattle.read_schedule.specs.Promises.{SchedulesAreTold, AnswersAreSchedules, Shows}
@@ -66,7 +67,7 @@ schedules_told m bytes a b valid sa sb =
 
 -- answers
 
-shown_verdict : (x : Answer) (a : Assignment) → Shows x a → IsVerdict (verdict_words x)
+shown_verdict : (x : Answer) (a : Assignment) → Shows x a → IsVerdict (verdict_words (verdict_in x))
 shown_verdict (Optimal v b) a shows = inr (v, shows.0, inl refl)
 shown_verdict (Feasible b) a shows = inl refl
 shown_verdict Infeasible a shows = absurd shows
@@ -82,10 +83,10 @@ shown_lines m (Unfinished (Some va)) a shows = ap (schedule_lines m) shows.1
 
 pub answers_are : AnswersAreSchedules
 answers_are m s a few shows domain =
-    let v = line (verdict_words s.answer) in
-    let n = line (codes "nodes" ∷ decimal s.nodes ∷ []) in
+    let v = line (verdict_words (verdict_in s.answer)) in
+    let n = nodes_line s.nodes in
     record {
-      header = verdict_words s.answer ∷ (codes "nodes" ∷ decimal s.nodes ∷ []) ∷ [];
+      header = verdict_words (verdict_in s.answer) ∷ (codes "nodes" ∷ decimal s.nodes ∷ []) ∷ [];
       heads = (shown_verdict s.answer a shows, (s.nodes, few, refl));
       domain = domain;
       whole = ap (λ t. v ++ n ++ t ++ line end_row) (shown_lines m s.answer a shows)
