@@ -1,4 +1,3 @@
-pub mod Gathering
 pub mod Spaced
 pub mod Values
 pub mod Guesses

@@ -10,7 +10,8 @@ ghost use Rattle.refute_state.specs.Witness.{numbers_of as state_numbers};
 ghost use Rattle.kernel.specs.declared.types.Witness.TheVariants.{Extra};
 ghost use Rattle.logtext.specs.Spelling.{guess_words, basic_kinds, hier_kinds, seq_kinds, cumul_kinds, state_kinds, kind_words, witness_words, slot_words, member_word, order_words, segment_words, segments_words, assignment_words};
 ghost use Rattle.textline.specs.Lines.{spaced};
-ghost use Rattle.logtext.specs.code.Writing.{Gathers};
+ghost use Rattle.sched_base.specs.declared.desk.Port.TheVariants.{Log};
+ghost use Rattle.gatherer.specs.code.Gathering.{Gathers};
 
 use crate::kinds::{basic_word, cumul_word, hier_word, seq_word, state_word};
 use crate::writer::LogWriter;
@@ -29,7 +30,7 @@ impl LogWriter {
     /// A word and an interval.
     fn put_named<D: Desk>(&mut self, word: &[u8], x: Itv, desk: &mut D) -> Result<(), Failed>
         requires { (D.state desk.old).created ≡ true }
-        ensures { Gathers (word.now ++ spaced (decimal x.0 ∷ [])) result self.old self.new (D.state desk.old) (D.state desk.new) }
+        ensures { Gathers Log (word.now ++ spaced (decimal x.0 ∷ [])) result self.old self.new (D.state desk.old) (D.state desk.new) }
     {
         self.put(word, desk)?;
         self.put_number(x.0, desk)
@@ -44,7 +45,7 @@ impl LogWriter {
         desk: &mut D,
     ) -> Result<(), Failed>
         requires { (D.state desk.old).created ≡ true }
-        ensures { Gathers (word.now ++ spaced (decimal x.0 ∷ signed_decimal t ∷ [])) result self.old self.new (D.state desk.old) (D.state desk.new) }
+        ensures { Gathers Log (word.now ++ spaced (decimal x.0 ∷ signed_decimal t ∷ [])) result self.old self.new (D.state desk.old) (D.state desk.new) }
     {
         self.put(word, desk)?;
         self.put_number(x.0, desk)?;
@@ -53,7 +54,7 @@ impl LogWriter {
 
     fn put_before<D: Desk>(&mut self, p: Seq, x: Itv, y: Itv, desk: &mut D) -> Result<(), Failed>
         requires { (D.state desk.old).created ≡ true }
-        ensures { Gathers (spaced (guess_words (Before p x y))) result self.old self.new (D.state desk.old) (D.state desk.new) }
+        ensures { Gathers Log (spaced (guess_words (Before p x y))) result self.old self.new (D.state desk.old) (D.state desk.new) }
     {
         self.put(b" B", desk)?;
         self.put_number(p.0, desk)?;
@@ -64,7 +65,7 @@ impl LogWriter {
     #[tactic(auto, unfolding(textline::specs::Lines::spaced))]
     pub(crate) fn put_guess<D: Desk>(&mut self, g: Guess, desk: &mut D) -> Result<(), Failed>
         requires { (D.state desk.old).created ≡ true }
-        ensures { Gathers (spaced (guess_words g)) result self.old self.new (D.state desk.old) (D.state desk.new) }
+        ensures { Gathers Log (spaced (guess_words g)) result self.old self.new (D.state desk.old) (D.state desk.new) }
     {
         match g {
             Guess::Present(x) => self.put_named(b" P", x, desk),
@@ -85,7 +86,7 @@ impl LogWriter {
         desk: &mut D,
     ) -> Result<(), Failed>
         requires { (D.state desk.old).created ≡ true }
-        ensures { Gathers (spaced (map signed_decimal (drop from (W.numbers w.now)))) result self.old self.new (D.state desk.old) (D.state desk.new) }
+        ensures { Gathers Log (spaced (map signed_decimal (drop from (W.numbers w.now)))) result self.old self.new (D.state desk.old) (D.state desk.new) }
     {
         for i in from..w.count() {
             self.put_number(w.number(i), desk)?;
@@ -101,7 +102,7 @@ impl LogWriter {
         desk: &mut D,
     ) -> Result<(), Failed>
         requires { (D.state desk.old).created ≡ true }
-        ensures { Gathers (spaced (word.now ∷ map signed_decimal (drop 1 (W.numbers w.now)))) result self.old self.new (D.state desk.old) (D.state desk.new) }
+        ensures { Gathers Log (spaced (word.now ∷ map signed_decimal (drop 1 (W.numbers w.now)))) result self.old self.new (D.state desk.old) (D.state desk.new) }
     {
         self.put(b" ", desk)?;
         self.put(word, desk)?;
@@ -110,7 +111,7 @@ impl LogWriter {
 
     fn put_basic<D: Desk>(&mut self, w: &BasicWitness, desk: &mut D) -> Result<(), Failed>
         requires { (D.state desk.old).created ≡ true }
-        ensures { Gathers (spaced (kind_words basic_kinds (numbers_of w.now))) result self.old self.new (D.state desk.old) (D.state desk.new) }
+        ensures { Gathers Log (spaced (kind_words basic_kinds (numbers_of w.now))) result self.old self.new (D.state desk.old) (D.state desk.new) }
     {
         let place = w.number(0);
         self.put_kind(basic_word(place as usize), w, desk)
@@ -118,7 +119,7 @@ impl LogWriter {
 
     fn put_hier<D: Desk>(&mut self, w: &HierWitness, desk: &mut D) -> Result<(), Failed>
         requires { (D.state desk.old).created ≡ true }
-        ensures { Gathers (spaced (kind_words hier_kinds (hier_numbers w.now))) result self.old self.new (D.state desk.old) (D.state desk.new) }
+        ensures { Gathers Log (spaced (kind_words hier_kinds (hier_numbers w.now))) result self.old self.new (D.state desk.old) (D.state desk.new) }
     {
         let place = w.number(0);
         self.put_kind(hier_word(place as usize), w, desk)
@@ -126,7 +127,7 @@ impl LogWriter {
 
     fn put_seq<D: Desk>(&mut self, w: &SeqWitness, desk: &mut D) -> Result<(), Failed>
         requires { (D.state desk.old).created ≡ true }
-        ensures { Gathers (spaced (kind_words seq_kinds (seq_numbers w.now))) result self.old self.new (D.state desk.old) (D.state desk.new) }
+        ensures { Gathers Log (spaced (kind_words seq_kinds (seq_numbers w.now))) result self.old self.new (D.state desk.old) (D.state desk.new) }
     {
         let place = w.number(0);
         self.put_kind(seq_word(place as usize), w, desk)
@@ -134,7 +135,7 @@ impl LogWriter {
 
     fn put_cumul<D: Desk>(&mut self, w: &CumulWitness, desk: &mut D) -> Result<(), Failed>
         requires { (D.state desk.old).created ≡ true }
-        ensures { Gathers (spaced (kind_words cumul_kinds (cumul_numbers w.now))) result self.old self.new (D.state desk.old) (D.state desk.new) }
+        ensures { Gathers Log (spaced (kind_words cumul_kinds (cumul_numbers w.now))) result self.old self.new (D.state desk.old) (D.state desk.new) }
     {
         let place = w.number(0);
         self.put_kind(cumul_word(place as usize), w, desk)
@@ -142,7 +143,7 @@ impl LogWriter {
 
     fn put_state<D: Desk>(&mut self, w: &StateWitness, desk: &mut D) -> Result<(), Failed>
         requires { (D.state desk.old).created ≡ true }
-        ensures { Gathers (spaced (kind_words state_kinds (state_numbers w.now))) result self.old self.new (D.state desk.old) (D.state desk.new) }
+        ensures { Gathers Log (spaced (kind_words state_kinds (state_numbers w.now))) result self.old self.new (D.state desk.old) (D.state desk.new) }
     {
         let place = w.number(0);
         self.put_kind(state_word(place as usize), w, desk)
@@ -150,7 +151,7 @@ impl LogWriter {
 
     fn put_extra<W: Numbers, D: Desk>(&mut self, w: &W, desk: &mut D) -> Result<(), Failed>
         requires { (D.state desk.old).created ≡ true }
-        ensures { Gathers (spaced (witness_words W.numbers (Extra w.now))) result self.old self.new (D.state desk.old) (D.state desk.new) }
+        ensures { Gathers Log (spaced (witness_words W.numbers (Extra w.now))) result self.old self.new (D.state desk.old) (D.state desk.new) }
     {
         self.put(b" EXTRA", desk)?;
         self.put_number(w.count(), desk)?;
@@ -163,7 +164,7 @@ impl LogWriter {
         desk: &mut D,
     ) -> Result<(), Failed>
         requires { (D.state desk.old).created ≡ true }
-        ensures { Gathers (spaced (witness_words W.numbers w.now)) result self.old self.new (D.state desk.old) (D.state desk.new) }
+        ensures { Gathers Log (spaced (witness_words W.numbers w.now)) result self.old self.new (D.state desk.old) (D.state desk.new) }
     {
         match w {
             Witness::Basic(basic) => self.put_basic(basic, desk),
@@ -177,7 +178,7 @@ impl LogWriter {
 
     fn put_present<D: Desk>(&mut self, s: i64, e: i64, desk: &mut D) -> Result<(), Failed>
         requires { (D.state desk.old).created ≡ true }
-        ensures { Gathers (spaced (codes "p" ∷ signed_decimal s ∷ signed_decimal e ∷ [])) result self.old self.new (D.state desk.old) (D.state desk.new) }
+        ensures { Gathers Log (spaced (codes "p" ∷ signed_decimal s ∷ signed_decimal e ∷ [])) result self.old self.new (D.state desk.old) (D.state desk.new) }
     {
         self.put(b" p", desk)?;
         self.put_number(s, desk)?;
@@ -187,7 +188,7 @@ impl LogWriter {
     #[tactic(auto, unfolding(textline::specs::Lines::spaced))]
     fn put_slot<D: Desk>(&mut self, slot: Slot, desk: &mut D) -> Result<(), Failed>
         requires { (D.state desk.old).created ≡ true }
-        ensures { Gathers (spaced (slot_words slot)) result self.old self.new (D.state desk.old) (D.state desk.new) }
+        ensures { Gathers Log (spaced (slot_words slot)) result self.old self.new (D.state desk.old) (D.state desk.new) }
     {
         match slot {
             Slot::Absent => self.put(b" a", desk),
@@ -197,7 +198,7 @@ impl LogWriter {
 
     fn put_slots<D: Desk>(&mut self, slots: &[Slot], desk: &mut D) -> Result<(), Failed>
         requires { (D.state desk.old).created ≡ true }
-        ensures { Gathers (spaced (flat_map slot_words slots.now)) result self.old self.new (D.state desk.old) (D.state desk.new) }
+        ensures { Gathers Log (spaced (flat_map slot_words slots.now)) result self.old self.new (D.state desk.old) (D.state desk.new) }
     {
         for slot in slots {
             self.put_slot(*slot, desk)?;
@@ -207,7 +208,7 @@ impl LogWriter {
 
     fn put_members<D: Desk>(&mut self, members: &[Itv], desk: &mut D) -> Result<(), Failed>
         requires { (D.state desk.old).created ≡ true }
-        ensures { Gathers (spaced (map member_word members.now)) result self.old self.new (D.state desk.old) (D.state desk.new) }
+        ensures { Gathers Log (spaced (map member_word members.now)) result self.old self.new (D.state desk.old) (D.state desk.new) }
     {
         for x in members {
             self.put_number(x.0, desk)?;
@@ -217,7 +218,7 @@ impl LogWriter {
 
     fn put_order<D: Desk>(&mut self, order: &[Itv], desk: &mut D) -> Result<(), Failed>
         requires { (D.state desk.old).created ≡ true }
-        ensures { Gathers (spaced (order_words order.now)) result self.old self.new (D.state desk.old) (D.state desk.new) }
+        ensures { Gathers Log (spaced (order_words order.now)) result self.old self.new (D.state desk.old) (D.state desk.new) }
     {
         self.put(b" o", desk)?;
         self.put_number(order.len(), desk)?;
@@ -226,7 +227,7 @@ impl LogWriter {
 
     fn put_orders<D: Desk>(&mut self, orders: &[List<Itv>], desk: &mut D) -> Result<(), Failed>
         requires { (D.state desk.old).created ≡ true }
-        ensures { Gathers (spaced (flat_map order_words orders.now)) result self.old self.new (D.state desk.old) (D.state desk.new) }
+        ensures { Gathers Log (spaced (flat_map order_words orders.now)) result self.old self.new (D.state desk.old) (D.state desk.new) }
     {
         for order in orders {
             self.put_order(order.as_slice(), desk)?;
@@ -236,7 +237,7 @@ impl LogWriter {
 
     fn put_segment<D: Desk>(&mut self, segment: Segment, desk: &mut D) -> Result<(), Failed>
         requires { (D.state desk.old).created ≡ true }
-        ensures { Gathers (spaced (segment_words segment)) result self.old self.new (D.state desk.old) (D.state desk.new) }
+        ensures { Gathers Log (spaced (segment_words segment)) result self.old self.new (D.state desk.old) (D.state desk.new) }
     {
         self.put_number(segment.p, desk)?;
         self.put_number(segment.q, desk)?;
@@ -245,7 +246,7 @@ impl LogWriter {
 
     fn put_segments<D: Desk>(&mut self, segments: &[Segment], desk: &mut D) -> Result<(), Failed>
         requires { (D.state desk.old).created ≡ true }
-        ensures { Gathers (spaced (flat_map segment_words segments.now)) result self.old self.new (D.state desk.old) (D.state desk.new) }
+        ensures { Gathers Log (spaced (flat_map segment_words segments.now)) result self.old self.new (D.state desk.old) (D.state desk.new) }
     {
         for segment in segments {
             self.put_segment(*segment, desk)?;
@@ -255,7 +256,7 @@ impl LogWriter {
 
     fn put_function<D: Desk>(&mut self, segments: &[Segment], desk: &mut D) -> Result<(), Failed>
         requires { (D.state desk.old).created ≡ true }
-        ensures { Gathers (spaced (segments_words segments.now)) result self.old self.new (D.state desk.old) (D.state desk.new) }
+        ensures { Gathers Log (spaced (segments_words segments.now)) result self.old self.new (D.state desk.old) (D.state desk.new) }
     {
         self.put(b" g", desk)?;
         self.put_number(segments.len(), desk)?;
@@ -268,7 +269,7 @@ impl LogWriter {
         desk: &mut D,
     ) -> Result<(), Failed>
         requires { (D.state desk.old).created ≡ true }
-        ensures { Gathers (spaced (flat_map segments_words functions.now)) result self.old self.new (D.state desk.old) (D.state desk.new) }
+        ensures { Gathers Log (spaced (flat_map segments_words functions.now)) result self.old self.new (D.state desk.old) (D.state desk.new) }
     {
         for segments in functions {
             self.put_function(segments.as_slice(), desk)?;
@@ -282,7 +283,7 @@ impl LogWriter {
         desk: &mut D,
     ) -> Result<(), Failed>
         requires { (D.state desk.old).created ≡ true }
-        ensures { Gathers (spaced (assignment_words a.now)) result self.old self.new (D.state desk.old) (D.state desk.new) }
+        ensures { Gathers Log (spaced (assignment_words a.now)) result self.old self.new (D.state desk.old) (D.state desk.new) }
     {
         self.put_slots(a.slots.as_slice(), desk)?;
         self.put_orders(a.orders.as_slice(), desk)?;

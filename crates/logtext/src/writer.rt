@@ -1,26 +1,24 @@
-ghost use Rattle.std.specs.Prelude.{◌≡◌, [], ◌∷◌, ◌++◌, if◌then◌else◌, IfOk, OnOk, IsTrue, true, codes};
+ghost use Rattle.std.specs.Prelude.{◌≡◌, [], ◌∷◌, OnOk, IsTrue, true, codes};
 ghost use Rattle.kernel.specs.Fit.{is_fit};
 ghost use Rattle.kernel.specs.declared.types.Line.TheVariants as Line;
 ghost use Rattle.textline.specs.Lines.{line};
 ghost use Rattle.logtext.specs.Spelling.{guess_words, assignment_words, line_text, head_text, end_text};
-ghost use Rattle.logtext.specs.code.Writing.{Gathers};
+ghost use Rattle.sched_base.specs.declared.desk.Port.TheVariants.{Log};
+ghost use Rattle.gatherer.specs.code.Gathering.{Gathers};
 
+use gatherer::Gatherer;
 use itoa::{Buffer, Integer};
 use kernel::{Line, Witness};
 use region::{Guess, Numbers};
-use sched_base::{Desk, Failed, NoMemory, Port};
+use sched_base::{Desk, Failed, Port};
 use sched_model::Assignment;
-use std::alloc::Global;
 
-/// How many bytes are gathered before they are written.
-const ROOM: usize = 65_536;
-
-/// Writes the lines of a log. It gathers them, so that a line isn't a call of the system each;
-/// contracts see the bytes that still wait. After a failure nothing further is to be written: a
-/// call is still safe then, but what waits and what it writes is not promised.
+/// Writes the lines of a log. It gathers them and takes no memory; contracts see the bytes that still
+/// wait. After a failure nothing further is to be written: a call is still safe then, but what waits
+/// and what it writes is not promised.
 #[derive(Drop)]
 pub struct LogWriter {
-    waiting: Vec<u8>,
+    waiting: Gatherer,
 }
 
 impl std::marker::Model for LogWriter {
@@ -28,53 +26,17 @@ impl std::marker::Model for LogWriter {
 
     ghost Value = { List ℕ };
 
-    ghost view = { λ w. w.waiting.items };
+    ghost view = { λ w. w.waiting };
 }
 
 impl LogWriter {
-    /// A writer with nothing gathered, and room for 65,536 bytes. No later call takes memory.
-    pub fn new(alloc: Global) -> Result<LogWriter, NoMemory>
-        ensures { IfOk result (λ w. w ≡ []) }
+    /// A writer with nothing gathered.
+    pub fn new() -> LogWriter
+        ensures { result ≡ [] }
     {
-        Ok(LogWriter {
-            waiting: Vec::with_capacity(alloc, ROOM)?,
-        })
-    }
-
-    /// Puts the bytes behind those that wait, if there is room for them.
-    #[inline(always)]
-    fn hold(&mut self, bytes: &[u8]) -> bool
-        ensures { self.new ≡ (if result then self.old ++ bytes.now else self.old) }
-    {
-        if bytes.len() > self.waiting.capacity().saturating_sub(self.waiting.len()) {
-            return false;
+        LogWriter {
+            waiting: Gatherer::new(),
         }
-        self.waiting.extend_from_slice(bytes).is_ok()
-    }
-
-    /// Writes all that waits.
-    fn flush<D: Desk>(&mut self, desk: &mut D) -> Result<(), Failed>
-        requires { (D.state desk.old).created ≡ true }
-        ensures gathers { Gathers [] result self.old self.new (D.state desk.old) (D.state desk.new) }
-        ensures none { OnOk result (self.new ≡ []) }
-    {
-        desk.write(Port::Log, &self.waiting)?;
-        self.waiting.clear();
-        Ok(())
-    }
-
-    /// Writes all that waits, and puts the bytes where it was. A piece for which all the room isn't
-    /// enough goes out by itself.
-    #[inline(never)]
-    fn put_anew<D: Desk>(&mut self, bytes: &[u8], desk: &mut D) -> Result<(), Failed>
-        requires { (D.state desk.old).created ≡ true }
-        ensures { Gathers bytes.now result self.old self.new (D.state desk.old) (D.state desk.new) }
-    {
-        self.flush(desk)?;
-        if self.hold(bytes) {
-            return Ok(());
-        }
-        desk.write(Port::Log, bytes)
     }
 
     /// Puts the bytes behind those that wait. Inlined, so that a word is copied without a loop over
@@ -82,12 +44,18 @@ impl LogWriter {
     #[inline(always)]
     pub(crate) fn put<D: Desk>(&mut self, bytes: &[u8], desk: &mut D) -> Result<(), Failed>
         requires { (D.state desk.old).created ≡ true }
-        ensures { Gathers bytes.now result self.old self.new (D.state desk.old) (D.state desk.new) }
+        ensures { Gathers Log bytes.now result self.old self.new (D.state desk.old) (D.state desk.new) }
     {
-        if self.hold(bytes) {
-            return Ok(());
-        }
-        self.put_anew(bytes, desk)
+        self.waiting.put(Port::Log, bytes, desk)
+    }
+
+    /// Writes all that waits.
+    fn flush<D: Desk>(&mut self, desk: &mut D) -> Result<(), Failed>
+        requires { (D.state desk.old).created ≡ true }
+        ensures gathers { Gathers Log [] result self.old self.new (D.state desk.old) (D.state desk.new) }
+        ensures none { OnOk result (self.new ≡ []) }
+    {
+        self.waiting.flush(Port::Log, desk)
     }
 
     /// A space and a number.
@@ -97,7 +65,7 @@ impl LogWriter {
         desk: &mut D,
     ) -> Result<(), Failed>
         requires { (D.state desk.old).created ≡ true }
-        ensures { Gathers (32 ∷ I.text n) result self.old self.new (D.state desk.old) (D.state desk.new) }
+        ensures { Gathers Log (32 ∷ I.text n) result self.old self.new (D.state desk.old) (D.state desk.new) }
     {
         let mut buffer = Buffer::new();
         self.put(b" ", desk)?;
@@ -111,7 +79,7 @@ impl LogWriter {
         desk: &mut D,
     ) -> Result<(), Failed>
         requires { (D.state desk.old).created ≡ true }
-        ensures { Gathers (line_text W.numbers (Line.Derive g w.now)) result self.old self.new (D.state desk.old) (D.state desk.new) }
+        ensures { Gathers Log (line_text W.numbers (Line.Derive g w.now)) result self.old self.new (D.state desk.old) (D.state desk.new) }
     {
         self.put(b"d", desk)?;
         self.put_guess(g, desk)?;
@@ -121,7 +89,7 @@ impl LogWriter {
 
     fn put_fail<W: Numbers, D: Desk>(&mut self, w: &Witness<W>, desk: &mut D) -> Result<(), Failed>
         requires { (D.state desk.old).created ≡ true }
-        ensures { Gathers (line_text W.numbers (Line.Fail w.now)) result self.old self.new (D.state desk.old) (D.state desk.new) }
+        ensures { Gathers Log (line_text W.numbers (Line.Fail w.now)) result self.old self.new (D.state desk.old) (D.state desk.new) }
     {
         self.put(b"f", desk)?;
         self.put_witness(w, desk)?;
@@ -130,7 +98,7 @@ impl LogWriter {
 
     fn put_split<D: Desk>(&mut self, g: Guess, desk: &mut D) -> Result<(), Failed>
         requires { (D.state desk.old).created ≡ true }
-        ensures { Gathers (line (codes "s" ∷ guess_words g)) result self.old self.new (D.state desk.old) (D.state desk.new) }
+        ensures { Gathers Log (line (codes "s" ∷ guess_words g)) result self.old self.new (D.state desk.old) (D.state desk.new) }
     {
         self.put(b"s", desk)?;
         self.put_guess(g, desk)?;
@@ -139,7 +107,7 @@ impl LogWriter {
 
     fn put_sol<D: Desk>(&mut self, a: &Assignment, desk: &mut D) -> Result<(), Failed>
         requires { (D.state desk.old).created ≡ true }
-        ensures { Gathers (line (codes "v" ∷ assignment_words a.now)) result self.old self.new (D.state desk.old) (D.state desk.new) }
+        ensures { Gathers Log (line (codes "v" ∷ assignment_words a.now)) result self.old self.new (D.state desk.old) (D.state desk.new) }
     {
         self.put(b"v", desk)?;
         self.put_assignment(a, desk)?;
@@ -149,7 +117,7 @@ impl LogWriter {
     /// The first line.
     pub fn write_head<D: Desk>(&mut self, desk: &mut D) -> Result<(), Failed>
         requires { (D.state desk.old).created ≡ true }
-        ensures { Gathers head_text result self.old self.new (D.state desk.old) (D.state desk.new) }
+        ensures { Gathers Log head_text result self.old self.new (D.state desk.old) (D.state desk.new) }
     {
         self.put(b"schedlog 1\n", desk)
     }
@@ -162,7 +130,7 @@ impl LogWriter {
     ) -> Result<(), Failed>
         requires created { (D.state desk.old).created ≡ true }
         requires fit { IsTrue (is_fit W.is_valid line.now) }
-        ensures { Gathers (line_text W.numbers line.now) result self.old self.new (D.state desk.old) (D.state desk.new) }
+        ensures { Gathers Log (line_text W.numbers line.now) result self.old self.new (D.state desk.old) (D.state desk.new) }
     {
         match line {
             Line::Derive(g, w) => self.put_derive(*g, w, desk),
@@ -175,7 +143,7 @@ impl LogWriter {
     /// The last line. With it all that waited is written.
     pub fn write_end<D: Desk>(&mut self, desk: &mut D) -> Result<(), Failed>
         requires { (D.state desk.old).created ≡ true }
-        ensures gathers { Gathers end_text result self.old self.new (D.state desk.old) (D.state desk.new) }
+        ensures gathers { Gathers Log end_text result self.old self.new (D.state desk.old) (D.state desk.new) }
         ensures none { OnOk result (self.new ≡ []) }
     {
         self.put(b"end\n", desk)?;

@@ -5,7 +5,8 @@ use Rattle.std.proofs.lemmas.Int.{to_z-of_z}
 use Rattle.refute_cumul.specs.Witness.{numbers_of as cumul_numbers}
 use Rattle.logtext.specs.Spelling.{cumul_kinds}
 use Rattle.textline.specs.Lines.{spaced}
-use Rattle.logtext.specs.code.Writing.{Gathers}
+use Rattle.sched_base.specs.declared.desk.Port.TheVariants.{Log}
+use Rattle.gatherer.specs.code.Gathering.{Gathers}
 use Rattle.logtext.specs.laws.Kinds.{cumul_placed}
 use Rattle.logtext.proofs.Witnesses.{kind_place, some_number}
 use Rattle.logtext.proofs.writer.LogWriter.put_cumul.Goals as goal
@@ -23,4 +24,4 @@ returns g c =
     let there = kind_place cumul_kinds (cumul_numbers c.args.w.now) c.number-place.result (cumul_placed c.args.w.now) c.number-place.ensures in
     let fits : SFits w64 c.number-place.result = search rules in
     let word = c.cumul_word.ensures ∙ ap (λ z. get_or cumul_kinds (nat_abs z) []) (to_z-of_z w64 c.number-place.result fits ∙ there.1) in
-    subst (λ ws. Gathers (spaced ws) c.put_kind.result c.args.self.now c.put_kind.new.self (g.D.Desk.state c.args.desk.now) (g.D.Desk.state c.put_kind.new.desk)) (ap (λ w. w ∷ map signed_decimal (drop 1 (cumul_numbers c.args.w.now))) word ∙ sym there.3) c.put_kind.ensures
+    subst (λ ws. Gathers Log (spaced ws) c.put_kind.result c.args.self.now c.put_kind.new.self (g.D.Desk.state c.args.desk.now) (g.D.Desk.state c.put_kind.new.desk)) (ap (λ w. w ∷ map signed_decimal (drop 1 (cumul_numbers c.args.w.now))) word ∙ sym there.3) c.put_kind.ensures

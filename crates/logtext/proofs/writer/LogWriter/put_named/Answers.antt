@@ -1,4 +1,4 @@
-use Rattle.logtext.proofs.Gathering.{goes_on, stops}
+use Rattle.gatherer.specs.laws.Gathering.{goes_on, stops}
 use Rattle.logtext.proofs.Spaced.{last_word}
 use Rattle.logtext.proofs.writer.LogWriter.put_named.Goals as goal
 

@@ -1,5 +1,5 @@
 use Rattle.std.proofs.Common.{◌∙◌}
-use Rattle.logtext.proofs.Gathering.{goes_on_as, stops}
+use Rattle.gatherer.specs.laws.Gathering.{goes_on_as, stops}
 use Rattle.logtext.proofs.writer.LogWriter.put_number.Goals as goal
 
 pub returns-in_err-put : goal.returns-in_err-put

@@ -1,5 +1,5 @@
 use Rattle.std.proofs.lemmas.Int.{to_z-of_z}
-use Rattle.logtext.proofs.Gathering.{goes_on, stops}
+use Rattle.gatherer.specs.laws.Gathering.{goes_on, stops}
 use Rattle.logtext.proofs.Spaced.{first_word, last_word, no_word}
 use Rattle.logtext.proofs.writer.LogWriter.put_timed.Goals as goal
 

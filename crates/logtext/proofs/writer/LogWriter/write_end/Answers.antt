@@ -1,4 +1,4 @@
-use Rattle.logtext.proofs.Gathering.{goes_on}
+use Rattle.gatherer.specs.laws.Gathering.{goes_on}
 use Rattle.logtext.proofs.writer.LogWriter.write_end.Goals as goal
 
 pub returns-clause-gathers : goal.returns-clause-gathers
