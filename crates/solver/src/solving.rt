@@ -37,7 +37,7 @@ fn solve_with<P: Propagator, D: Desk>(
     ensures { Gives model.now nodes result (D.state desk.old) (D.state desk.new) }
 {
     let mut search = Search::new(alloc, model, engine, hints)?;
-    let mut writer = LogWriter::new(alloc)?;
+    let mut writer = LogWriter::new();
     writer.write_head(desk)?;
     let mut lines = LogLines { writer, desk };
     let ended = search.run(alloc, model, nodes, &mut lines);

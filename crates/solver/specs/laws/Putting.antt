@@ -5,12 +5,13 @@ use Rattle.std.proofs.Math.Seq.{take-append-add, drop-append-add}
 use Rattle.std.proofs.lemmas.Grind.{flat_map-append}
 use Rattle.std.proofs.lemmas.List.{take-append-drop}
 use Rattle.sched_base.specs.declared.desk.Failed.{Failed}
+use Rattle.sched_base.specs.declared.desk.Port.TheVariants.{Log}
 use Rattle.sched_base.specs.State.{State}
 use Rattle.sched_base.specs.Calls.{Rose, appended}
 use Rattle.sched_base.specs.laws.Appended.{appended_nothing, appended_twice}
+use Rattle.gatherer.specs.code.Gathering.{Gathers}
 use Rattle.textline.specs.Lines.{Bytes}
 use Rattle.logtext.specs.Logs.{PlainLine, plain_text, plain_lines}
-use Rattle.logtext.specs.code.Writing.{Gathers}
 use Rattle.solver.specs.code.Putting.{Puts, Breaks, PutsNamed, BreaksNamed}
 
 -- bytes that went and bytes that are held, with more behind them
@@ -85,7 +86,7 @@ unfaulted : (old new : State) (o : Option Bytes) → new ≡ record old { logged
 unfaulted old new o only calm logged =
     only ∙ ap (λ h. let s : State = record old { logged = h; faults = new.faults } in s) logged ∙ ap (λ k. let s : State = record old { logged = o; faults = k } in s) calm
 
-pub gathered : (text : Bytes) (result : Result (Unit {0}) Failed) {held kept : Bytes} {old new : State} → IsOk result → Gathers text result held kept old new → Puts text held kept old new
+pub gathered : (text : Bytes) (result : Result (Unit {0}) Failed) {held kept : Bytes} {old new : State} → IsOk result → Gathers Log text result held kept old new → Puts text held kept old new
 gathered text (Ok u) {old = old} {new = new} ok is = record {
   count = is.part.0;
   within = is.part.1;
@@ -94,7 +95,7 @@ gathered text (Ok u) {old = old} {new = new} ok is = record {
 }
 gathered text (Err f) ok is = absurd (no_ok f ok)
 
-pub broken : (text : Bytes) (f : Failed) {held kept : Bytes} {old new : State} → Gathers text (Err f) held kept old new → Breaks text held old new
+pub broken : (text : Bytes) (f : Failed) {held kept : Bytes} {old new : State} → Gathers Log text (Err f) held kept old new → Breaks text held old new
 broken text f {held} {kept} {old} {new} is = record {
   count = is.part.0;
   within = is.part.1;
@@ -136,8 +137,8 @@ pub named_faults : {S : Type 0} {text held kept : Bytes} {a b : State} → PutsN
 named_faults is = puts_faults is.puts
 
 -- one line
-pub named_line : {S : Type 0} (line : PlainLine) (result : Result (Unit {0}) Failed) {held kept : Bytes} {a b : State} → S → IsOk result → Gathers (plain_text line) result held kept a b → PutsNamed S (plain_lines (line ∷ [])) held kept a b
+pub named_line : {S : Type 0} (line : PlainLine) (result : Result (Unit {0}) Failed) {held kept : Bytes} {a b : State} → S → IsOk result → Gathers Log (plain_text line) result held kept a b → PutsNamed S (plain_lines (line ∷ [])) held kept a b
 named_line line result {held} {kept} {a} {b} same ok is = record { named = same; puts = subst (λ (t : Bytes). Puts t held kept a b) (sym (append-nil (plain_text line))) (gathered (plain_text line) result ok is) }
 
-pub named_break : {S : Type 0} (line : PlainLine) (f : Failed) {held kept : Bytes} {a b : State} → S → Gathers (plain_text line) (Err f) held kept a b → BreaksNamed S (plain_lines []) (plain_text line) held a b
+pub named_break : {S : Type 0} (line : PlainLine) (f : Failed) {held kept : Bytes} {a b : State} → S → Gathers Log (plain_text line) (Err f) held kept a b → BreaksNamed S (plain_lines []) (plain_text line) held a b
 named_break line f same is = record { named = same; breaks = broken (plain_text line) f is }

@@ -9,7 +9,8 @@ use Rattle.solver.proofs.logged.Answering.{ended_is, solved_with}
 use Rattle.solver.proofs.logged.Whole.{begun, head_breaks, stops_solve, stopped_gives, stopped_named, logged_none, end_breaks, end_puts}
 use Rattle.logtext.specs.Spelling.{head_text, end_text}
 use Rattle.textline.specs.Lines.{Bytes}
-use Rattle.logtext.specs.code.Writing.{Gathers}
+use Rattle.gatherer.specs.code.Gathering.{Gathers}
+use Rattle.sched_base.specs.declared.desk.Port.TheVariants.{Log}
 use Rattle.solver.proofs.solving.solve_with.Goals as goal
 
 pub returns-in_err-search : goal.returns-in_err-search
@@ -17,17 +18,12 @@ returns-in_err-search g c =
     let start = g.D.Desk.state c.args.desk.now in
     stops_solve c.args.model.now c.args.nodes c.from_residual.result NoMemory start start c.from_residual.ensures.1 (begun c.args.model.now start, tt)
 
-pub returns-in_err-writer : goal.returns-in_err-writer
-returns-in_err-writer g c =
-    let start = g.D.Desk.state c.args.desk.now in
-    stops_solve c.args.model.now c.args.nodes c.from_residual-in_err-writer.result NoMemory start start c.from_residual-in_err-writer.ensures.1 (begun c.args.model.now start, tt)
-
 pub returns-in_err-write_head : goal.returns-in_err-write_head
 returns-in_err-write_head g c =
     let start = g.D.Desk.state c.args.desk.now in
     let now = g.D.Desk.state c.write_head.new.desk in
     stops_solve c.args.model.now c.args.nodes c.from_residual-in_err-write_head.result Fault start now c.from_residual-in_err-write_head.ensures.1
-    (head_breaks c.args.model.now start now (broken head_text c.in_err-write_head.field-0.0 (subst (λ (h : Bytes). Gathers head_text (Err c.in_err-write_head.field-0.0) h c.write_head.new.self start now) c.in_ok-writer.ensures c.in_err-write_head.ensures)))
+    (head_breaks c.args.model.now start now (broken head_text c.in_err-write_head.field-0.0 (subst (λ (h : Bytes). Gathers Log head_text (Err c.in_err-write_head.field-0.0) h c.write_head.new.self start now) c.new-writer.ensures c.in_err-write_head.ensures)))
 
 pub returns-in_err-more : goal.returns-in_err-more
 returns-in_err-more g c =
@@ -35,7 +31,7 @@ returns-in_err-more g c =
     let start = g.D.Desk.state c.args.desk.now in
     let mid = g.D.Desk.state c.write_head.new.desk in
     let now = g.D.Desk.state c.run-ended.new.lines.desk.now in
-    let head = subst (λ (h : Bytes). Puts head_text h c.write_head.new.self start mid) c.in_ok-writer.ensures (gathered head_text (Ok tt) refl c.in_ok-write_head.ensures) in
+    let head = subst (λ (h : Bytes). Puts head_text h c.write_head.new.self start mid) c.new-writer.ensures (gathered head_text (Ok tt) refl c.in_ok-write_head.ensures) in
     let stopped = c.in_err-more.ensures.logged _ (logged_none _ m _ _ c.in_ok-search.ensures.state (named_none refl)) in
     subst (λ d. Gives m c.args.nodes c.from_residual-in_err-more.result start (g.D.Desk.state d)) (sym (c.in_err-more.desk-1-own.given.1 (stopped_named _ m _ _ _ (λ xs is. is.named) (λ xs line is. is.named) stopped.0)))
     (stops_solve m c.args.nodes c.from_residual-in_err-more.result c.in_err-more.field-0.0 start now c.from_residual-in_err-more.ensures.1
@@ -49,7 +45,7 @@ returns-in_err-write_end g c =
     let mid = g.D.Desk.state c.write_head.new.desk in
     let now = g.D.Desk.state c.run-ended.new.lines.desk.now in
     let last = g.D.Desk.state c.write_end.new.desk in
-    let head = subst (λ (h : Bytes). Puts head_text h c.write_head.new.self start mid) c.in_ok-writer.ensures (gathered head_text (Ok tt) refl c.in_ok-write_head.ensures) in
+    let head = subst (λ (h : Bytes). Puts head_text h c.write_head.new.self start mid) c.new-writer.ensures (gathered head_text (Ok tt) refl c.in_ok-write_head.ensures) in
     let logged = c.in_ok-more.ensures.logged _ (logged_none _ m _ _ c.in_ok-search.ensures.state (named_none refl)) in
     subst (λ d. Gives m c.args.nodes c.from_residual-in_err-write_end.result start (g.D.Desk.state d)) (sym (c.desk-2-1.given.1 logged.put.named))
     (stops_solve m c.args.nodes c.from_residual-in_err-write_end.result Fault start last c.from_residual-in_err-write_end.ensures.1
@@ -64,7 +60,7 @@ returns g c =
     let last = g.D.Desk.state c.write_end.new.desk in
     let search = c.run-ended.new.self in
     let more = c.in_ok-more.more in
-    let head = subst (λ (h : Bytes). Puts head_text h c.write_head.new.self start mid) c.in_ok-writer.ensures (gathered head_text (Ok tt) refl c.in_ok-write_head.ensures) in
+    let head = subst (λ (h : Bytes). Puts head_text h c.write_head.new.self start mid) c.new-writer.ensures (gathered head_text (Ok tt) refl c.in_ok-write_head.ensures) in
     let logged = c.in_ok-more.ensures.logged _ (logged_none _ m _ _ c.in_ok-search.ensures.state (named_none refl)) in
     let ended = ended_is g.P.Propagator m c.args.nodes more search c.in_ok-more.ensures.few c.in_ok-more.ensures.limited c.in_ok-more.ensures.ready in
     let keeps = c.loses_nothing.ensures in
