@@ -5,7 +5,7 @@ use Rattle.cpo_elab.specs.Answers.Answer.{Accepted}
 use Rattle.commands.specs.declared.ended.Ended.TheVariants as end
 use Rattle.given_files.specs.declared.stop.Stop.TheVariants as given
 use Rattle.commands.specs.declared.stop.Stop.TheVariants as stop
-use Rattle.commands.specs.CheckText.{check_text}
+use Rattle.sched_text.specs.Answers.{check_text}
 use Rattle.std.proofs.Common.{◌≡◌, ◌≤◌, ◌+◌, ℕ, List, Option, Some, None, Ok, Err, length, take, refl, sym, ap, subst, ◌∙◌, inr, arith}
 use Rattle.std.specs.Prelude.{IfSome, option_and_then}
 use Rattle.sched_base.specs.declared.desk.File.{File}
@@ -71,14 +71,13 @@ log_read_behind : (log : Bytes) (old s t : State) → OnlyReads old s → ReadsL
 log_read_behind log old s t reads far = subst (λ (files : Option (List File)). ReadsLog log (record old { files = files }) t) (ap (λ (x : State). x.files) reads.only) far
 
 -- the text that says so was printed
-pub accept_printed : (m : Data) (model log bytes : Bytes) (c : Checked) (u : Unit {0}) (old s t w : State) → OnlyReads old s → s.faults ≡ old.faults → FileDeserves old model (Accepted m) → ReadsModel model old s → OnlyJudges s t → JudgesFile m log (Ok c) s t
-    → bytes ≡ check_text c.verdict c.nodes → Writes Out bytes (Ok u) t w → TriesCheck model log (Ok end.Accepted) old w
-accept_printed m model log bytes c u old s t w reads kept deserved far judged judges spelt writes =
+pub accept_printed : (m : Data) (model log : Bytes) (c : Checked) (u : Unit {0}) (old s t w : State) → OnlyReads old s → s.faults ≡ old.faults → FileDeserves old model (Accepted m) → ReadsModel model old s → OnlyJudges s t → JudgesFile m log (Ok c) s t
+    → Writes Out (check_text c.verdict c.nodes) (Ok u) t w → TriesCheck model log (Ok end.Accepted) old w
+accept_printed m model log c u old s t w reads kept deserved far judged judges writes =
     let text : Bytes = check_text c.verdict c.nodes in
     let faults : t.faults ≡ old.faults = judges.0 ∙ kept in
     let is : w ≡ record old { model = s.model; log = t.log; out = appended text old.out; faults = t.faults } =
     writes.written
-    ∙ ap (λ bs. record t { out = appended bs t.out }) spelt
     ∙ ap (λ (x : State). record x { out = appended text x.out }) (both_only old s t reads judged) in
     subst (TriesCheck model log (Ok end.Accepted) old) (sym is) (record {
       only = refl;
@@ -87,16 +86,15 @@ accept_printed m model log bytes c u old s t w reads kept deserved far judged ju
     })
 
 -- or a front part of it
-pub accept_half_printed : (m : Data) (model log bytes : Bytes) (c : Checked) (e : Failed) (old s t w : State) → OnlyReads old s → s.faults ≡ old.faults → FileDeserves old model (Accepted m) → OnlyJudges s t → JudgesFile m log (Ok c) s t
-    → bytes ≡ check_text c.verdict c.nodes → Writes Out bytes (Err e) t w → TriesCheck model log (Err (stop.Given given.Fault)) old w
-accept_half_printed m model log bytes c e old s t w reads kept deserved judged judges spelt writes =
+pub accept_half_printed : (m : Data) (model log : Bytes) (c : Checked) (e : Failed) (old s t w : State) → OnlyReads old s → s.faults ≡ old.faults → FileDeserves old model (Accepted m) → OnlyJudges s t → JudgesFile m log (Ok c) s t
+    → Writes Out (check_text c.verdict c.nodes) (Err e) t w → TriesCheck model log (Err (stop.Given given.Fault)) old w
+accept_half_printed m model log c e old s t w reads kept deserved judged judges writes =
     let text : Bytes = check_text c.verdict c.nodes in
     let n : ℕ = writes.failed.0 in
     let here = both_only old s t reads judged in
     let faults : t.faults ≡ old.faults = judges.0 ∙ kept in
     let is : w ≡ record old { model = s.model; log = t.log; out = appended (take n text) old.out; faults = w.faults } =
     writes.failed.2
-    ∙ ap (λ bs. record t { out = appended (take n bs) t.out; faults = w.faults }) spelt
     ∙ ap (λ (x : State). record x { out = appended (take n text) x.out; faults = w.faults }) here in
     subst (TriesCheck model log (Err (stop.Given given.Fault)) old) (sym is) (record {
       only = refl;
@@ -104,6 +102,6 @@ accept_half_printed m model log bytes c e old s t w reads kept deserved judged j
       tried = (
         subst (λ k. Rose k w.faults) faults writes.count.failed,
         (λ calm model_there log_there. let ok = writes.calm (ap (λ (x : State). x.calm) here ∙ calm) in cc),
-        inr (c.verdict, c.nodes, accepts m model log c old s t reads deserved judges, (n, subst (λ bs. n ≤ length bs) spelt writes.failed.1, refl)),
+        inr (c.verdict, c.nodes, accepts m model log c old s t reads deserved judges, (n, writes.failed.1, refl)),
       );
     })

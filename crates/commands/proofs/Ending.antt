@@ -20,7 +20,7 @@ use Rattle.commands.specs.declared.ended.Ended.TheVariants as end
 use Rattle.commands.specs.declared.stop.Stop.{Stop}
 use Rattle.commands.specs.declared.stop.Stop.TheVariants as stop
 use Rattle.sched_text.specs.Canonical.{canonical_text}
-use Rattle.commands.specs.CheckText.{check_text}
+use Rattle.sched_text.specs.Answers.{check_text}
 use Rattle.commands.specs.Ended.{is_success}
 use Rattle.commands.specs.Told.{usage_line, log_line, too_long_line}
 use Rattle.commands.specs.Runs.{Source, SourceDeserves, HasSource, ReadsSource, IsUnread, SolvePromise, shop_text, told_text, RunPromise, NeverRefused, EveryRun, CommandPromise, HasFiles, RefusesModel, ShowsPart, LogPromise, HoldsBegunLog, CutShort, AnswerPromise, AcceptsPart, ending_of, SolveEnds, ReadsLog, VerifiesPart}

@@ -1,4 +1,3 @@
-pub mod CheckText
 pub mod Ended
 pub mod LastSchedule
 pub mod Runs

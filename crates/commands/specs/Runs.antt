@@ -20,7 +20,7 @@ use Rattle.command_line.specs.declared.shop.Shop.{Shop}
 use Rattle.command_line.specs.Commands.{Command, Solve, Check, Verify, Show, Gen, Trial, command_of}
 use Rattle.modelgen.specs.Generated.{generated_text}
 use Rattle.textline.specs.Lines.{Bytes}
-use Rattle.sched_text.specs.Answers.{answer_text, summary_text}
+use Rattle.sched_text.specs.Answers.{answer_text, summary_text, check_text}
 use Rattle.sched_text.specs.Canonical.{canonical_text}
 use Rattle.logtext.specs.Logs.{PlainLine, IsPlainLog, plain_log}
 use Rattle.checker.specs.Judgement.{IsAccepted, IsRefused, IsTooLong, log_limit}
@@ -34,7 +34,6 @@ use Rattle.given_files.specs.Schedules.{IsVerified, RefusalDue}
 use Rattle.given_files.specs.Told.{Tells, Reports, fault_line, memory_line, refusal_line, unfit_line}
 use Rattle.commands.specs.declared.ended.Ended.{Ended}
 use Rattle.commands.specs.declared.ended.Ended.TheVariants as end
-use Rattle.commands.specs.CheckText.{check_text}
 use Rattle.commands.specs.Ended.{is_success}
 use Rattle.commands.specs.LastSchedule.{last_schedule}
 use Rattle.commands.specs.Told.{usage_line, log_line, too_long_line}

@@ -2,7 +2,7 @@
 use Rattle.std.specs.Prelude.{ℤ, [], ◌∷◌, ◌++◌, codes, Option, Some, None}
 use Rattle.std.specs.Fmt.{signed_decimal}
 use Rattle.textline.specs.Lines.{Bytes, line}
-use Rattle.commands.specs.CheckText.{end_line}
+use Rattle.sched_text.specs.Answers.{end_line}
 
 -- the value of the objective, where there is one
 abbrev pub value_line : Option ℤ → Bytes

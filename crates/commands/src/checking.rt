@@ -3,14 +3,14 @@ ghost use Rattle.command_line.specs.Commands.{Check};
 ghost use Rattle.commands.specs.Runs.{RunPromise};
 ghost use Rattle.commands.specs.code.Tries.{JudgesFile, OnlyJudges, TriesCheck};
 
-use crate::accepted::check_bytes;
 use crate::ended::Ended;
 use crate::report::end_stopped;
 use crate::stop::Stop;
 use checker::{Checked, check};
 use given_files::{Stop as Given, read_file};
-use sched_base::{Desk, Inlet, Port};
+use sched_base::{Desk, Inlet};
 use sched_model::Model;
+use sched_text::write_accepted;
 use std::alloc::Global;
 
 /// Judges the log that a file holds.
@@ -34,8 +34,7 @@ fn check_file<D: Desk>(alloc: Global, desk: &mut D, name: &str, log: &str) -> Re
 {
     let model = read_file(alloc, desk, name)?;
     let checked = judge_file(alloc, desk, &model, log)?;
-    let text = check_bytes(alloc, checked)?;
-    match desk.write(Port::Out, text.as_slice()) {
+    match write_accepted(checked.verdict, checked.nodes, desk) {
         Ok(()) => Ok(Ended::Accepted),
         Err(_) => Err(Stop::Given(Given::Fault)),
     }

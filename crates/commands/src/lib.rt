@@ -1,7 +1,6 @@
 //! The commands of the program, over a desk: what each does, the texts that it prints, and how it ends.
 #![tactic(auto)]
 
-mod accepted;
 mod checking;
 mod ended;
 mod generating;

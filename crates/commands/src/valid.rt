@@ -1,9 +1,9 @@
 ghost use Rattle.std.specs.Prelude.{◌≡◌, ◌++◌, OnOk, IfOk};
 ghost use Rattle.commands.specs.VerifyText.{value_line, verify_text};
 
-use crate::accepted::push_valued;
 use sched_base::NoMemory;
 use std::alloc::Global;
+use textline::push_number;
 
 /// The line of the value, where there is one.
 fn push_value(bytes: &mut Vec<u8>, value: Option<i64>) -> Result<(), NoMemory>
@@ -12,7 +12,10 @@ fn push_value(bytes: &mut Vec<u8>, value: Option<i64>) -> Result<(), NoMemory>
     let Some(v) = value else {
         return Ok(());
     };
-    push_valued(bytes, b"value", v)
+    bytes.extend_from_slice(b"value ")?;
+    push_number(bytes, v)?;
+    bytes.extend_from_slice(b"\n")?;
+    Ok(())
 }
 
 /// The text of a schedule that is a solution of this value, where there is one.
