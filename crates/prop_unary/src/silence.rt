@@ -24,6 +24,9 @@ fn greater(a: i64, b: i64) -> i64
 fn fits(end: i64, n: i64, start: i64) -> bool
     ensures { result ≡ int_le (end +ℤ n) start }
 {
+    if n == 0 {
+        return end <= start;
+    }
     i128::from(end) + i128::from(n) <= i128::from(start)
 }
 
