@@ -13,7 +13,7 @@ use Rattle.region.specs.Cells.{Region}
 use Rattle.refute_cumul.specs.declared.profile.Level.{Level}
 use Rattle.refute_cumul.specs.code.Loads.{bounded, height_at, load_of, load}
 use Rattle.refute_cumul.specs.code.Profiles.{level_in, IsFirstAbove, StaysBelow}
-use Rattle.prop_cumul.specs.code.Extra.{extra, IsUnmoved, IsStillOf, AreStill, IsStill, IsRaisedAbove, StaysLow}
+use Rattle.prop_cumul.specs.code.Extra.{extra, gain, IsUnmoved, IsStillOf, AreStill, IsStill, IsRaisedAbove, StaysLow}
 
 trans : (x y z : ℤ) → x ≤ℤ y → y ≤ℤ z → x ≤ℤ z
 trans x y z h k = omega (arith, ints, h, k)
@@ -120,7 +120,7 @@ sum_still : (f g : Part → ℤ) (is : List Part) → ((j : ℕ) (d : Part) → 
 sum_still f g [] each = refl
 sum_still f g (i ∷ is) each = ap (λ z. z +ℤ total (map f is)) (each 0 i (omega arith)) ∙ ap (λ z. g i +ℤ z) (sum_still f g is (λ j d h. each (suc j) d (omega (arith, h))))
 
-pub all_still : (r q : Region) (below : Bool) (is : List Part) (k : ℕ) (a to n : ℤ) → FirstStill r q below is k a to n → length is ≤ k → IsStill r q below is a to n
+pub all_still : (r q : Region) (below : Bool) (is : List Part) (k : ℕ) (a to n : ℤ) → FirstStill r q below is k a to n → length is ≤ k → IsStill (extra r q below is) a to n
 all_still r q below is k a to n first all = record {
   later = first.later;
   within = first.within;
@@ -129,20 +129,53 @@ all_still r q below is k a to n first all = record {
       ∙ ap (λ z. load q below is a -ℤ z) (sum_still (λ i. load_of (bounded r below i) t) (λ i. load_of (bounded r below i) a) is (λ j d h. first.plain j d (omega (arith, h, all)) t since until));
 }
 
--- a search that has come to a moment
-pub record IsLowUntil (ps : List Level) (r q : Region) (below : Bool) (is : List Part) (from a limit : ℤ) : Type 0 where
-  pub since : from ≤ℤ a
-  pub low : (t : ℤ) → from ≤ℤ t → t <ℤ a → (level_in ps t +ℤ extra r q below is t) ≤ℤ limit
+-- one part that stands so, and then so
+pub gain_still : (i j : Part) (a to m n : ℤ) → IsStillOf i a to m → IsStillOf j a m n → IsStill (gain i j) a to n
+gain_still i j a to m n first second = record {
+  later = second.later;
+  within = trans n m to second.within first.within;
+  same = λ t since until.
+      ap (λ z. z -ℤ load_of i t) (second.same t since until)
+      ∙ ap (λ z. load_of j a -ℤ z) (first.same t since (less_up t n m until second.within));
+}
 
-pub low_first : (ps : List Level) (r q : Region) (below : Bool) (is : List Part) (from limit : ℤ) → IsLowUntil ps r q below is from from limit
-low_first ps r q below is from limit = record { since = omega (arith, ints); low = λ t since until. absurd (never from t since until) }
+alone : (r q : Region) (below : Bool) (i : Part) (t : ℤ) → gain (bounded r below i) (bounded q below i) t ≡ extra r q below (i ∷ []) t
+alone r q below i t = plain (load_of (bounded q below i) t) (load_of (bounded r below i) t)
+  where
+    plain : (y x : ℤ) → (y -ℤ x) ≡ ((y +ℤ pos 0) -ℤ (x +ℤ pos 0))
+    plain y x = omega (arith, ints)
+
+one_alone : (is : List Part) (d : Part) → length is ≡ 1 → get_or is 0 d ∷ [] ≡ is
+one_alone [] d one = absurd (omega (arith, one))
+one_alone (i ∷ []) d one = refl
+one_alone (i ∷ j ∷ is) d one = absurd (omega (arith, one))
+
+pub alone_raised : (ps : List Level) (r q : Region) (below : Bool) (is : List Part) (d : Part) (from to limit t : ℤ) → length is ≡ 1
+    → IsRaisedAbove ps (gain (bounded r below (get_or is 0 d)) (bounded q below (get_or is 0 d))) from to limit t → IsRaisedAbove ps (extra r q below is) from to limit t
+alone_raised ps r q below is d from to limit t one raised =
+    subst (λ l. IsRaisedAbove ps (extra r q below l) from to limit t) (one_alone is d one)
+    (raised.0, raised.1, subst (λ z. limit <ℤ (level_in ps t +ℤ z)) (alone r q below (get_or is 0 d) t) raised.2)
+
+pub alone_low : (ps : List Level) (r q : Region) (below : Bool) (is : List Part) (d : Part) (from to limit : ℤ) → length is ≡ 1
+    → StaysLow ps (gain (bounded r below (get_or is 0 d)) (bounded q below (get_or is 0 d))) from to limit → StaysLow ps (extra r q below is) from to limit
+alone_low ps r q below is d from to limit one low =
+    subst (λ l. StaysLow ps (extra r q below l) from to limit) (one_alone is d one)
+    (λ t since until. subst (λ z. (level_in ps t +ℤ z) ≤ℤ limit) (alone r q below (get_or is 0 d) t) (low t since until))
+
+-- a search that has come to a moment
+pub record IsLowUntil (ps : List Level) (e : ℤ → ℤ) (from a limit : ℤ) : Type 0 where
+  pub since : from ≤ℤ a
+  pub low : (t : ℤ) → from ≤ℤ t → t <ℤ a → (level_in ps t +ℤ e t) ≤ℤ limit
+
+pub low_first : (ps : List Level) (e : ℤ → ℤ) (from limit : ℤ) → IsLowUntil ps e from from limit
+low_first ps e from limit = record { since = omega (arith, ints); low = λ t since until. absurd (never from t since until) }
   where
     never : (from t : ℤ) → from ≤ℤ t → t <ℤ from → ⊥
     never from t h k = omega (arith, ints, h, k)
 
-pub low_more : (ps : List Level) (r q : Region) (below : Bool) (is : List Part) (from a to n limit added less : ℤ) → IsLowUntil ps r q below is from a limit → IsStill r q below is a to n → added ≡ extra r q below is a → less ≡ limit -ℤ added → StaysBelow ps a n less
-    → IsLowUntil ps r q below is from n limit
-low_more ps r q below is from a to n limit plus less before still value is_less stays = record {
+pub low_more : (ps : List Level) (e : ℤ → ℤ) (from a to n limit added less : ℤ) → IsLowUntil ps e from a limit → IsStill e a to n → added ≡ e a → less ≡ limit -ℤ added → StaysBelow ps a n less
+    → IsLowUntil ps e from n limit
+low_more ps e from a to n limit plus less before still value is_less stays = record {
   since = up from a n before.since still.later;
   low = λ t since until. by_case t since until (int_lt t a) refl;
 }
@@ -150,8 +183,8 @@ low_more ps r q below is from a to n limit plus less before still value is_less 
     up : (x y z : ℤ) → x ≤ℤ y → y <ℤ z → x ≤ℤ z
     up x y z h k = omega (arith, ints, h, k)
 
-    under : (z e plus limit less : ℤ) → z ≤ℤ less → e ≡ plus → less ≡ limit -ℤ plus → (z +ℤ e) ≤ℤ limit
-    under z e plus limit less h k l = omega (arith, ints, h, k, l)
+    under : (z f plus limit less : ℤ) → z ≤ℤ less → f ≡ plus → less ≡ limit -ℤ plus → (z +ℤ f) ≤ℤ limit
+    under z f plus limit less h k l = omega (arith, ints, h, k, l)
 
     earlier : (t a : ℤ) → int_lt t a ≡ true → t <ℤ a
     earlier t a h = grind (arith, ints, h)
@@ -159,23 +192,23 @@ low_more ps r q below is from a to n limit plus less before still value is_less 
     later : (t a : ℤ) → int_lt t a ≡ false → a ≤ℤ t
     later t a h = grind (arith, ints, h)
 
-    by_case : (t : ℤ) → from ≤ℤ t → t <ℤ n → (b : Bool) → int_lt t a ≡ b → (level_in ps t +ℤ extra r q below is t) ≤ℤ limit
-    by_case t since until true e = before.low t since (earlier t a e)
-    by_case t since until false e = under (level_in ps t) (extra r q below is t) plus limit less (stays t (later t a e) until) (still.same t (later t a e) until ∙ sym value) is_less
+    by_case : (t : ℤ) → from ≤ℤ t → t <ℤ n → (b : Bool) → int_lt t a ≡ b → (level_in ps t +ℤ e t) ≤ℤ limit
+    by_case t since until true is = before.low t since (earlier t a is)
+    by_case t since until false is = under (level_in ps t) (e t) plus limit less (stays t (later t a is) until) (still.same t (later t a is) until ∙ sym value) is_less
 
-pub low_all : (ps : List Level) (r q : Region) (below : Bool) (is : List Part) (from to a limit : ℤ) → IsLowUntil ps r q below is from a limit → to ≤ℤ a → StaysLow ps r q below is from to limit
-low_all ps r q below is from to a limit so_far past t since until = so_far.low t since (less_up t to a until past)
+pub low_all : (ps : List Level) (e : ℤ → ℤ) (from to a limit : ℤ) → IsLowUntil ps e from a limit → to ≤ℤ a → StaysLow ps e from to limit
+low_all ps e from to a limit so_far past t since until = so_far.low t since (less_up t to a until past)
 
-pub raised : (ps : List Level) (r q : Region) (below : Bool) (is : List Part) (from a to n limit added less t : ℤ) → IsLowUntil ps r q below is from a limit → IsStill r q below is a to n → added ≡ extra r q below is a → less ≡ limit -ℤ added → IsFirstAbove ps a n less t
-    → IsRaisedAbove ps r q below is from to limit t
-raised ps r q below is from a to n limit plus less t before still value is_less found = (
+pub raised : (ps : List Level) (e : ℤ → ℤ) (from a to n limit added less t : ℤ) → IsLowUntil ps e from a limit → IsStill e a to n → added ≡ e a → less ≡ limit -ℤ added → IsFirstAbove ps a n less t
+    → IsRaisedAbove ps e from to limit t
+raised ps e from a to n limit plus less t before still value is_less found = (
   trans from a t before.since found.0,
   less_up t n to found.1 still.within,
-  over (level_in ps t) (extra r q below is t) plus limit less found.2 (still.same t found.0 found.1 ∙ sym value) is_less,
+  over (level_in ps t) (e t) plus limit less found.2 (still.same t found.0 found.1 ∙ sym value) is_less,
 )
   where
-    over : (z e plus limit less : ℤ) → less <ℤ z → e ≡ plus → less ≡ limit -ℤ plus → limit <ℤ (z +ℤ e)
-    over z e plus limit less h k l = omega (arith, ints, h, k, l)
+    over : (z f plus limit less : ℤ) → less <ℤ z → f ≡ plus → less ≡ limit -ℤ plus → limit <ℤ (z +ℤ f)
+    over z f plus limit less h k l = omega (arith, ints, h, k, l)
 
 pub if_some_so : {X : Type 0} {P Q : X → Type 0} (o : Option X) → ((x : X) → P x → Q x) → IfSome o P → IfSome o Q
 if_some_so None f p = tt

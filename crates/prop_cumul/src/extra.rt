@@ -3,7 +3,8 @@ ghost use Rattle.std.specs.Prelude.{◌≡◌, ◌≤◌, ◌^◌, ◌<ℤ◌, �
 ghost use Rattle.refute_cumul.specs.code.Loads.{load};
 ghost use Rattle.prop_cumul.specs.code.Extra.{extra, IsUnmoved, IsStillOf, AreStill, IsStill, IsRaisedAbove, StaysLow};
 
-use refute_cumul::{Profile, bounded, load};
+use crate::added::{Added, Raised, raised_by};
+use refute_cumul::{Profile, bounded, load, load_of};
 use region::Look;
 use sched_model::{Part, Shape};
 
@@ -49,7 +50,7 @@ fn next_change(
     to: i64,
 ) -> i64
     requires { a <ℤ to }
-    ensures { IsStill plain.now.region under.now.region below parts.now a to result }
+    ensures { IsStill (extra plain.now.region under.now.region below parts.now) a to result }
 {
     let mut n = to;
     for part in parts {
@@ -68,16 +69,57 @@ fn extra(plain: &Look<'_>, under: &Look<'_>, below: bool, parts: &[Part], t: i64
     load(under, below, parts, t) - load(plain, below, parts, t)
 }
 
-/// A moment of a span at which the level is too high, and where the run of such moments from it on
-/// ends, of which nothing is promised.
-#[derive(Clone, Copy, Debug)]
-pub struct Raised {
-    pub t: i64,
-    pub end: i64,
+/// What a guess adds to the load of some parts.
+#[derive(Drop)]
+struct SomeParts<'a> {
+    plain: &'a Look<'a>,
+    under: &'a Look<'a>,
+    below: bool,
+    parts: &'a [Part],
+}
+
+impl<'a> Added for SomeParts<'a> {
+    ghost use Rattle.std.specs.Prelude.{◌≤◌, length};
+    ghost use Rattle.prop_cumul.specs.code.Extra.{extra};
+
+    ghost is_ready = { λ s. length s.parts.now ≤ 100000 };
+
+    ghost added = { λ s. extra s.plain.now.region s.under.now.region s.below s.parts.now };
+
+    fn until(&self, a: i64, to: i64) -> i64 {
+        next_change(self.plain, self.under, self.below, self.parts, a, to)
+    }
+
+    fn at(&self, t: i64) -> i128 {
+        extra(self.plain, self.under, self.below, self.parts, t)
+    }
+}
+
+/// What is added where one part, which stood so, now stands so.
+#[derive(Clone, Copy)]
+struct Moved {
+    before: Part,
+    now: Part,
+}
+
+impl Added for Moved {
+    ghost use Rattle.prop_cumul.specs.code.Extra.{gain};
+
+    ghost is_ready = { λ _. Unit {0} };
+
+    ghost added = { λ s. gain s.before s.now };
+
+    fn until(&self, a: i64, to: i64) -> i64 {
+        next_of(self.now, a, next_of(self.before, a, to))
+    }
+
+    fn at(&self, t: i64) -> i128 {
+        load_of(self.now, t) - load_of(self.before, t)
+    }
 }
 
 /// The first moment of a span at which the level of the profile, with what a guess adds to the load of
-/// some parts, is above a limit. Between two changes of these parts what it adds is the same.
+/// some parts, is above a limit. Mostly it is one part, whose moments are then read once.
 pub fn first_raised(
     profile: &Profile,
     plain: &Look<'_>,
@@ -90,19 +132,21 @@ pub fn first_raised(
     requires few { length parts.now ≤ 100000 }
     requires low { neg_ℤ (pos (2 ^ 63)) ≤ℤ limit }
     requires high { limit ≤ℤ pos (2 ^ 63) }
-    ensures some { IfSome result (λ r. IsRaisedAbove profile.now.levels plain.now.region under.now.region below parts.now span.0 span.1 limit r.t) }
-    ensures none { IfNone result (StaysLow profile.now.levels plain.now.region under.now.region below parts.now span.0 span.1 limit) }
+    ensures some { IfSome result (λ r. IsRaisedAbove profile.now.levels (extra plain.now.region under.now.region below parts.now) span.0 span.1 limit r.t) }
+    ensures none { IfNone result (StaysLow profile.now.levels (extra plain.now.region under.now.region below parts.now) span.0 span.1 limit) }
 {
-    let (from, to) = span;
-    let mut a = from;
-    while a < to {
-        let n = next_change(plain, under, below, parts, a, to);
-        let added = extra(plain, under, below, parts, a);
-        if let Some(t) = profile.first_above(a, n, limit - added) {
-            let end = profile.run_end(t, n, limit - added);
-            return Some(Raised { t, end });
-        }
-        a = n;
+    if parts.len() == 1 {
+        let moved = Moved {
+            before: bounded(plain, below, parts[0]),
+            now: bounded(under, below, parts[0]),
+        };
+        return raised_by(profile, &moved, span, limit);
     }
-    None
+    let some = SomeParts {
+        plain,
+        under,
+        below,
+        parts,
+    };
+    raised_by(profile, &some, span, limit)
 }

@@ -2,6 +2,7 @@
 //! for each constraint that bounds a function in a window.
 #![tactic(auto)]
 
+mod added;
 mod asking;
 mod extra;
 mod side;

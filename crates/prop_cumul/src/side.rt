@@ -17,7 +17,8 @@ ghost use Rattle.prop_cumul.specs.code.Asking.{IsReady, NeverHigh, IsQuietUnder,
 ghost use Rattle.findings.specs.laws.EndGuesses.{IsAnEnd};
 ghost use Rattle.prop_cumul.specs.laws.Asking.{TellsExtra, IsRefutedUnder};
 
-use crate::extra::{Raised, first_raised};
+use crate::added::Raised;
+use crate::extra::first_raised;
 use findings::Finding;
 use refute_cumul::{Bound, CumulWitness, OnCumul, Profile, limit_of, side, window_of};
 use region::{Guess, GuessTest, Region, tighten_by};

@@ -15,7 +15,7 @@ mod spelling;
 mod witness;
 
 pub use bound::Bound;
-pub use levels::{bounded, limit_of, load, window_of};
+pub use levels::{bounded, limit_of, load, load_of, window_of};
 pub use on_cumul::OnCumul;
 pub use point::parts_of;
 pub use profile::{Level, Profile};

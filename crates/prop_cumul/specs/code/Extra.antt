@@ -10,6 +10,10 @@ use Rattle.refute_cumul.specs.code.Profiles.{level_in}
 abbrev pub extra : Region → Region → Bool → List Part → ℤ → ℤ
 extra r q below is t = load q below is t -ℤ load r below is t
 
+-- by one part that stands so, and then so
+abbrev pub gain : Part → Part → ℤ → ℤ
+gain i j t = load_of j t -ℤ load_of i t
+
 -- a moment behind a, at most `to`, before which all stays as it is at a
 pub record IsUnmoved (a u to n : ℤ) : Type 0 where
   pub later : a <ℤ n
@@ -27,14 +31,15 @@ pub record AreStill (r q : Region) (below : Bool) (i : Part) (a to n : ℤ) : Ty
   pub plain : (t : ℤ) → a ≤ℤ t → t <ℤ n → load_of (bounded r below i) t ≡ load_of (bounded r below i) a
   pub under : (t : ℤ) → a ≤ℤ t → t <ℤ n → load_of (bounded q below i) t ≡ load_of (bounded q below i) a
 
-pub record IsStill (r q : Region) (below : Bool) (is : List Part) (a to n : ℤ) : Type 0 where
+-- where e tells how much is added at each moment
+pub record IsStill (e : ℤ → ℤ) (a to n : ℤ) : Type 0 where
   pub later : a <ℤ n
   pub within : n ≤ℤ to
-  pub same : (t : ℤ) → a ≤ℤ t → t <ℤ n → extra r q below is t ≡ extra r q below is a
+  pub same : (t : ℤ) → a ≤ℤ t → t <ℤ n → e t ≡ e a
 
--- the level of a profile with what a guess adds is above a limit at a moment of a span, and at none
-abbrev pub IsRaisedAbove : List Level → Region → Region → Bool → List Part → ℤ → ℤ → ℤ → ℤ → Type 0
-IsRaisedAbove ps r q below is from to limit t = (from ≤ℤ t) × (t <ℤ to) × (limit <ℤ (level_in ps t +ℤ extra r q below is t))
+-- the level of a profile with what is added is above a limit at a moment of a span, and at none
+abbrev pub IsRaisedAbove : List Level → (ℤ → ℤ) → ℤ → ℤ → ℤ → ℤ → Type 0
+IsRaisedAbove ps e from to limit t = (from ≤ℤ t) × (t <ℤ to) × (limit <ℤ (level_in ps t +ℤ e t))
 
-abbrev pub StaysLow : List Level → Region → Region → Bool → List Part → ℤ → ℤ → ℤ → Type 0
-StaysLow ps r q below is from to limit = (t : ℤ) → from ≤ℤ t → t <ℤ to → (level_in ps t +ℤ extra r q below is t) ≤ℤ limit
+abbrev pub StaysLow : List Level → (ℤ → ℤ) → ℤ → ℤ → ℤ → Type 0
+StaysLow ps e from to limit = (t : ℤ) → from ≤ℤ t → t <ℤ to → (level_in ps t +ℤ e t) ≤ℤ limit

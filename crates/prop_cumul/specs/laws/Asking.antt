@@ -69,7 +69,7 @@ total_load : (m : Data) (r q : Region) (b : Bound) (below : Bool) (p : Profile) 
 total_load m r q b below p is t profile tells = ap (λ z. z +ℤ extra r q below is t) (profile t) ∙ sym (tells t)
 
 pub raised_high : (m : Data) (r q : Region) (b : Bound) (below : Bool) (p : Profile) (is : List Part) (span : ℤ × ℤ) (limit t : ℤ) → ((u : ℤ) → level_in p.levels u ≡ load r below (parts_of m b.f) u) → TellsExtra m r q b below is → span ≡ window_of q b.window → limit ≡ limit_of below b.lo b.hi
-    → IsRaisedAbove p.levels r q below is span.0 span.1 limit t → is_high m q b below t ≡ true
+    → IsRaisedAbove p.levels (extra r q below is) span.0 span.1 limit t → is_high m q b below t ≡ true
 raised_high m r q b below p is span limit t profile tells window at h =
     true_both (is_surely_in q b.window t) (is_over q (parts_of m b.f) b.lo b.hi below t)
     (sym (window_is q b.window t) ∙ sym (ap (λ w. is_from w.0 w.1 t) window) ∙ inside span.0 span.1 t h.0 h.1)
@@ -82,7 +82,7 @@ raised_high m r q b below p is span limit t profile tells window at h =
     over x y h = grind (arith, ints, h)
 
 pub low_never : (m : Data) (r q : Region) (b : Bound) (below : Bool) (p : Profile) (is : List Part) (span : ℤ × ℤ) (limit : ℤ) → ((u : ℤ) → level_in p.levels u ≡ load r below (parts_of m b.f) u) → TellsExtra m r q b below is → span ≡ window_of q b.window → limit ≡ limit_of below b.lo b.hi
-    → StaysLow p.levels r q below is span.0 span.1 limit → NeverHigh m q b below
+    → StaysLow p.levels (extra r q below is) span.0 span.1 limit → NeverHigh m q b below
 low_never m r q b below p is span limit profile tells window at h t =
     ap (λ s. s && is_over q (parts_of m b.f) b.lo b.hi below t) (sym (window_is q b.window t) ∙ sym (ap (λ w. is_from w.0 w.1 t) window))
     ∙ ap (λ z. is_from span.0 span.1 t && int_lt z (load q below (parts_of m b.f) t)) (sym at)

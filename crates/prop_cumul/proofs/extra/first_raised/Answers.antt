@@ -1,38 +1,22 @@
-use Rattle.std.proofs.Common.{◌≡◌, ◌-ℤ◌, refl, sym, subst, rules, to_z, of_z, w64}
-use Rattle.std.specs.Int.{w128}
-use Rattle.refute_cumul.specs.code.Profiles.{IsFirstAbove, StaysBelow}
-use Rattle.prop_cumul.specs.code.Extra.{extra, IsStill, IsRaisedAbove}
-use Rattle.prop_cumul.proofs.Raising.{IsLowUntil, low_more, raised}
+use Rattle.std.proofs.Common.{◌≡◌, false, get_or, length, subst, rules}
+use Rattle.std.specs.Prelude.{pos, IfNone}
+use Rattle.sched_model.specs.declared.types.Part.{Part}
+use Rattle.sched_model.specs.declared.types.Shape.TheVariants.{Pulse}
+use Rattle.refute_cumul.specs.code.Loads.{bounded}
+use Rattle.prop_cumul.specs.code.Extra.{gain, StaysLow}
+use Rattle.prop_cumul.proofs.Raising.{alone_low, if_none_so}
 use Rattle.prop_cumul.proofs.extra.first_raised.Goals as goal
 
-pub returns-in-Some-clause-some : goal.returns-in-Some-clause-some
-returns-in-Some-clause-some c =
+pub returns-then-parts-eq1-clause-none : goal.returns-then-parts-eq1-clause-none
+returns-then-parts-eq1-clause-none c =
     let ps = c.args.profile.now.levels in
     let r = c.args.plain.now.region in
     let q = c.args.under.now.region in
-    let from : to_z w64 (of_z w64 c.args.span.0) ≡ c.args.span.0 = search rules in
-    let same : to_z w64 (of_z w64 c.in-Some.t) ≡ c.in-Some.t = search rules in
-    let limit : to_z w128 (of_z w128 c.args.limit) ≡ c.args.limit = search rules in
-    let a = to_z w64 c.loop-a.a-bits in
-    let less = c.args.limit -ℤ c.extra-added.result in
-    let before : IsLowUntil ps r q c.args.below c.args.parts.now c.args.span.0 a c.args.limit = subst (λ z. IsLowUntil ps r q c.args.below c.args.parts.now z a c.args.limit) from (subst (λ z. IsLowUntil ps r q c.args.below c.args.parts.now (to_z w64 (of_z w64 c.args.span.0)) a z) limit c.loop-a.invariant) in
-    let still : IsStill r q c.args.below c.args.parts.now a c.args.span.1 c.next_change-n.result = search rules in
-    let value : c.extra-added.result ≡ extra r q c.args.below c.args.parts.now a = search rules in
-    let found : IsFirstAbove ps a c.next_change-n.result less c.in-Some.t = search rules in
-    subst (λ t. IsRaisedAbove ps r q c.args.below c.args.parts.now c.args.span.0 c.args.span.1 c.args.limit t) (sym same)
-    (raised ps r q c.args.below c.args.parts.now c.args.span.0 a c.args.span.1 c.next_change-n.result c.args.limit c.extra-added.result less c.in-Some.t before still value refl found)
-
-pub loop-a-preserved : goal.loop-a-preserved
-loop-a-preserved c =
-    let ps = c.args.profile.now.levels in
-    let r = c.args.plain.now.region in
-    let q = c.args.under.now.region in
-    let from = to_z w64 (of_z w64 c.args.span.0) in
-    let limit = to_z w128 (of_z w128 c.args.limit) in
-    let a = to_z w64 c.loop-a.a-bits in
-    let n = to_z w64 (of_z w64 c.next_change-n.result) in
-    let less = limit -ℤ c.extra-added.result in
-    let still : IsStill r q c.args.below c.args.parts.now a c.args.span.1 n = search rules in
-    let value : c.extra-added.result ≡ extra r q c.args.below c.args.parts.now a = search rules in
-    let stays : StaysBelow ps a n less = search rules in
-    low_more ps r q c.args.below c.args.parts.now from a c.args.span.1 n limit c.extra-added.result less c.loop-a.invariant still value refl stays
+    let d : Part = record { minus = false; shape = Pulse (pos 0) (pos 0) (pos 0) } in
+    let one : length c.args.parts.now ≡ 1 = search rules in
+    let before : c.bounded.result ≡ bounded r c.args.below (get_or c.args.parts.now 0 d) = search rules in
+    let now : c.bounded-then-parts-eq1.result ≡ bounded q c.args.below (get_or c.args.parts.now 0 d) = search rules in
+    let none : IfNone c.raised_by.result (StaysLow ps (gain c.bounded.result c.bounded-then-parts-eq1.result) c.args.span.0 c.args.span.1 c.args.limit) = search rules in
+    let low = subst (λ j. IfNone c.raised_by.result (StaysLow ps (gain (bounded r c.args.below (get_or c.args.parts.now 0 d)) j) c.args.span.0 c.args.span.1 c.args.limit)) now
+    (subst (λ i. IfNone c.raised_by.result (StaysLow ps (gain i c.bounded-then-parts-eq1.result) c.args.span.0 c.args.span.1 c.args.limit)) before none) in
+    if_none_so c.raised_by.result (λ h. alone_low ps r q c.args.below c.args.parts.now d c.args.span.0 c.args.span.1 c.args.limit one h) low
