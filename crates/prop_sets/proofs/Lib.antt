@@ -1,5 +1,6 @@
 mod Noted
 mod Marking
+mod Naming
 mod Shown
 mod Ordering
 mod Answered

@@ -30,17 +30,11 @@ keep_skip t (y ∷ ys) x off = step (t y) (keep_skip t ys x off)
     step true h = ap (λ zs. y ∷ zs) h
     step false h = h
 
-pub none_picked : (t : ℕ → Bool) → [] ≡ keep t (up_from 0 0)
-none_picked t = refl
-
 pub one_picked : (t : ℕ → Bool) (n : ℕ) (set : List ℕ) → t n ≡ true → set ≡ keep t (up_from 0 n) → set ++ n ∷ [] ≡ keep t (up_from 0 (n + 1))
 one_picked t n set on is = ap (λ zs. zs ++ n ∷ []) is ∙ sym (ap (keep t) (up_next n) ∙ keep_push t (up_from 0 n) n on)
 
 pub one_passed : (t : ℕ → Bool) (n : ℕ) (set : List ℕ) → t n ≡ false → set ≡ keep t (up_from 0 n) → set ≡ keep t (up_from 0 (n + 1))
 one_passed t n set off is = is ∙ sym (ap (keep t) (up_next n) ∙ keep_skip t (up_from 0 n) n off)
-
-pub all_picked : (t : ℕ → Bool) (k n : ℕ) (set : List ℕ) → k ≡ n → set ≡ keep t (up_from 0 k) → set ≡ keep t (up_from 0 n)
-all_picked t k n set same is = is ∙ ap (λ i. keep t (up_from 0 i)) same
 
 -- and of a list
 pub take_more : (xs : List ℕ) (n d : ℕ) → n < length xs → take (n + 1) xs ≡ take n xs ++ get_or xs n d ∷ []

@@ -1,13 +1,12 @@
 //! Findings by sets of members at some places.
-ghost use Rattle.std.specs.Prelude.{◌≡◌, ◌<◌, Bool, true, false, length, nat_eq, map, IfOk, IfNone, IfSome};
-ghost use Rattle.task_sets.specs.Times.{has};
+ghost use Rattle.std.specs.Prelude.{◌≡◌, ℕ, ◌<◌, ◌≤◌, ◌+◌, Bool, true, false, length, map, IfOk, IfNone, IfSome};
 ghost use Rattle.region.specs.Looks.{IsRegionOf};
 ghost use Rattle.findings.specs.Found.{IsFinding};
 ghost use Rattle.refute_seq.specs.declared.witness.SeqWitness.TheVariants as witness;
 ghost use Rattle.refute_seq.specs.OnSequence.{refutes};
 ghost use Rattle.prop_sets.specs.code.Tasks.{looks_after, quiet};
 ghost use Rattle.prop_sets.specs.code.Rows.{member_at, side_of};
-ghost use Rattle.prop_sets.specs.code.Busy.{IsBusy, name_at, ids_of};
+ghost use Rattle.prop_sets.specs.code.Busy.{IsBusy, IsNext, IsNextOf, name_at, ids_of};
 
 use crate::passes::{Behind, Cut};
 use findings::{Finding, ask};
@@ -47,29 +46,39 @@ fn member_at(members: &[Itv], k: u32) -> Itv
     members[k as usize]
 }
 
-/// Whether one of the members at some places has this id.
-#[tactic(auto, using(crate::proofs::Answered::none_named, crate::proofs::Answered::more_named, crate::proofs::Answered::one_named, crate::proofs::Answered::all_named))]
-fn has_id(members: &[Itv], set: &[u32], x: u32) -> bool
-    ensures { result ≡ has (map (name_at members.now) set.now) x }
+/// The sooner of an id that isn't below a number and the next one, where these are told of the places
+/// before one.
+fn sooner(members: &[Itv], set: &[u32], from: u32, j: usize, next: u32) -> u32
+    requires { j < length set.now }
+    ensures { (n : ℕ) → IsNextOf members.now set.now j from n next → IsNextOf members.now set.now (j + 1) from n result }
 {
+    let id = member_at(members, set[j]).0;
+    if from <= id && id < next { id } else { next }
+}
+
+/// The least id from one on that a member at one of some places has, where it is below `n`, else this.
+#[tactic(auto, using(crate::proofs::Naming::none_next, crate::proofs::Naming::all_next))]
+fn next_id(members: &[Itv], set: &[u32], from: u32, n: u32) -> u32
+    requires { from ≤ n }
+    ensures { IsNext (map (name_at members.now) set.now) from n result }
+{
+    let mut next = n;
     for j in 0..set.len() {
-        if member_at(members, set[j]).0 == x {
-            return true;
-        }
+        next = sooner(members, set, from, j, next);
     }
-    false
+    next
 }
 
 /// The ids of the members at some places, in rising order; they lie below a number.
-#[tactic(auto, using(crate::proofs::Marking::none_picked, crate::proofs::Marking::one_picked, crate::proofs::Marking::one_passed, crate::proofs::Marking::all_picked))]
+#[tactic(auto, using(crate::proofs::Naming::first_next, crate::proofs::Naming::next_picked, crate::proofs::Naming::all_picked))]
 fn ids_of(alloc: Global, members: &[Itv], set: &[u32], n: u32) -> Result<Few, NoMemory>
     ensures { IfOk result (λ s. s ≡ ids_of members.now set.now n) }
 {
     let mut ids = Few::new(alloc);
-    for x in 0..n {
-        if has_id(members, set, x) {
-            ids.push(x)?;
-        }
+    let mut x = next_id(members, set, 0, n);
+    while x < n {
+        ids.push(x)?;
+        x = next_id(members, set, x + 1, n);
     }
     Ok(ids)
 }

@@ -1,5 +1,5 @@
 -- A witness that refutes where it is asked, without a guess or under one on a member.
-use Rattle.std.specs.Prelude.{◌≡◌, ℕ, ℤ, true, List, [], ◌∷◌, map, Option}
+use Rattle.std.specs.Prelude.{◌≡◌, ℕ, ◌<◌, ◌≤◌, ℤ, true, false, List, [], ◌∷◌, map, take, Option}
 use Rattle.sched_base.specs.declared.ids.Itv.{Itv}
 use Rattle.sched_model.specs.Data.{Data}
 use Rattle.region.specs.declared.types.Guess.{Guess}
@@ -30,6 +30,17 @@ name_at xs k = (member_at xs k).0
 
 abbrev pub ids_of : List Itv → List ℕ → ℕ → List ℕ
 ids_of xs set n = keep (has (map (name_at xs) set)) (up_from 0 n)
+
+-- the least of some ids from one on, where it is below n, else n
+pub record IsNext (ids : List ℕ) (from n next : ℕ) : Type 0 where
+  pub since : from ≤ next
+  pub within : next ≤ n
+  pub there : next < n → has ids next ≡ true
+  pub first : (x : ℕ) → from ≤ x → x < next → has ids x ≡ false
+
+-- the same of the members at the first k of some places
+abbrev pub IsNextOf : List Itv → List ℕ → ℕ → ℕ → ℕ → ℕ → Type 0
+IsNextOf xs set k from n next = IsNext (map (name_at xs) (take k set)) from n next
 
 -- a candidate, and a set by which it is late
 pub record IsLateFound (rows : List Row) (k : ℕ) (set : List ℕ) : Type 0 where

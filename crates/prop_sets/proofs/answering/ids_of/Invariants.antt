@@ -1,8 +1,9 @@
-use Rattle.std.specs.Prelude.{◌≡◌, map}
-use Rattle.task_sets.specs.Times.{has}
-use Rattle.task_sets.specs.laws.Ects.{up_from, keep}
-use Rattle.prop_sets.specs.code.Busy.{name_at}
+use Rattle.std.specs.Prelude.{◌-◌}
+use Rattle.prop_sets.proofs.Naming.{ArePicked}
 use Rattle.prop_sets.proofs.answering.ids_of.Given as goal
 
 abbrev pub invariant-loop-x : goal.invariant-loop-x
-invariant-loop-x l = l.ids ≡ keep (has (map (name_at l.members) l.set)) (up_from 0 l.x)
+invariant-loop-x l = ArePicked l.members l.set l.n l.x l.ids
+
+abbrev pub decreases-loop-x : goal.decreases-loop-x
+decreases-loop-x l = l.n - l.x
