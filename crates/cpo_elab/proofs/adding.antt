@@ -7,3 +7,4 @@ pub mod Kept
 pub mod Lists
 pub mod Parted
 pub mod Rooms
+pub mod Trees

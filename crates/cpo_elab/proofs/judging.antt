@@ -5,6 +5,7 @@ pub mod Determined
 pub mod Facts
 pub mod Given
 pub mod OnlyWords
+pub mod Ordered
 pub mod Spelt
 pub mod Stated
 pub mod Stepped

@@ -1,4 +1,6 @@
+pub mod Counted
 pub mod Drafts
 pub mod Items
+pub mod Judging
 pub mod Steps
 pub mod ValidLaws

@@ -1,25 +1,24 @@
 ghost use Rattle.std.specs.Prelude.{◌≡◌, ◌≤◌, ℕ, false, true, length, Some, None, IfOk, option_map};
 ghost use Rattle.sched_model.specs.Words.{passes};
-ghost use Rattle.sched_model.specs.Data.{with_constraint, with_objective};
+ghost use Rattle.sched_model.specs.Data.{with_constraint};
 ghost use Rattle.sched_model.specs.Valid.{IsValid};
 ghost use Rattle.cpo_text.specs.declared.tree.Statement.TheVariants.{Define};
 ghost use Rattle.cpo_elab.specs.Named.{is_defined};
-ghost use Rattle.cpo_elab.specs.Held.{some_amount, some_int, rows_in};
-ghost use Rattle.cpo_elab.specs.Elaborated.{types_in, sequence_named, matrix_named, state_named, cumul_named, defined, constraint_of, named_itself, with_unnamed, with_listed, with_written, objective_of, after};
+ghost use Rattle.cpo_elab.specs.Held.{some_amount, some_int, rows_in, logic_held, logic_in};
+ghost use Rattle.cpo_elab.specs.Elaborated.{types_in, sequence_named, matrix_named, state_named, cumul_named, defined, constraint_of, named_itself, with_unnamed, with_listed, with_written, expr_of, after};
 ghost use Rattle.cpo_elab.specs.code.Items.{with_item, item_name, with_any, IsUnnamed};
-ghost use Rattle.cpo_elab.specs.Judged.{is_large, is_negative, number_in};
+ghost use Rattle.cpo_elab.specs.Judged.{is_large, is_negative, aims_again, number_in};
 ghost use Rattle.cpo_elab.specs.Shaped.{is_shaped};
 
 use crate::constraints::{constraint_of, is_unnamed, sense_of};
 use crate::copies::{cells_in, itvs_of, types_in};
 use crate::draft::Draft;
-use crate::exprs::expr_of;
 use crate::interval::interval_of;
 use crate::item::Item;
 use crate::parts::parts_in;
-use cpo_text::{Constrained, Cumul, Definition, Int, Logic, Over, Sense, Statement};
+use cpo_text::{Constrained, Cumul, Definition, Int, Over, Statement};
 use sched_base::{List, NoMemory};
-use sched_model::{Constraint, CumulDef, MatrixDef, Objective, SequenceDef, StateDef};
+use sched_model::{Constraint, CumulDef, Expr, MatrixDef, Objective, SequenceDef, StateDef};
 use std::alloc::Global;
 
 fn copy(alloc: Global, name: &[u8]) -> Result<List<u8>, NoMemory>
@@ -189,12 +188,13 @@ fn written(alloc: Global, draft: &Draft, c: &Constrained) -> Result<Option<Item>
     }
 }
 
-/// A constraint, and what it writes without a name.
+/// A constraint that is no expression, and what it writes without a name.
 fn constraint_with(
     alloc: Global,
     draft: &Draft,
     c: &Constrained,
 ) -> Result<(Option<Item>, Constraint), NoMemory>
+    requires { logic_held c.now ≡ None }
     ensures item { IfOk result (λ x. with_any x.0 draft.now ≡ with_written draft.now c.now) }
     ensures name { IfOk result (λ x. IsUnnamed x.0) }
     ensures constraint { IfOk result (λ x. x.1 ≡ constraint_of draft.now c.now) }
@@ -204,8 +204,9 @@ fn constraint_with(
     Ok((item, constraint))
 }
 
-/// The draft with a constraint.
+/// The draft with a constraint that is no expression.
 fn constrain(alloc: Global, draft: Draft, c: &Constrained) -> Result<Draft, NoMemory>
+    requires plain { logic_held c.now ≡ None }
     requires written { IsValid (with_written draft c.now) }
     requires valid { IsValid (with_constraint (constraint_of draft c.now) (with_written draft c.now)) }
     ensures { IfOk result (λ e. e ≡ with_constraint (constraint_of draft c.now) (with_written draft c.now)) }
@@ -214,21 +215,9 @@ fn constrain(alloc: Global, draft: Draft, c: &Constrained) -> Result<Draft, NoMe
     draft.with_constraint(item, constraint)
 }
 
-/// The draft with an objective.
-fn aim(alloc: Global, draft: Draft, sense: Sense, e: &Logic) -> Result<Draft, NoMemory>
-    requires valid { IsValid (with_objective (objective_of draft sense e.now) draft) }
-    requires first { draft.objective ≡ None }
-    ensures { IfOk result (λ d. d ≡ with_objective (objective_of draft sense e.now) draft) }
-{
-    let expr = expr_of(alloc, &draft, e)?;
-    Ok(draft.with_objective(Objective {
-        sense: sense_of(sense),
-        expr,
-    }))
-}
-
-/// The draft with a statement that deserves no number behind some others.
-pub fn with_statement(alloc: Global, draft: Draft, s: &Statement) -> Result<Draft, NoMemory>
+/// The draft with a statement that holds no expression.
+fn with_plain(alloc: Global, draft: Draft, s: &Statement) -> Result<Draft, NoMemory>
+    requires plain { logic_in s.now ≡ None }
     requires valid { IsValid draft }
     requires shaped { is_shaped s.now ≡ true }
     requires clear { (k : ℕ) × (number_in draft k s.now ≡ None) }
@@ -238,6 +227,44 @@ pub fn with_statement(alloc: Global, draft: Draft, s: &Statement) -> Result<Draf
         Statement::Empty => Ok(draft),
         Statement::Define(name, d) => define(alloc, draft, name.as_slice(), d),
         Statement::Constrain(c) => constrain(alloc, draft, c),
-        Statement::Aim(sense, e) => aim(alloc, draft, *sense, e),
+        Statement::Aim(_, _) => unreachable!(),
+    }
+}
+
+/// The draft with a statement that holds this expression.
+fn with_expr(draft: Draft, s: &Statement, expr: Expr) -> Result<Draft, NoMemory>
+    requires held { Some expr ≡ option_map (expr_of draft) (logic_in s.now) }
+    requires valid { IsValid draft }
+    requires after { IsValid (after draft s.now) }
+    requires single { aims_again draft s.now ≡ false }
+    ensures { IfOk result (λ e. e ≡ after draft s.now) }
+{
+    match s {
+        Statement::Constrain(_) => draft.with_constraint(None, Constraint::Logic(expr)),
+        Statement::Aim(sense, _) => Ok(draft.with_objective(Objective {
+            sense: sense_of(*sense),
+            expr,
+        })),
+        _ => unreachable!(),
+    }
+}
+
+/// The draft with a statement that deserves no number behind some others. The expression that the
+/// statement holds, if it holds one, is `written`.
+pub fn with_statement(
+    alloc: Global,
+    draft: Draft,
+    s: &Statement,
+    written: Option<Expr>,
+) -> Result<Draft, NoMemory>
+    requires written { written ≡ option_map (expr_of draft) (logic_in s.now) }
+    requires valid { IsValid draft }
+    requires shaped { is_shaped s.now ≡ true }
+    requires clear { (k : ℕ) × (number_in draft k s.now ≡ None) }
+    ensures { IfOk result (λ e. e ≡ after draft s.now) }
+{
+    match written {
+        None => with_plain(alloc, draft, s),
+        Some(expr) => with_expr(draft, s, expr),
     }
 }

@@ -1,10 +1,10 @@
-ghost use Rattle.std.specs.Prelude.{◌≡◌, is_none, IfOk, option_map};
+ghost use Rattle.std.specs.Prelude.{◌≡◌, None, is_none, IfOk, option_map};
 ghost use Rattle.cpo_elab.specs.Named.{mat_of};
+ghost use Rattle.cpo_elab.specs.Held.{logic_held};
 ghost use Rattle.cpo_elab.specs.Elaborated.{points_of, temporal_of, hierarchy_of, extreme_of, order_of, bound_of, window_of, sequence_id, named_itself, cumul_id, is_direct, aligned_of, constraint_of, sense_of};
 
 use crate::copies::itvs_of;
 use crate::draft::Draft;
-use crate::exprs::expr_of;
 use crate::literals::{int_of, int_or_zero};
 use cpo_text::{
     Bound, Constrained, Cpart, Cumul, Extreme, Hierarchy, Moments, Order, Over, Sense, Spaced,
@@ -172,8 +172,10 @@ fn aligned_of(aligned: Option<(bool, bool)>) -> (bool, bool)
     aligned.unwrap_or((false, false))
 }
 
-/// The constraint of a model that is written. What it writes without a name has the next number.
+/// The constraint of a model that is written, where it is no expression. What it writes without a
+/// name has the next number.
 pub fn constraint_of(alloc: Global, draft: &Draft, c: &Constrained) -> Result<Constraint, NoMemory>
+    requires { logic_held c.now ≡ None }
     ensures { IfOk result (λ x. x ≡ constraint_of draft.now c.now) }
 {
     match c {
@@ -222,7 +224,7 @@ pub fn constraint_of(alloc: Global, draft: &Draft, c: &Constrained) -> Result<Co
             g: draft.stf_of(g.as_slice()),
             a: draft.itv_of(a.as_slice()),
         }),
-        Constrained::Holds(e) => Ok(Constraint::Logic(expr_of(alloc, draft, e)?)),
+        Constrained::Holds(_) => unreachable!(),
     }
 }
 

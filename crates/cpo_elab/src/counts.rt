@@ -9,8 +9,9 @@ use cpo_text::{Cpart, Cumul};
 use sched_base::Cum;
 use sched_model::{Constraint, Expr, Model, Part};
 
+/// The sum of two counts, as far as it can be counted.
 #[tactic(auto, unfolding(crate::specs::code::Drafts::plus))]
-fn plus(a: u64, b: u64) -> u64
+pub fn plus(a: u64, b: u64) -> u64
     ensures { result ≡ plus a b }
 {
     a.saturating_add(b)

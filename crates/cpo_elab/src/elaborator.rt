@@ -1,17 +1,19 @@
-ghost use Rattle.std.specs.Prelude.{◌≡◌, ◌+◌, true, None, IfOk};
+ghost use Rattle.std.specs.Prelude.{◌≡◌, ◌+◌, true, None, option_map, IfOk};
 ghost use Rattle.sched_model.specs.Valid.{IsValid};
 ghost use Rattle.cpo_text.specs.declared.text.ReadFault.TheVariants as fault;
-ghost use Rattle.cpo_elab.specs.Elaborated.{after};
+ghost use Rattle.cpo_elab.specs.Held.{logic_in};
+ghost use Rattle.cpo_elab.specs.Elaborated.{expr_of, after};
 ghost use Rattle.cpo_elab.specs.Judged.{number_in};
 ghost use Rattle.cpo_elab.specs.Shaped.{is_shaped, is_shaped_form};
+ghost use Rattle.cpo_elab.specs.code.Judging.{Judges};
 ghost use Rattle.cpo_elab.specs.code.Steps.{first_state, TakesStatement, Takes};
 
 use crate::build::with_statement;
 use crate::draft::Draft;
-use crate::judge::number_in;
+use crate::judge::{Judgement, judgement_in};
 use cpo_text::{Form, ReadFault, Reading, Refusal, Statement};
 use sched_base::NoMemory;
-use sched_model::Model;
+use sched_model::{Expr, Model};
 use std::alloc::Global;
 
 /// The draft of the statements read so far, and their number.
@@ -63,15 +65,22 @@ impl Elaborator {
         self.statements + 1
     }
 
-    /// The number that the next statement deserves.
-    fn number_in(&self, alloc: Global, s: &Statement) -> Result<Option<u32>, NoMemory>
-        ensures { IfOk result (λ o. o ≡ number_in self.now.model (self.now.statements + 1) s.now) }
+    /// What the next statement deserves.
+    fn judgement(&self, alloc: Global, s: &Statement) -> Result<Judgement, NoMemory>
+        ensures { IfOk result (λ j. Judges self.now.model (self.now.statements + 1) s.now j) }
     {
-        number_in(alloc, &self.draft, self.statements, s)
+        judgement_in(alloc, &self.draft, self.statements, s)
     }
 
-    /// The elaborator with a statement that deserves no number.
-    fn with(self, alloc: Global, s: &Statement) -> Result<Elaborator, NoMemory>
+    /// The elaborator with a statement that deserves no number, and with the expression that the
+    /// statement holds, if it holds one.
+    fn with(
+        self,
+        alloc: Global,
+        s: &Statement,
+        written: Option<Expr>,
+    ) -> Result<Elaborator, NoMemory>
+        requires written { written ≡ option_map (expr_of self.model) (logic_in s.now) }
         requires shaped { is_shaped s.now ≡ true }
         requires clear { number_in self.model (self.statements + 1) s.now ≡ None }
         ensures { IfOk result (λ e. e ≡ record { model = after self.model s.now; statements = self.statements + 1 }) }
@@ -80,7 +89,7 @@ impl Elaborator {
         // Called for its clause alone.
         let _ = draft.model();
         Ok(Elaborator {
-            draft: with_statement(alloc, draft, s)?,
+            draft: with_statement(alloc, draft, s, written)?,
             statements: statements + 1,
         })
     }
@@ -91,9 +100,9 @@ impl Elaborator {
         ensures { TakesStatement self s.now at result }
     {
         let statement = self.next();
-        match self.number_in(alloc, s)? {
-            Some(number) => Err(refused(number, statement, at)),
-            None => Ok(self.with(alloc, s)?),
+        match self.judgement(alloc, s)? {
+            Judgement::Refused(number) => Err(refused(number, statement, at)),
+            Judgement::Taken(written) => Ok(self.with(alloc, s, written)?),
         }
     }
 

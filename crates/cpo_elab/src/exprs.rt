@@ -81,33 +81,32 @@ pub fn expr_of(alloc: Global, draft: &Draft, e: &Logic) -> Result<Expr, NoMemory
             let parts = exprs_of(alloc, draft, parts.as_slice())?;
             Ok(link_of(*link, parts))
         }
-        Logic::Neg(part) => {
-            let part = expr_of(alloc, draft, part.get())?;
-            Ok(Expr::Neg(Boxed::new(alloc, part)?))
-        }
+        Logic::Neg(part) => Ok(Expr::Neg(boxed_of(alloc, draft, part.get())?)),
         Logic::Sum(parts) => {
             let parts = exprs_of(alloc, draft, parts.as_slice())?;
             Ok(Expr::Sum(parts))
         }
         Logic::Compare(comparison, a, b) => {
-            let a = expr_of(alloc, draft, a.get())?;
-            let b = expr_of(alloc, draft, b.get())?;
-            let a = Boxed::new(alloc, a)?;
-            let b = Boxed::new(alloc, b)?;
+            let a = boxed_of(alloc, draft, a.get())?;
+            let b = boxed_of(alloc, draft, b.get())?;
             Ok(Expr::Compare(compare_of(*comparison), a, b))
         }
-        Logic::Not(part) => {
-            let part = expr_of(alloc, draft, part.get())?;
-            Ok(Expr::Not(Boxed::new(alloc, part)?))
-        }
+        Logic::Not(part) => Ok(Expr::Not(boxed_of(alloc, draft, part.get())?)),
         Logic::Implies(a, b) => {
-            let a = expr_of(alloc, draft, a.get())?;
-            let b = expr_of(alloc, draft, b.get())?;
-            let a = Boxed::new(alloc, a)?;
-            let b = Boxed::new(alloc, b)?;
+            let a = boxed_of(alloc, draft, a.get())?;
+            let b = boxed_of(alloc, draft, b.get())?;
             Ok(Expr::Implies(a, b))
         }
     }
+}
+
+/// The expression of a part. In a function of its own, which owns it over one way out.
+#[cycle(expr_of)]
+fn boxed_of(alloc: Global, draft: &Draft, part: &Logic) -> Result<Boxed<Expr>, NoMemory>
+    ensures { IfOk result (λ x. x ≡ expr_of draft.now part.now) }
+{
+    let part = expr_of(alloc, draft, part)?;
+    Boxed::new(alloc, part)
 }
 
 #[cycle(expr_of)]

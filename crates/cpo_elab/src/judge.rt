@@ -1,10 +1,11 @@
-ghost use Rattle.std.specs.Prelude.{◌≡◌, ◌+◌, [], ◌∷◌, is_none, option_map, IfOk};
+ghost use Rattle.std.specs.Prelude.{◌≡◌, ◌+◌, ℕ, None, is_none, option_map, IfOk};
 ghost use Rattle.sched_model.specs.Words.{passes};
 ghost use Rattle.sched_model.specs.Hull.{hull_of};
 ghost use Rattle.cpo_elab.specs.Held.{logic_in};
 ghost use Rattle.cpo_elab.specs.Elaborated.{expr_of};
 ghost use Rattle.cpo_elab.specs.Factors.{factor_of};
-ghost use Rattle.cpo_elab.specs.Judged.{passes_limit, aims_again, has_no_hull, is_crowded, has_crowded, first_of, number_in};
+ghost use Rattle.cpo_elab.specs.Judged.{aims_again, has_no_hull, is_crowded, has_crowded};
+ghost use Rattle.cpo_elab.specs.code.Judging.{early_number, late_number, Judges};
 
 use crate::draft::Draft;
 use crate::exprs::expr_of;
@@ -17,6 +18,15 @@ use cpo_text::{Cause, Constrained, Logic, Statement};
 use sched_base::NoMemory;
 use sched_model::{Expr, Model, hull};
 use std::alloc::Global;
+
+/// What a statement deserves.
+#[derive(Drop)]
+pub enum Judgement {
+    /// The number of a refusal.
+    Refused(u32),
+    /// No refusal. The expression that it holds, if it holds one, is here.
+    Taken(Option<Expr>),
+}
 
 /// The expression of a statement, if it has one.
 fn written(alloc: Global, draft: &Draft, s: &Statement) -> Result<Option<Expr>, NoMemory>
@@ -86,37 +96,15 @@ fn has_crowded(s: &Statement) -> bool
     }
 }
 
-/// The number that the last four tests give a statement, whose expression is `written`.
-///
-/// In a function that borrows the expression, since each way out of one that owns it lets it go.
-fn late_number(draft: &Draft, before: u32, s: &Statement, written: &Option<Expr>) -> Option<u32>
-    requires { written.now ≡ option_map (expr_of draft.now) (logic_in s.now) }
-    ensures { result ≡ first_of ((passes_limit draft.now (before + 1) s.now, 11) ∷ (aims_again draft.now s.now, 12) ∷ (has_no_hull draft.now s.now, 13) ∷ (has_crowded s.now, 14) ∷ []) }
-{
-    if passes_limit(draft, before, s, written) {
-        return Some(Cause::LimitPassed as u32);
-    }
-    if aims_again(draft, s) {
-        return Some(Cause::SecondObjective as u32);
-    }
-    if has_no_hull(draft, s, written) {
-        return Some(Cause::NoHull as u32);
-    }
-    if has_crowded(s) {
-        return Some(Cause::LeftOut as u32);
-    }
-    None
-}
-
-/// The number that a statement deserves behind so many others.
-#[tactic(auto, unfolding(crate::specs::Judged::number_in))]
-pub fn number_in(
+/// The number that a statement deserves behind so many others by the tests that need no expression
+/// of a model. The nodes of one are counted on its tree, so that none is built beyond the limit.
+fn early_number(
     alloc: Global,
     draft: &Draft,
     before: u32,
     s: &Statement,
 ) -> Result<Option<u32>, NoMemory>
-    ensures { IfOk result (λ o. o ≡ number_in draft.now (before + 1) s.now) }
+    ensures { IfOk result (λ o. o ≡ early_number draft.now (before + 1) s.now) }
 {
     if defines_again(draft, s) {
         return Ok(Some(Cause::DefinedAgain as u32));
@@ -139,6 +127,57 @@ pub fn number_in(
     if has_twice(alloc, draft, s)? {
         return Ok(Some(Cause::TwiceInList as u32));
     }
-    let written = written(alloc, draft, s)?;
-    Ok(late_number(draft, before, s, &written))
+    if passes_limit(draft, before, s) {
+        return Ok(Some(Cause::LimitPassed as u32));
+    }
+    if aims_again(draft, s) {
+        return Ok(Some(Cause::SecondObjective as u32));
+    }
+    Ok(None)
+}
+
+/// The number that the last two tests give a statement, whose expression is `written`.
+fn late_number(draft: &Draft, s: &Statement, written: &Option<Expr>) -> Option<u32>
+    requires { written.now ≡ option_map (expr_of draft.now) (logic_in s.now) }
+    ensures { result ≡ late_number draft.now s.now }
+{
+    if has_no_hull(draft, s, written) {
+        return Some(Cause::NoHull as u32);
+    }
+    if has_crowded(s) {
+        return Some(Cause::LeftOut as u32);
+    }
+    None
+}
+
+/// The expression of a statement, if it has one, where the last two tests give no number.
+///
+/// In a function of its own, since each way out of one that owns an expression lets it go.
+#[tactic(auto, using(crate::proofs::judging::Ordered::late_decides))]
+fn judgement_of(draft: &Draft, s: &Statement, written: Option<Expr>) -> Judgement
+    requires { written ≡ option_map (expr_of draft.now) (logic_in s.now) }
+    ensures { (k : ℕ) → early_number draft.now k s.now ≡ None → Judges draft.now k s.now result }
+{
+    match late_number(draft, s, &written) {
+        Some(number) => Judgement::Refused(number),
+        None => Judgement::Taken(written),
+    }
+}
+
+/// What a statement deserves behind so many others.
+pub fn judgement_in(
+    alloc: Global,
+    draft: &Draft,
+    before: u32,
+    s: &Statement,
+) -> Result<Judgement, NoMemory>
+    ensures { IfOk result (λ j. Judges draft.now (before + 1) s.now j) }
+{
+    match early_number(alloc, draft, before, s)? {
+        Some(number) => Ok(Judgement::Refused(number)),
+        None => {
+            let written = written(alloc, draft, s)?;
+            Ok(judgement_of(draft, s, written))
+        }
+    }
 }

@@ -22,6 +22,7 @@ mod named_first;
 mod named_first_laws;
 mod names;
 mod parts;
+mod tree_nodes;
 mod uses;
 mod valid_laws;
 mod whole;

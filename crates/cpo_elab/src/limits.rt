@@ -1,4 +1,4 @@
-ghost use Rattle.std.specs.Prelude.{◌≡◌, ◌+◌, ◌≤◌, ◌&&◌, ℕ, length, nat_le, nat_lt, option_map};
+ghost use Rattle.std.specs.Prelude.{◌≡◌, ◌+◌, ◌≤◌, ◌&&◌, ℕ, length, nat_le, nat_lt};
 ghost use Rattle.sched_model.specs.Words.{passes, passes_if_any};
 ghost use Rattle.sched_model.specs.Data.{with_interval, with_matrix, with_sequence, with_cumul, with_state};
 ghost use Rattle.sched_model.specs.Valid.{cell_count, node_total, node_count, pair_count, is_within_limits};
@@ -9,17 +9,17 @@ ghost use Rattle.sched_model.specs.declared.types.CumulDef.{CumulDef};
 ghost use Rattle.sched_model.specs.declared.types.StateDef.{StateDef};
 ghost use Rattle.cpo_text.specs.declared.tree.Statement.TheVariants.{Constrain};
 ghost use Rattle.cpo_elab.specs.Named.{name_defined};
-ghost use Rattle.cpo_elab.specs.Held.{listed_in, logic_in, logic_held, members_defined, members_written, rows_in};
+ghost use Rattle.cpo_elab.specs.Held.{listed_in, logic_held, members_defined, members_written, rows_in};
 ghost use Rattle.cpo_elab.specs.Elaborated.{expr_of, named_itself, with_unnamed, with_listed, with_written, defined, after};
 ghost use Rattle.cpo_elab.specs.Judged.{is_wide, leaves_room, passes_limit};
 ghost use Rattle.cpo_elab.specs.code.Drafts.{capped};
 
 use crate::constraints::is_unnamed;
-use crate::counts::{nodes, pair_count, parts_count};
+use crate::counts::{pair_count, parts_count};
 use crate::draft::Draft;
 use crate::flaws::{has_large, is_outside};
-use cpo_text::{Constrained, Cumul, Definition, Over, Statement};
-use sched_model::Expr;
+use crate::tree_nodes::tree_nodes;
+use cpo_text::{Constrained, Cumul, Definition, Logic, Over, Statement};
 
 /// The most statements that a text may have, empty ones counted.
 pub const STATEMENT_LIMIT: u32 = 100_000;
@@ -245,28 +245,33 @@ fn has_constraint_room(draft: &Draft) -> bool
     draft.model().constraints().len() < CONSTRAINT_LIMIT
 }
 
-/// Whether there is room for the nodes of an expression, if there is one.
-fn expr_fits(draft: &Draft, written: &Option<Expr>) -> bool
-    ensures { result ≡ passes_if_any (λ e. nat_le (node_total draft.now + node_count e) 100000) written.now }
+/// Whether there is room for the nodes of an expression, which are counted on its tree.
+fn expr_fits(draft: &Draft, e: &Logic) -> bool
+    ensures { result ≡ nat_le (node_total draft.now + node_count (expr_of draft.now e.now)) 100000 }
 {
-    match written {
-        None => true,
-        Some(e) => nodes_fit(draft, nodes(e)),
+    nodes_fit(draft, tree_nodes(e))
+}
+
+/// Whether there is room for the nodes of the expression of a constraint, if it is one.
+fn held_fits(draft: &Draft, c: &Constrained) -> bool
+    ensures { result ≡ passes_if_any (λ e. nat_le (node_total draft.now + node_count (expr_of draft.now e)) 100000) (logic_held c.now) }
+{
+    match c {
+        Constrained::Holds(e) => expr_fits(draft, e),
+        _ => true,
     }
 }
 
 /// Whether there is room for a constraint, with what it writes without a name.
-fn constraint_fits(draft: &Draft, c: &Constrained, written: &Option<Expr>) -> bool
-    requires { written.now ≡ option_map (expr_of draft.now) (logic_held c.now) }
+fn constraint_fits(draft: &Draft, c: &Constrained) -> bool
     ensures { result ≡ (nat_le (length (members_written c.now)) 500 && is_within_limits (after draft.now (Constrain c.now))) }
 {
     let room = both(has_constraint_room(draft), written_fits(draft, c));
-    both(room, expr_fits(draft, written))
+    both(room, held_fits(draft, c))
 }
 
-/// Whether the model has room for what a statement adds; `written` is its expression.
-fn leaves_room(draft: &Draft, s: &Statement, written: &Option<Expr>) -> bool
-    requires { written.now ≡ option_map (expr_of draft.now) (logic_in s.now) }
+/// Whether the model has room for what a statement adds.
+fn leaves_room(draft: &Draft, s: &Statement) -> bool
     ensures { result ≡ leaves_room draft.now s.now }
 {
     // Called for its clause alone.
@@ -274,14 +279,13 @@ fn leaves_room(draft: &Draft, s: &Statement, written: &Option<Expr>) -> bool
     match s {
         Statement::Empty => true,
         Statement::Define(name, d) => definition_fits(draft, name.as_slice(), d),
-        Statement::Constrain(c) => constraint_fits(draft, c, written),
-        Statement::Aim(_, _) => expr_fits(draft, written),
+        Statement::Constrain(c) => constraint_fits(draft, c),
+        Statement::Aim(_, e) => expr_fits(draft, e),
     }
 }
 
 /// Whether a limit is passed by a statement, with `before` statements in front of it.
-pub fn passes_limit(draft: &Draft, before: u32, s: &Statement, written: &Option<Expr>) -> bool
-    requires { written.now ≡ option_map (expr_of draft.now) (logic_in s.now) }
+pub fn passes_limit(draft: &Draft, before: u32, s: &Statement) -> bool
     ensures { result ≡ passes_limit draft.now (before + 1) s.now }
 {
     if STATEMENT_LIMIT <= before {
@@ -290,5 +294,5 @@ pub fn passes_limit(draft: &Draft, before: u32, s: &Statement, written: &Option<
     if is_wide(s) {
         return true;
     }
-    !leaves_room(draft, s, written)
+    !leaves_room(draft, s)
 }

@@ -1,5 +1,5 @@
 -- Which limits one more thing passes.
-use Rattle.std.proofs.Common.{◌≡◌, ℕ, ◌+◌, ◌<◌, ◌≤◌, Bool, true, false, ◌&&◌, List, [], ◌∷◌, length, nat_le, nat_lt, Option, Some, None, option_map, refl, sym, ap, ◌∙◌, arith}
+use Rattle.std.proofs.Common.{◌≡◌, ℕ, ◌+◌, ◌<◌, ◌≤◌, Bool, true, false, ◌&&◌, List, [], ◌∷◌, length, nat_le, nat_lt, Option, Some, None, refl, sym, ap, ◌∙◌, arith}
 use Rattle.std.proofs.lemmas.List.{length-append}
 use Rattle.std.proofs.lemmas.List.Sums.{sum_by_push}
 use Rattle.std.proofs.lemmas.Bool.Decides.{nat_tests}
@@ -11,7 +11,6 @@ use Rattle.sched_model.specs.declared.types.SequenceDef.{SequenceDef}
 use Rattle.sched_model.specs.declared.types.CumulDef.{CumulDef}
 use Rattle.sched_model.specs.declared.types.StateDef.{StateDef}
 use Rattle.sched_model.specs.declared.types.Constraint.{Constraint}
-use Rattle.sched_model.specs.declared.types.Expr.{Expr}
 use Rattle.sched_model.specs.Words.{passes_if_any}
 use Rattle.sched_model.specs.Data.{Data, with_interval, with_matrix, with_sequence, with_cumul, with_state, with_constraint}
 use Rattle.sched_model.specs.Valid.{pair_count, nodes_of, node_count, cell_count, node_total, is_within_limits}
@@ -206,47 +205,39 @@ shuffle true false before last = refl
 shuffle false true before last = refl
 shuffle false false before last = refl
 
-plain : (m : Data) (c : Constraint) (small : Bool) (test : Expr → Bool) (written : Option Expr) → nodes_of c ≡ 0 → written ≡ None
-    → ((nat_lt (length m.constraints) 20000 && (small && is_within_limits m)) && passes_if_any test written) ≡ (small && is_within_limits (with_constraint c m))
-plain m c small test written none is =
-    ap (λ o. (nat_lt (length m.constraints) 20000 && (small && is_within_limits m)) && passes_if_any test o) is
-    ∙ shuffle (nat_lt (length m.constraints) 20000) small (is_within_limits m) true
+plain : (m : Data) (c : Constraint) (small : Bool) → nodes_of c ≡ 0
+    → ((nat_lt (length m.constraints) 20000 && (small && is_within_limits m)) && true) ≡ (small && is_within_limits (with_constraint c m))
+plain m c small none =
+    shuffle (nat_lt (length m.constraints) 20000) small (is_within_limits m) true
     ∙ ap (λ b. small && b) (room_constraint m c 0 true none (no_nodes m))
 
-bounded : (m : Data) (f : Cumul) (o : Option (List ℕ)) (c : Constraint) (small : Bool) (test : Expr → Bool) (written : Option Expr) → nodes_of c ≡ 0 → written ≡ None
-    → ((nat_lt (length m.constraints) 20000 && (small && is_within_limits (with_unnamed m f o))) && passes_if_any test written) ≡ (small && is_within_limits (with_constraint c (with_unnamed m f o)))
-bounded m f None c small test written none is = plain (with_unnamed m f None) c small test written none is
-bounded m f (Some n) c small test written none is = plain m c small test written none is
+bounded : (m : Data) (f : Cumul) (o : Option (List ℕ)) (c : Constraint) → nodes_of c ≡ 0
+    → ((nat_lt (length m.constraints) 20000 && (true && is_within_limits (with_unnamed m f o))) && true) ≡ (true && is_within_limits (with_constraint c (with_unnamed m f o)))
+bounded m f None c none = plain (with_unnamed m f None) c true none
+bounded m f (Some n) c none = plain m c true none
 
-abbrev pub node_test : Data → Expr → Bool
-node_test m e = nat_le (node_total m + node_count e) 100000
+abbrev pub node_test : Data → Logic → Bool
+node_test m e = nat_le (node_total m + node_count (expr_of m e)) 100000
 
-held : (m : Data) (e : Logic) (written : Option Expr) → written ≡ Some (expr_of m e)
-    → ((nat_lt (length m.constraints) 20000 && is_within_limits m) && passes_if_any (node_test m) written) ≡ is_within_limits (with_constraint (constraint_of m (Holds e)) m)
-held m e written is =
-    ap (λ o. (nat_lt (length m.constraints) 20000 && is_within_limits m) && passes_if_any (node_test m) o) is
-    ∙ room_constraint m (constraint_of m (Holds e)) (node_count (expr_of m e)) (node_test m (expr_of m e)) refl (λ _. refl)
-
-pub constraint_rooms : (m : Data) (c : Constrained) (written : Option Expr) → written ≡ option_map (expr_of m) (logic_held c)
-    → ((nat_lt (length m.constraints) 20000 && (nat_le (length (members_written c)) 500 && is_within_limits (with_written m c))) && passes_if_any (node_test m) written)
+pub constraint_rooms : (m : Data) (c : Constrained)
+    → ((nat_lt (length m.constraints) 20000 && (nat_le (length (members_written c)) 500 && is_within_limits (with_written m c))) && passes_if_any (node_test m) (logic_held c))
     ≡ (nat_le (length (members_written c)) 500 && is_within_limits (after m (Constrain c)))
-constraint_rooms m (Between t a b z) written is = plain m (constraint_of m (Between t a b z)) true (node_test m) written refl is
-constraint_rooms m (Parts Span a ns) written is = plain m (constraint_of m (Parts Span a ns)) true (node_test m) written refl is
-constraint_rooms m (Parts Alternative a ns) written is = plain m (constraint_of m (Parts Alternative a ns)) true (node_test m) written refl is
-constraint_rooms m (Parts Synchronize a ns) written is = plain m (constraint_of m (Parts Synchronize a ns)) true (node_test m) written refl is
-constraint_rooms m (NoOverlap (over.Named p) s) written is = plain m (constraint_of m (NoOverlap (over.Named p) s)) true (node_test m) written refl is
-constraint_rooms m (NoOverlap (over.Listed ns) s) written is =
-    plain (with_written m (NoOverlap (over.Listed ns) s)) (constraint_of m (NoOverlap (over.Listed ns) s)) (nat_le (length ns) 500) (node_test m) written refl is
-constraint_rooms m (Extreme First p a) written is = plain m (constraint_of m (Extreme First p a)) true (node_test m) written refl is
-constraint_rooms m (Extreme Last p a) written is = plain m (constraint_of m (Extreme Last p a)) true (node_test m) written refl is
-constraint_rooms m (Ordered Before p a b) written is = plain m (constraint_of m (Ordered Before p a b)) true (node_test m) written refl is
-constraint_rooms m (Ordered Prev p a b) written is = plain m (constraint_of m (Ordered Prev p a b)) true (node_test m) written refl is
-constraint_rooms m (Bounded f AtMost c) written is = bounded m f (named_itself f) (constraint_of m (Bounded f AtMost c)) true (node_test m) written refl is
-constraint_rooms m (Bounded f AtLeast c) written is = bounded m f (named_itself f) (constraint_of m (Bounded f AtLeast c)) true (node_test m) written refl is
-constraint_rooms m (AlwaysIn f w lo hi) written is = bounded m f (named_itself f) (constraint_of m (AlwaysIn f w lo hi)) true (node_test m) written refl is
-constraint_rooms m (AlwaysEqual g a v aligned) written is = plain m (constraint_of m (AlwaysEqual g a v aligned)) true (node_test m) written refl is
-constraint_rooms m (AlwaysNoState g a) written is = plain m (constraint_of m (AlwaysNoState g a)) true (node_test m) written refl is
-constraint_rooms m (Holds e) written is = held m e written is
+constraint_rooms m (Between t a b z) = plain m (constraint_of m (Between t a b z)) true refl
+constraint_rooms m (Parts Span a ns) = plain m (constraint_of m (Parts Span a ns)) true refl
+constraint_rooms m (Parts Alternative a ns) = plain m (constraint_of m (Parts Alternative a ns)) true refl
+constraint_rooms m (Parts Synchronize a ns) = plain m (constraint_of m (Parts Synchronize a ns)) true refl
+constraint_rooms m (NoOverlap (over.Named p) s) = plain m (constraint_of m (NoOverlap (over.Named p) s)) true refl
+constraint_rooms m (NoOverlap (over.Listed ns) s) = plain (with_written m (NoOverlap (over.Listed ns) s)) (constraint_of m (NoOverlap (over.Listed ns) s)) (nat_le (length ns) 500) refl
+constraint_rooms m (Extreme First p a) = plain m (constraint_of m (Extreme First p a)) true refl
+constraint_rooms m (Extreme Last p a) = plain m (constraint_of m (Extreme Last p a)) true refl
+constraint_rooms m (Ordered Before p a b) = plain m (constraint_of m (Ordered Before p a b)) true refl
+constraint_rooms m (Ordered Prev p a b) = plain m (constraint_of m (Ordered Prev p a b)) true refl
+constraint_rooms m (Bounded f AtMost c) = bounded m f (named_itself f) (constraint_of m (Bounded f AtMost c)) refl
+constraint_rooms m (Bounded f AtLeast c) = bounded m f (named_itself f) (constraint_of m (Bounded f AtLeast c)) refl
+constraint_rooms m (AlwaysIn f w lo hi) = bounded m f (named_itself f) (constraint_of m (AlwaysIn f w lo hi)) refl
+constraint_rooms m (AlwaysEqual g a v aligned) = plain m (constraint_of m (AlwaysEqual g a v aligned)) true refl
+constraint_rooms m (AlwaysNoState g a) = plain m (constraint_of m (AlwaysNoState g a)) true refl
+constraint_rooms m (Holds e) = room_constraint m (constraint_of m (Holds e)) (node_count (expr_of m e)) (node_test m e) refl (λ _. refl)
 
 room_there : (room total count n : ℕ) → room + total ≡ 100000 → count ≡ capped n → count ≤ room → total + n ≤ 100000
 unfolding capped

@@ -3,20 +3,17 @@ use Rattle.std.proofs.Common.{◌≡◌, ℕ, ◌+◌, ◌<◌, ◌≤◌, true,
 use Rattle.std.proofs.lemmas.List.{at_drop_more}
 use Rattle.std.proofs.lemmas.Bool.Decides.{nat_tests}
 use Rattle.std.proofs.lemmas.Bool.{and_parts, or_parts}
-use Rattle.base_laws.specs.laws.Places.{none_if_not}
-use Rattle.sched_model.specs.Data.{Data, with_constraint, with_objective}
+use Rattle.sched_model.specs.Data.{Data, with_constraint}
 use Rattle.sched_model.specs.Valid.{IsValid}
-use Rattle.cpo_text.specs.declared.expression.Logic.{Logic}
 use Rattle.cpo_text.specs.declared.tree.Definition.{Definition}
 use Rattle.cpo_text.specs.declared.tree.Constrained.{Constrained}
-use Rattle.cpo_text.specs.declared.tree.Sense.{Sense}
 use Rattle.cpo_text.specs.declared.tree.Statement.{Statement}
-use Rattle.cpo_text.specs.declared.tree.Statement.TheVariants.{Define, Constrain, Aim}
+use Rattle.cpo_text.specs.declared.tree.Statement.TheVariants.{Define, Constrain}
 use Rattle.cpo_text.specs.declared.text.Reading.{Reading}
 use Rattle.cpo_elab.specs.Named.{is_defined}
 use Rattle.cpo_elab.specs.Held.{some_amount, rows_in}
-use Rattle.cpo_elab.specs.Elaborated.{defined, constraint_of, with_written, objective_of}
-use Rattle.cpo_elab.specs.Judged.{is_large, is_negative, is_wide, leaves_room, statement_limit, number_in}
+use Rattle.cpo_elab.specs.Elaborated.{defined, constraint_of, with_written, after}
+use Rattle.cpo_elab.specs.Judged.{is_large, is_negative, is_wide, leaves_room, statement_limit, aims_again, number_in}
 use Rattle.cpo_elab.specs.Shaped.{is_shaped, is_shaped_form, are_shaped}
 use Rattle.cpo_elab.proofs.judging.Clear.{clear}
 use Rattle.cpo_elab.proofs.judging.Facts.{Facts, facts}
@@ -55,7 +52,7 @@ at_most n k h = grind (arith, nat_tests)
 pub few_rows : (m : Data) (k : ℕ) (s : Statement) (name n : List ℕ) (d : Definition) → s ≡ Define name d → n ≡ name → number_in m k s ≡ None → length (rows_in (Define n d)) ≤ 200
 few_rows m k s name n d is n_is none = let f : Facts m (Define n d) = facts_of m k s name n d is n_is none in at_most (length (rows_in (Define n d))) 200 f.rows
 
--- a constraint and an objective
+-- a constraint that is no expression, and any statement
 
 pub can_constrain : (m : Data) (k : ℕ) (s : Statement) (c : Constrained) → s ≡ Constrain c → IsValid m → is_shaped s ≡ true → number_in m k s ≡ None → IsValid (with_constraint (constraint_of m c) (with_written m c))
 can_constrain m k s c is before shaped none = valid_after m k (Constrain c) before (subst (λ t. is_shaped t ≡ true) is shaped) (subst (λ t. number_in m k t ≡ None) is none)
@@ -63,11 +60,11 @@ can_constrain m k s c is before shaped none = valid_after m k (Constrain c) befo
 pub can_write : (m : Data) (k : ℕ) (s : Statement) (c : Constrained) → s ≡ Constrain c → IsValid m → number_in m k s ≡ None → IsValid (with_written m c)
 can_write m k s c is before none = valid_written m k c before (subst (λ t. number_in m k t ≡ None) is none)
 
-pub can_aim : (m : Data) (k : ℕ) (s : Statement) (sense : Sense) (e : Logic) → s ≡ Aim sense e → IsValid m → is_shaped s ≡ true → number_in m k s ≡ None → IsValid (with_objective (objective_of m sense e) m)
-can_aim m k s sense e is before shaped none = valid_after m k (Aim sense e) before (subst (λ t. is_shaped t ≡ true) is shaped) (subst (λ t. number_in m k t ≡ None) is none)
+pub can_step : (m : Data) (k : ℕ) (s : Statement) → IsValid m → is_shaped s ≡ true → number_in m k s ≡ None → IsValid (after m s)
+can_step m k s before shaped none = valid_after m k s before shaped none
 
-pub first_aim : (m : Data) (k : ℕ) (s : Statement) (sense : Sense) (e : Logic) → s ≡ Aim sense e → number_in m k s ≡ None → m.objective ≡ None
-first_aim m k s sense e is none = let f : Facts m (Aim sense e) = known m k (Aim sense e) (subst (λ t. number_in m k t ≡ None) is none) in none_if_not m.objective f.single
+pub first_aim : (m : Data) (k : ℕ) (s : Statement) → number_in m k s ≡ None → aims_again m s ≡ false
+first_aim m k s none = let f = known m k s none in f.single
 
 -- the trees that are left are as the grammar has them
 

@@ -1,29 +1,13 @@
-use Rattle.cpo_elab.proofs.judging.Stepped.{can_define, fresh_name, small_amounts, no_signs, few_rows, can_constrain, can_write, can_aim, first_aim}
+use Rattle.std.proofs.Common.{◌∙◌, sym}
+use Rattle.cpo_elab.proofs.judging.Stepped.{can_step, first_aim}
+use Rattle.cpo_elab.proofs.judging.Written.{holds_none}
 use Rattle.cpo_elab.proofs.build.with_statement.Goals as goal
 
-pub define-requires-clause-valid : goal.define-requires-clause-valid
-define-requires-clause-valid c = can_define c.args.draft c.requires.clear.0 c.args.s.now c.in-Define.name _ c.in-Define.d c.in-Define.is c.as_slice.ensures c.requires.valid c.requires.shaped c.requires.clear.1
+pub with_plain-requires-clause-plain : goal.with_plain-requires-clause-plain
+with_plain-requires-clause-plain c = holds_none c.args.draft c.args.s.now (sym c.in-None.is ∙ c.requires.written)
 
-pub define-requires-clause-fresh : goal.define-requires-clause-fresh
-define-requires-clause-fresh c = fresh_name c.args.draft c.requires.clear.0 c.args.s.now c.in-Define.name _ c.in-Define.d c.in-Define.is c.as_slice.ensures c.requires.clear.1
+pub with_expr-requires-clause-after : goal.with_expr-requires-clause-after
+with_expr-requires-clause-after c = can_step c.args.draft c.requires.clear.0 c.args.s.now c.requires.valid c.requires.shaped c.requires.clear.1
 
-pub define-requires-clause-large : goal.define-requires-clause-large
-define-requires-clause-large c = small_amounts c.args.draft c.requires.clear.0 c.args.s.now c.in-Define.name _ c.in-Define.d c.in-Define.is c.as_slice.ensures c.requires.clear.1
-
-pub define-requires-clause-negative : goal.define-requires-clause-negative
-define-requires-clause-negative c = no_signs c.args.draft c.requires.clear.0 c.args.s.now c.in-Define.name _ c.in-Define.d c.in-Define.is c.as_slice.ensures c.requires.clear.1
-
-pub define-requires-clause-rows : goal.define-requires-clause-rows
-define-requires-clause-rows c = few_rows c.args.draft c.requires.clear.0 c.args.s.now c.in-Define.name _ c.in-Define.d c.in-Define.is c.as_slice.ensures c.requires.clear.1
-
-pub constrain-requires-clause-written : goal.constrain-requires-clause-written
-constrain-requires-clause-written c = can_write c.args.draft c.requires.clear.0 c.args.s.now c.in-Constrain.c c.in-Constrain.is c.requires.valid c.requires.clear.1
-
-pub constrain-requires-clause-valid : goal.constrain-requires-clause-valid
-constrain-requires-clause-valid c = can_constrain c.args.draft c.requires.clear.0 c.args.s.now c.in-Constrain.c c.in-Constrain.is c.requires.valid c.requires.shaped c.requires.clear.1
-
-pub aim-requires-clause-valid : goal.aim-requires-clause-valid
-aim-requires-clause-valid c = can_aim c.args.draft c.requires.clear.0 c.args.s.now c.in-Aim.sense c.in-Aim.e c.in-Aim.is c.requires.valid c.requires.shaped c.requires.clear.1
-
-pub aim-requires-clause-first : goal.aim-requires-clause-first
-aim-requires-clause-first c = first_aim c.args.draft c.requires.clear.0 c.args.s.now c.in-Aim.sense c.in-Aim.e c.in-Aim.is c.requires.clear.1
+pub with_expr-requires-clause-single : goal.with_expr-requires-clause-single
+with_expr-requires-clause-single c = first_aim c.args.draft c.requires.clear.0 c.args.s.now c.requires.clear.1
