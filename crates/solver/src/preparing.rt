@@ -16,8 +16,19 @@ use std::alloc::Global;
 /// A preparation has at most so many nodes.
 const MOST_NODES: u64 = 20_000;
 
+/// It ends when so many nodes brought no better schedule.
+const IDLE_NODES: u64 = 2_000;
+
 /// So many refuted regions end the shortest run.
 const REFUTED: u64 = 150;
+
+/// How many nodes have brought no better schedule, behind some more.
+fn idle_after(idle: u64, spent: u64, before: Option<i64>, best: Option<i64>) -> u64 {
+    if before == best {
+        return idle.saturating_add(spent);
+    }
+    0
+}
 
 fn rehearse<P: Propagator>(
     alloc: Global,
@@ -33,14 +44,17 @@ fn rehearse<P: Propagator>(
     let mut rehearsal = Rehearsal::new(alloc, model, engine, hints)?;
     let mut luby = Luby::new();
     let mut left = nodes;
+    let mut idle = 0;
     for _ in 0..nodes {
+        let before = rehearsal.best();
         let most = left.min(MOST_NODES);
         let refuted = luby.next().saturating_mul(REFUTED);
         let Some(spent) = rehearsal.turn(alloc, model, most, refuted)? else {
             break;
         };
         left = left.saturating_sub(spent);
-        if left == 0 {
+        idle = idle_after(idle, spent, before, rehearsal.best());
+        if left == 0 || idle >= IDLE_NODES {
             break;
         }
     }
@@ -49,7 +63,7 @@ fn rehearse<P: Propagator>(
 
 /// Searches without a log, so that the search with one knows where to look first: at most a fifth as
 /// many nodes as that one may open, and at most 20,000. It begins anew again and again, and ends
-/// where nothing is left to look at.
+/// where nothing is left to look at, or where the last 2,000 nodes or more brought no better schedule.
 pub fn prepare(alloc: Global, model: &Model, nodes: u64) -> Result<Hints, NoMemory> {
     let most = (nodes / 5).min(MOST_NODES);
     let hints = Hints::new(alloc, model, most)?;

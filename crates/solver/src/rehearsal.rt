@@ -239,6 +239,11 @@ impl<P: Propagator> Rehearsal<P> {
         Ok(Some(spent))
     }
 
+    /// The value of the best schedule so far.
+    pub fn best(&self) -> Option<i64> {
+        self.search.best()
+    }
+
     /// What the next search begins with.
     pub fn into_hints(self) -> Hints {
         self.search.into_hints()
