@@ -2,6 +2,7 @@
 use Rattle.std.specs.Prelude.{◌≡◌, ℕ, ◌<◌, Bool, true, false, ◌&&◌, List, length, Option, Some}
 use Rattle.std.proofs.Common.{inl, inr, refl, sym, ap, subst, ◌∙◌, arith, get_or}
 use Rattle.sched_base.specs.declared.ids.Itv.{Itv}
+use Rattle.region.specs.declared.types.Topic.{Topic}
 use Rattle.region.specs.declared.types.Guess.{Guess}
 use Rattle.region.specs.declared.types.Guess.TheVariants.{Present, Absent, StartLe, StartGe, EndLe, EndGe, Before}
 use Rattle.region.specs.Cells.{Region, bounds_of}
@@ -60,3 +61,9 @@ pub backward_refuted : (refuted : Option Guess → Bool) (r : Region) (q : Pair)
 backward_refuted refuted r q h =
     let two = both_true (admits r (Before q.sequence q.second q.first)) _ h in
     record { wanted = is_turned q; open_end = true_both (admits r (Before q.sequence q.second q.first)) true two.0 refl; refuted = two.1 }
+
+-- a guess at the end of its cell, where it is open
+pub likely_refuted : (refuted : Option Guess → Bool) (r : Region) (wants : Topic → Bool) (g : Guess) → wants (topic g) ≡ true → is_end r (topic g) ≡ true → (admits r g && refuted (Some g)) ≡ true → IsRefutedEnd refuted r wants g
+likely_refuted refuted r wants g wanted end h =
+    let two = both_true (admits r g) (refuted (Some g)) h in
+    record { wanted = wanted; open_end = true_both (admits r g) (is_end r (topic g)) two.0 end; refuted = two.1 }

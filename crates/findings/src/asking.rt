@@ -6,6 +6,7 @@ ghost use Rattle.findings.specs.code.Reads.{AreUnrefuted, IsUnrefuted, is_among}
 ghost use Rattle.findings.specs.code.Search.{IsRefutedEnd, NoEndRefuted};
 
 use crate::finding::Pair;
+use crate::likely::{Likely, refuted_likely};
 use crate::searching::{refuted_interval, refuted_order};
 use region::{Guess, GuessTest, Refuter, Region, RowTest, tighten_by};
 use sched_base::Itv;
@@ -30,9 +31,53 @@ fn refuted_end<T: GuessTest>(
     refuted_order(test, region, pairs)
 }
 
+/// The likely guess, or else the first one of all, under which the region is refuted.
+fn refuted_first<T: GuessTest>(
+    test: &T,
+    region: &Region,
+    intervals: &[Itv],
+    pairs: &[Pair],
+    likely: Option<Likely>,
+) -> Option<Guess>
+    requires ready { T.is_ready test.now }
+    requires of { T.region test.now ≡ region.now.region }
+    ensures some { IfSome result (IsRefutedEnd (T.refuting test.now) region.now.region (is_among intervals.now pairs.now)) }
+    ensures none { IfNone result (NoEndRefuted (T.refuting test.now) region.now.region (is_among intervals.now pairs.now)) }
+{
+    if let Some(likely) = likely {
+        if let Some(g) = refuted_likely(test, region, intervals, pairs, likely) {
+            return Some(g);
+        }
+    }
+    refuted_end(test, region, intervals, pairs)
+}
+
+/// What a test gives, asked about the likely guess before the others.
+#[tactic(auto, using(crate::proofs::Both::unrefuted_all, crate::proofs::Both::plain_busy, crate::proofs::Both::end_busy, crate::proofs::Both::plain_found, crate::proofs::Both::tight_found))]
+fn ask_first<T: GuessTest>(
+    test: &T,
+    region: &Region,
+    intervals: &[Itv],
+    pairs: &[Pair],
+    likely: Option<Likely>,
+) -> Option<Option<Guess>>
+    requires ready { T.is_ready test.now }
+    requires of { T.region test.now ≡ region.now.region }
+    ensures none { IfNone result (AreUnrefuted (T.refuting test.now) region.now.region intervals.now pairs.now) }
+    ensures some { IfSome result (IsFound (T.refuting test.now) region.now.region) }
+    ensures busy { IfSome result (λ guess. AreUnrefuted (T.refuting test.now) region.now.region intervals.now pairs.now → ⊥) }
+{
+    if test.refutes(None) {
+        return Some(None);
+    }
+    if let Some(g) = refuted_first(test, region, intervals, pairs, likely) {
+        return Some(Some(tighten_by(test, region, g)));
+    }
+    None
+}
+
 /// What a test gives: nothing, or that the region is refuted as it stands, or the tight guess on one
 /// of these intervals, or on the order of one of these pairs, under which it is refuted.
-#[tactic(auto, using(crate::proofs::Both::unrefuted_all, crate::proofs::Both::plain_busy, crate::proofs::Both::end_busy, crate::proofs::Both::plain_found, crate::proofs::Both::tight_found))]
 pub fn ask_by<T: GuessTest>(
     test: &T,
     region: &Region,
@@ -45,13 +90,7 @@ pub fn ask_by<T: GuessTest>(
     ensures some { IfSome result (IsFound (T.refuting test.now) region.now.region) }
     ensures busy { IfSome result (λ guess. AreUnrefuted (T.refuting test.now) region.now.region intervals.now pairs.now → ⊥) }
 {
-    if test.refutes(None) {
-        return Some(None);
-    }
-    if let Some(g) = refuted_end(test, region, intervals, pairs) {
-        return Some(Some(tighten_by(test, region, g)));
-    }
-    None
+    ask_first(test, region, intervals, pairs, None)
 }
 
 /// What a witness gives: nothing, or that it refutes the region as it stands, or the tight guess on
@@ -77,4 +116,29 @@ pub fn ask<X: Refuter>(
         witness: w,
     };
     ask_by(&test, region, intervals, pairs)
+}
+
+/// The same, asked about the likely guess before the others: where it refutes, the answer takes a few
+/// tests.
+pub fn ask_likely<X: Refuter>(
+    model: &Model,
+    region: &Region,
+    best: Option<i64>,
+    w: &X::Witness,
+    intervals: &[Itv],
+    pairs: &[Pair],
+    likely: Likely,
+) -> Option<Option<Guess>>
+    requires of { IsRegionOf model.now region.now.region }
+    ensures none { IfNone result (IsUnrefuted X.refuting model.now region.now.region best w.now intervals.now pairs.now) }
+    ensures some { IfSome result (λ guess. IsFinding X.refuting model.now region.now.region best (record { guess = guess; witness = w.now })) }
+    ensures busy { IfSome result (λ guess. IsUnrefuted X.refuting model.now region.now.region best w.now intervals.now pairs.now → ⊥) }
+{
+    let test = RowTest::<X> {
+        model,
+        region,
+        best,
+        witness: w,
+    };
+    ask_first(&test, region, intervals, pairs, Some(likely))
 }

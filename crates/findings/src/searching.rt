@@ -9,7 +9,7 @@ use region::{Guess, GuessTest, Region};
 use sched_base::Itv;
 
 /// Whether the guess is open and the region refuted under it.
-fn refutes_open<T: GuessTest>(test: &T, region: &Region, g: Guess) -> bool
+pub fn refutes_open<T: GuessTest>(test: &T, region: &Region, g: Guess) -> bool
     requires ready { T.is_ready test.now }
     requires of { T.region test.now ≡ region.now.region }
     ensures { result ≡ (admits region.now.region g && T.refuting test.now (Some g)) }
