@@ -1,6 +1,6 @@
 -- Whoever has its turn is put to sleep, or put off.
 use Rattle.std.specs.Prelude.{◌≡◌, ℕ, ◌+◌, ◌<◌, false, List, length, Option, Some, None}
-use Rattle.std.proofs.Common.{refl, sym, ap, subst, ◌∙◌, arith}
+use Rattle.std.proofs.Common.{refl, sym, subst, ◌∙◌, arith}
 use Rattle.wake_levels.specs.declared.levels.Turn.{Turn}
 use Rattle.wake_levels.specs.code.Waking.{Waking, is_awake, weight, first_turn, without_on_all, woken_on}
 use Rattle.wake_levels.specs.code.Calm.{IsCalm}
@@ -28,9 +28,9 @@ asleep n quiet a b o t first some is here calm = subst (IsCalmed n quiet a) (sym
     turn : first_turn a.levels ≡ Some t
     turn = sym first ∙ some
 
-pub later : (n last : ℕ) (quiet : ℕ → Type 0) (a b c : Waking) (o : Option Turn) (t : Turn) → o ≡ first_turn a.levels → o ≡ Some t → length a.levels ≡ last + 1 → t.level < last
-    → b ≡ record a { levels = without_on_all t.k a.levels } → c ≡ record b { levels = woken_on t.k last b.levels } → IsCalm n quiet a → IsCalmed n quiet a c
-later n last quiet a b c o t first some count less asleep_is is calm = subst (IsCalmed n quiet a) (sym (is ∙ ap (λ (d : Waking). with_levels d (woken_on t.k last d.levels)) asleep_is)) (record {
+pub later : (n last : ℕ) (quiet : ℕ → Type 0) (a c : Waking) (o : Option Turn) (t : Turn) → o ≡ first_turn a.levels → o ≡ Some t → length a.levels ≡ last + 1 → t.level < last
+    → c ≡ record a { levels = woken_on t.k last (without_on_all t.k a.levels) } → IsCalm n quiet a → IsCalmed n quiet a c
+later n last quiet a c o t first some count less is calm = subst (IsCalmed n quiet a) (sym is) (record {
   below = refl;
   count = count_on t.k last (without_on_all t.k a.levels) ∙ count_without t.k a.levels;
   calm = calm_later t.k n last quiet a (omega (arith, count)) calm;
@@ -39,9 +39,6 @@ later n last quiet a b c o t first some count less asleep_is is calm = subst (Is
   where
     turn : first_turn a.levels ≡ Some t
     turn = sym first ∙ some
-
-pub within_levels : (a b : Waking) (last k : ℕ) → length a.levels ≡ last + 1 → b ≡ record a { levels = without_on_all k a.levels } → last < length b.levels
-within_levels a b last k count is = subst (λ (d : Waking). last < length d.levels) (sym is) (omega (arith, count, count_without k a.levels))
 
 pub quiet_all : (n : ℕ) (quiet : ℕ → Type 0) (a : Waking) (o : Option Turn) → o ≡ first_turn a.levels → o ≡ None → IsCalm n quiet a → (k : ℕ) → k < n → quiet k
 quiet_all n quiet a o first none calm = all_quiet n quiet a (sym first ∙ none) calm

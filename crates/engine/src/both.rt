@@ -1,4 +1,4 @@
-ghost use Rattle.std.specs.Prelude.{◌+◌, ◌<◌, ◌≤◌, ◌^◌, IfSome, IfNone};
+ghost use Rattle.std.specs.Prelude.{◌≡◌, ◌+◌, ◌<◌, ◌≤◌, ◌^◌, IfSome, IfNone};
 ghost use Rattle.sched_model.specs.Data.{Data};
 
 use crate::propagator::Propagator;
@@ -13,24 +13,31 @@ use sched_model::Model;
 pub struct Both<A, B> {
     first: A,
     second: B,
+    /// How many the first are.
+    split: u32,
 }
 
 impl<A: Propagator, B: Propagator> Both<A, B> {
     /// Both; none exactly where there are too many for numbers of 32 bits.
     pub fn new(first: A, second: B) -> Option<Both<A, B>>
-        ensures some { (m : Data) → A.is_of first m → B.is_of second m → IfSome result (λ p. A.is_of p.first m × B.is_of p.second m × (A.size m + B.size m < 2 ^ 32)) }
+        ensures some { (m : Data) → A.is_of first m → B.is_of second m → IfSome result (λ p. A.is_of p.first m × B.is_of p.second m × (A.size m + B.size m < 2 ^ 32) × (p.split ≡ A.size m)) }
         ensures none { (m : Data) → A.is_of first m → B.is_of second m → IfNone result (2 ^ 32 ≤ A.size m + B.size m) }
     {
-        let _ = first.count().checked_add(second.count())?;
-        Some(Both { first, second })
+        let split = first.count();
+        let _ = split.checked_add(second.count())?;
+        Some(Both {
+            first,
+            second,
+            split,
+        })
     }
 }
 
 impl<A: Propagator, B: Propagator> Propagator for Both<A, B> {
-    ghost use Rattle.std.specs.Prelude.{◌+◌, ◌-◌, ◌<◌, ◌^◌, if◌then◌else◌, nat_lt};
+    ghost use Rattle.std.specs.Prelude.{◌≡◌, ◌+◌, ◌-◌, ◌<◌, ◌^◌, if◌then◌else◌, nat_lt};
     ghost use Rattle.engine.specs.code.Pairs.{chosen, unwatched_pair};
 
-    ghost is_of = { λ p m. A.is_of p.first m × B.is_of p.second m × (A.size m + B.size m < 2 ^ 32) };
+    ghost is_of = { λ p m. A.is_of p.first m × B.is_of p.second m × (A.size m + B.size m < 2 ^ 32) × (p.split ≡ A.size m) };
 
     ghost size = { λ m. A.size m + B.size m };
 
@@ -41,7 +48,7 @@ impl<A: Propagator, B: Propagator> Propagator for Both<A, B> {
     ghost watching_best = { λ m k. if nat_lt k (A.size m) then A.watching_best m k else B.watching_best m (k - A.size m) };
 
     fn count(&self) -> u32 {
-        self.first.count().saturating_add(self.second.count())
+        self.split.saturating_add(self.second.count())
     }
 
     fn next(
@@ -51,15 +58,23 @@ impl<A: Propagator, B: Propagator> Propagator for Both<A, B> {
         region: &Region,
         best: Option<i64>,
     ) -> Result<Option<Finding<Witness<NoWitness>>>, NoMemory> {
-        let n = self.first.count();
+        let n = self.split;
         if k < n {
             return self.first.next(k, model, region, best);
         }
         self.second.next(k - n, model, region, best)
     }
 
+    fn can_wait(&self, k: u32, model: &Model, region: &Region) -> bool {
+        let n = self.split;
+        if k < n {
+            return self.first.can_wait(k, model, region);
+        }
+        self.second.can_wait(k.saturating_sub(n), model, region)
+    }
+
     fn watched_presences(&self, k: u32) -> &[Itv] {
-        let n = self.first.count();
+        let n = self.split;
         if k < n {
             return self.first.watched_presences(k);
         }
@@ -67,7 +82,7 @@ impl<A: Propagator, B: Propagator> Propagator for Both<A, B> {
     }
 
     fn watched_bounds(&self, k: u32) -> &[Itv] {
-        let n = self.first.count();
+        let n = self.split;
         if k < n {
             return self.first.watched_bounds(k);
         }
@@ -75,7 +90,7 @@ impl<A: Propagator, B: Propagator> Propagator for Both<A, B> {
     }
 
     fn watched_orders(&self, k: u32) -> &[Seq] {
-        let n = self.first.count();
+        let n = self.split;
         if k < n {
             return self.first.watched_orders(k);
         }
@@ -83,7 +98,7 @@ impl<A: Propagator, B: Propagator> Propagator for Both<A, B> {
     }
 
     fn watches_best(&self, k: u32) -> bool {
-        let n = self.first.count();
+        let n = self.split;
         if k < n {
             return self.first.watches_best(k);
         }
@@ -91,7 +106,7 @@ impl<A: Propagator, B: Propagator> Propagator for Both<A, B> {
     }
 
     fn level(&self, k: u32) -> u8 {
-        let n = self.first.count();
+        let n = self.split;
         if k < n {
             return self.first.level(k);
         }

@@ -49,6 +49,10 @@ pub trait Propagator: Drop {
         ensures some { IfOk result (λ o. IfSome o (λ f. IsFinding refutes_plain model.now region.now.region best f)) }
         ensures busy { IfOk result (λ o. IfSome o (λ f. quiet model.now k region.now.region best → ⊥)) };
 
+    /// Whether it finds nothing now, or what it finds can wait until others are quiet, as is told by a
+    /// few comparisons. Nothing hangs on it.
+    fn can_wait(&self, k: u32, model: &Model, region: &Region) -> bool;
+
     /// The intervals whose presence it watches, and perhaps others.
     fn watched_presences(&self, k: u32) -> &[Itv]
         requires { (m : Data) × is_of self.now m × (k < size m) }

@@ -1,8 +1,8 @@
 //! Whose turn it is, and what it finds.
-ghost use Rattle.std.specs.Prelude.{◌≡◌, ◌<◌, false, ℕ, IfOk, IfSome, IfNone};
+ghost use Rattle.std.specs.Prelude.{◌≡◌, ◌+◌, ◌<◌, false, ℕ, length, Some, IfOk, IfSome, IfNone};
 ghost use Rattle.region.specs.Looks.{IsRegionOf};
 ghost use Rattle.findings.specs.Found.{IsFinding};
-ghost use Rattle.wake_levels.specs.code.Waking.{is_awake};
+ghost use Rattle.wake_levels.specs.code.Waking.{is_awake, first_turn, without_on_all, woken_on};
 ghost use Rattle.wake_levels.specs.code.Calm.{IsCalm};
 ghost use Rattle.engine.specs.Plain.{refutes_plain};
 
@@ -13,11 +13,24 @@ use kernel::{NoWitness, Witness};
 use region::Region;
 use sched_base::NoMemory;
 use sched_model::Model;
-use wake_levels::WakeLevels;
+use wake_levels::{Turn, WakeLevels};
+
+/// Puts whoever has its turn off to the last level.
+fn put_off(levels: &mut WakeLevels, turn: Turn, last: usize)
+    requires below { turn.k < levels.old.below }
+    requires turn { first_turn levels.old.levels ≡ Some turn }
+    requires count { length levels.old.levels ≡ last + 1 }
+    requires less { turn.level < last }
+    ensures { levels.new ≡ record levels.old { levels = woken_on turn.k last (without_on_all turn.k levels.old.levels) } }
+{
+    levels.unwake(turn.k);
+    levels.wake(turn.k, last);
+}
 
 /// Asks those that are awake, the most urgent first, until one finds something; nothing once none is
-/// awake. Whoever finds nothing is put to sleep on every level; what is late, on all but the last,
-/// where it is asked again. Whoever found what is answered stays the first of its level.
+/// awake. Whoever finds nothing is put to sleep on every level; who can wait, or finds what is late, on
+/// all but the last, where it is asked again. Whoever found what is answered stays the first of its
+/// level.
 pub fn find<P: Propagator>(
     propagators: &mut P,
     levels: &mut WakeLevels,
@@ -40,13 +53,16 @@ pub fn find<P: Propagator>(
         let Some(turn) = levels.first() else {
             return Ok(None);
         };
+        if turn.level < last && propagators.can_wait(turn.k, model, region) {
+            put_off(levels, turn, last);
+            continue;
+        }
         let Some(f) = propagators.next(turn.k, model, region, best)? else {
             levels.unwake(turn.k);
             continue;
         };
         if turn.level < last && is_late(region, &f) {
-            levels.unwake(turn.k);
-            levels.wake(turn.k, last);
+            put_off(levels, turn, last);
             continue;
         }
         return Ok(Some(f));

@@ -1,6 +1,5 @@
-//! What the witnesses of this crate's propagators find.
-ghost use Rattle.std.specs.Prelude.{◌≡◌, ◌∷◌, [], IsTrue, IfNone, IfSome, slice_get};
-ghost use Rattle.sched_model.specs.declared.types.Expr.{Expr};
+//! What the witnesses of expressions and of the objective find.
+ghost use Rattle.std.specs.Prelude.{IfNone, IfSome, slice_get};
 ghost use Rattle.region.specs.Looks.{IsRegionOf};
 ghost use Rattle.findings.specs.Found.{IsFinding};
 ghost use Rattle.refute_basic.specs.declared.witness.BasicWitness.TheVariants as basic;
@@ -9,28 +8,11 @@ ghost use Rattle.prop_basic.specs.code.Tasks.{IsSilent, logic_of, objective_of};
 ghost use Rattle.prop_basic.specs.code.Tables.{Fits};
 
 use crate::hulls::{Goal, Scan, ask_tree};
-use findings::{Finding, ask};
-use refute_basic::{Basic, BasicWitness};
+use findings::Finding;
+use refute_basic::BasicWitness;
 use region::Region;
-use sched_base::{Itv, at};
+use sched_base::at;
 use sched_model::{Constraint, Model};
-
-/// What SIZE of an interval finds. The test costs a few comparisons, and tightening halves it.
-pub fn ask_size(
-    model: &Model,
-    region: &Region,
-    best: Option<i64>,
-    x: u32,
-) -> Option<Finding<BasicWitness>>
-    requires of { IsRegionOf model.now region.now.region }
-    ensures none { IfNone result (IsSilent model.now region.now.region best (basic.Size x)) }
-    ensures some { IfSome result (IsFinding refutes model.now region.now.region best) }
-    ensures busy { IfSome result (λ f. IsSilent model.now region.now.region best (basic.Size x) → ⊥) }
-{
-    let witness = BasicWitness::Size { x };
-    let guess = ask::<Basic>(model, region, best, &witness, &[Itv(x)], &[])?;
-    Some(Finding { guess, witness })
-}
 
 /// What EXPR of a constraint finds; nothing where the constraint is no expression.
 pub fn ask_constraint(

@@ -4,6 +4,7 @@
 
 mod expressions;
 mod hulls;
+mod sizes;
 mod table;
 
 pub use table::PropBasic;

@@ -8,8 +8,9 @@ ghost use Rattle.refute_basic.specs.Basic.{refutes};
 ghost use Rattle.prop_basic.specs.code.Tasks.{size_of, quiet, watching, watching_best, is_cell_of, logic_of, objective_of};
 ghost use Rattle.prop_basic.specs.code.Tables.{Fits, FitEach, AreNumbered, IsFor, names_in};
 
-use crate::expressions::{ask_constraint, ask_objective, ask_size};
+use crate::expressions::{ask_constraint, ask_objective};
 use crate::hulls::Scan;
+use crate::sizes::{ask_size, can_size_wait};
 use findings::Finding;
 use refute_basic::BasicWitness;
 use region::{CellName, Region};
@@ -158,6 +159,16 @@ impl PropBasic {
         }
         let c = k - 1 - n;
         ask_constraint(&mut self.trees[c as usize], model, region, best, c)
+    }
+
+    /// Whether it finds nothing now, or what it finds can wait: the earliest end and the latest start
+    /// that the least size leaves.
+    pub fn can_wait(&self, k: u32, model: &Model, region: &Region) -> bool {
+        let _ = model;
+        if k == 0 || k as usize > self.intervals.len() {
+            return false;
+        }
+        can_size_wait(region, k - 1)
     }
 
     /// The intervals that have a cell which it watches.

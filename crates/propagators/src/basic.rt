@@ -45,6 +45,10 @@ impl Propagator for FromBasic {
         }))
     }
 
+    fn can_wait(&self, k: u32, model: &Model, region: &Region) -> bool {
+        self.0.can_wait(k, model, region)
+    }
+
     #[tactic(auto, using(crate::proofs::Watching::presence_named))]
     fn watched_presences(&self, k: u32) -> &[Itv] {
         self.0.watched(k)

@@ -46,6 +46,10 @@ impl Propagator for FromHier {
         }))
     }
 
+    fn can_wait(&self, _: u32, _: &Model, _: &Region) -> bool {
+        false
+    }
+
     #[tactic(auto, using(crate::proofs::Watching::hier_presences))]
     fn watched_presences(&self, k: u32) -> &[Itv] {
         self.0.watched_presences(k)

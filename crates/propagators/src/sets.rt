@@ -47,6 +47,10 @@ impl Propagator for FromSets {
         }))
     }
 
+    fn can_wait(&self, _: u32, _: &Model, _: &Region) -> bool {
+        false
+    }
+
     #[tactic(auto, using(crate::proofs::Watching::sets_presences))]
     fn watched_presences(&self, k: u32) -> &[Itv] {
         self.0.watched_presences(k)
@@ -112,6 +116,10 @@ impl Propagator for FromLaterSets {
             guess,
             witness: Witness::Seq(witness),
         }))
+    }
+
+    fn can_wait(&self, _: u32, _: &Model, _: &Region) -> bool {
+        false
     }
 
     #[tactic(auto, using(crate::proofs::Watching::sets_presences))]

@@ -45,6 +45,10 @@ impl Propagator for FromState {
         }))
     }
 
+    fn can_wait(&self, _: u32, _: &Model, _: &Region) -> bool {
+        false
+    }
+
     #[tactic(auto, using(crate::proofs::Watching::state_presences))]
     fn watched_presences(&self, k: u32) -> &[Itv] {
         self.0.watched(k)

@@ -1,5 +1,5 @@
 use Rattle.std.proofs.Common.{refl, ◌∙◌, ◌-◌}
-use Rattle.engine.proofs.Turning.{asleep, later, within_levels, quiet_all, asleep_all}
+use Rattle.engine.proofs.Turning.{asleep, later, quiet_all, asleep_all}
 use Rattle.engine.proofs.turns.find.Goals as goal
 
 pub returns-in_default-clause-none : goal.returns-in_default-clause-none
@@ -25,19 +25,31 @@ awake-preserved-in_default-2 g c =
       calm = now.calm;
     }
 
-pub wake-requires-clause-level : goal.wake-requires-clause-level
-wake-requires-clause-level g c =
-    within_levels c.awake.levels c.unwake-then-is_late.new.self (c.levels-last.result - 1) _ c.awake.invariant.count c.unwake-then-is_late.ensures
+pub awake-smaller-then-can_wait : goal.awake-smaller-then-can_wait
+awake-smaller-then-can_wait g c =
+    (later (g.P.Propagator.size c.args.model.now) (c.levels-last.result - 1) (λ k. g.P.Propagator.quiet c.args.model.now k c.args.region.now.region c.args.best) c.awake.levels c.put_off.new.levels _ c.in-Some.turn
+    c.in-Some.ensures.turn refl c.awake.invariant.count c.if-turn-last.true c.put_off.ensures c.awake.invariant.calm).lighter
+
+pub awake-preserved-then-can_wait : goal.awake-preserved-then-can_wait
+awake-preserved-then-can_wait g c =
+    let now = later (g.P.Propagator.size c.args.model.now) (c.levels-last.result - 1) (λ k. g.P.Propagator.quiet c.args.model.now k c.args.region.now.region c.args.best) c.awake.levels c.put_off.new.levels _ c.in-Some.turn
+    c.in-Some.ensures.turn refl c.awake.invariant.count c.if-turn-last.true c.put_off.ensures c.awake.invariant.calm in
+    record {
+      of = c.awake.invariant.of;
+      below = now.below ∙ c.awake.invariant.below;
+      count = now.count ∙ c.awake.invariant.count;
+      calm = now.calm;
+    }
 
 pub awake-smaller : goal.awake-smaller
 awake-smaller g c =
-    (later (g.P.Propagator.size c.args.model.now) (c.levels-last.result - 1) (λ k. g.P.Propagator.quiet c.args.model.now k c.args.region.now.region c.args.best) c.awake.levels c.unwake-then-is_late.new.self c.wake.new.self _ c.in-Some.turn
-    c.in-Some.ensures.turn refl c.awake.invariant.count c.if-turn-last.true c.unwake-then-is_late.ensures c.wake.ensures c.awake.invariant.calm).lighter
+    (later (g.P.Propagator.size c.args.model.now) (c.levels-last.result - 1) (λ k. g.P.Propagator.quiet c.args.model.now k c.args.region.now.region c.args.best) c.awake.levels c.put_off-then-is_late.new.levels _ c.in-Some.turn
+    c.in-Some.ensures.turn refl c.awake.invariant.count c.if-turn-last-2.true c.put_off-then-is_late.ensures c.awake.invariant.calm).lighter
 
 pub awake-preserved : goal.awake-preserved
 awake-preserved g c =
-    let now = later (g.P.Propagator.size c.args.model.now) (c.levels-last.result - 1) (λ k. g.P.Propagator.quiet c.args.model.now k c.args.region.now.region c.args.best) c.awake.levels c.unwake-then-is_late.new.self c.wake.new.self _ c.in-Some.turn
-    c.in-Some.ensures.turn refl c.awake.invariant.count c.if-turn-last.true c.unwake-then-is_late.ensures c.wake.ensures c.awake.invariant.calm in
+    let now = later (g.P.Propagator.size c.args.model.now) (c.levels-last.result - 1) (λ k. g.P.Propagator.quiet c.args.model.now k c.args.region.now.region c.args.best) c.awake.levels c.put_off-then-is_late.new.levels _ c.in-Some.turn
+    c.in-Some.ensures.turn refl c.awake.invariant.count c.if-turn-last-2.true c.put_off-then-is_late.ensures c.awake.invariant.calm in
     record {
       of = c.next.ensures.kept;
       below = now.below ∙ c.awake.invariant.below;
