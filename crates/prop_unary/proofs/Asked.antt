@@ -1,5 +1,5 @@
 -- What was asked is silent, and what is silent finds nothing.
-use Rattle.std.specs.Prelude.{◌≡◌, ℕ, ◌+◌, ◌<◌, ℤ, ◌+ℤ◌, Bool, true, false, not, ◌&&◌, ◌||◌, int_le, List, length, Option, Some, None, IfNone, IfSome}
+use Rattle.std.specs.Prelude.{◌≡◌, ℕ, ◌+◌, ◌<◌, ℤ, true, false, ◌&&◌, ◌||◌, List, length, Option, Some, None, IfNone, IfSome}
 use Rattle.std.proofs.Common.{refl, sym, ap, subst, ◌∙◌}
 use Rattle.std.proofs.lemmas.Bool.{true≢false, or_left, or_right}
 use Rattle.std.proofs.lemmas.Option.{slice_get_within}
@@ -12,14 +12,12 @@ use Rattle.region.specs.declared.types.OrderCell.TheVariants.{Unknown, Forward, 
 use Rattle.region.specs.declared.types.Guess.{Guess}
 use Rattle.region.specs.declared.types.Guess.TheVariants.{Present, Before}
 use Rattle.region.specs.Orders.{order_in}
-use Rattle.region.specs.declared.types.Bounds.{Bounds}
-use Rattle.region.specs.Cells.{Region, bounds_of, cells_of, is_there, says_present}
+use Rattle.region.specs.Cells.{Region, bounds_of, cells_of, is_there}
 use Rattle.region.specs.Guesses.{admits, topic}
-use Rattle.region.specs.Looks.{IsRegionOf, seen_at, ect_in, lst_in}
+use Rattle.region.specs.Looks.{IsRegionOf, seen_at}
 use Rattle.region.specs.laws.Lists.{both_true, true_both}
 use Rattle.region.specs.laws.OneSequence.{same_self}
 use Rattle.findings.specs.Ends.{is_open_end, is_end}
-use Rattle.findings.specs.code.Numbers.{highest_end, lowest_start}
 use Rattle.refute_seq.specs.declared.witness.SeqWitness.TheVariants.{Pair, Triple}
 use Rattle.refute_seq.specs.OnSequence.{refutes}
 use Rattle.refute_seq.specs.declared.witness.SeqWitness.{SeqWitness}
@@ -30,7 +28,7 @@ use Rattle.prop_unary.specs.laws.Under.{asks_itself}
 use Rattle.prop_unary.specs.laws.Circles.{circles_quiet}
 use Rattle.prop_unary.specs.declared.disjunctive.Disjunctive.{Disjunctive}
 use Rattle.prop_unary.specs.code.Tasks.{IsSilent, quiet}
-use Rattle.prop_unary.specs.code.Silence.{IsDisjunctive, stays_in_time, is_silent_two, reach, AreSilent, AreSilentWhere}
+use Rattle.prop_unary.specs.code.Silence.{IsDisjunctive, is_silent_two, reach, AreSilent, AreSilentWhere}
 use Rattle.prop_unary.specs.code.Circles.{EachOf, SilentBehind, SilentAround, SilentAt}
 use Rattle.prop_unary.specs.laws.Silence.{silent_pair, silent_itself, backward_pair}
 use Rattle.prop_unary.specs.laws.Quieting.{pairs_quiet, pair_silent, triple_silent}
@@ -61,14 +59,6 @@ quiet_pairs m r best d ms of is listed forward unknown =
     by_order a b Forward told f u = f told
     by_order a b Unknown told f u = u told
     by_order a b Backward told f u = backward_pair m r best d a b is told
-
--- what the code has tested
-pub two_told : (o : OrderCell) (c u d v : Bounds) (n k : ℤ) (b : Bool) → c ≡ u → d ≡ v → n ≡ k → b ≡ is_silent_two o c d n → b ≡ true → is_silent_two o u v k ≡ true
-two_told o c u d v n k b first second number is told = rw (sym first, sym second, sym number) (sym is ∙ told)
-
-pub time_told : (c d : Bounds) (n : ℤ) (p q second first : Bool) → second ≡ (not p || int_le (ect_in c +ℤ n) (lowest_start d)) → p ≡ says_present c.presence → first ≡ (not q || int_le (highest_end c +ℤ n) (lst_in d)) → q ≡ says_present d.presence
-    → (second && first) ≡ stays_in_time c d n
-time_told c d n p q second first s one f other = rw (s, one, f, other) refl
 
 -- the same of an answer
 pub none_to : {X P Q : Type 0} (o : Option X) → (P → Q) → IfNone o P → IfNone o Q

@@ -4,7 +4,7 @@
 
 mod circles;
 mod disjunctive;
-mod ends;
+mod keys;
 mod members;
 mod pairs;
 mod places;

@@ -9,13 +9,13 @@ ghost use Rattle.findings.specs.code.Numbers.{ends_of};
 ghost use Rattle.refute_seq.specs.declared.witness.SeqWitness.TheVariants as witness;
 ghost use Rattle.refute_seq.specs.OnSequence.{refutes};
 ghost use Rattle.prop_unary.specs.code.Tasks.{IsSilent, quiet};
-ghost use Rattle.prop_unary.specs.code.Silence.{IsDisjunctive, AreSilent, AreSilentWhere, SilentRow, AreEnds};
+ghost use Rattle.prop_unary.specs.code.Silence.{IsDisjunctive, AreSilent, AreSilentWhere, SilentRow, IsKeyed, AreKeyed};
 ghost use Rattle.prop_unary.specs.code.Circles.{EachOf, EachBetween};
 
 use crate::disjunctive::Disjunctive;
-use crate::ends::note_ends;
+use crate::keys::{Keys, note_keys};
 use crate::silence::{Task, are_surely_silent, is_surely_silent};
-use findings::{Ends, Finding, Pair, ask};
+use findings::{Finding, Pair, ask};
 use refute_seq::{OnSequence, SeqWitness};
 use region::{OrderCell, Region};
 use sched_base::Itv;
@@ -140,25 +140,26 @@ fn ask_told_row(
     d: &Disjunctive,
     first: Task,
     members: &[Itv],
-    ends: &[Ends],
+    keys: &[Keys],
     is_open: &mut bool,
 ) -> Option<Finding<SeqWitness>>
     requires of { IsRegionOf model.now region.now.region }
     requires is { IsDisjunctive model.now d.now }
-    requires first { first.ends ≡ ends_of (bounds_of region.now.region first.member) }
-    requires room { length members.now ≤ length ends.now }
-    requires ends { AreEnds region.now.region members.now ends.now }
+    requires first { IsKeyed (ends_of (bounds_of region.now.region first.member)) first.keys }
+    requires room { length members.now ≤ length keys.now }
+    requires keys { AreKeyed region.now.region members.now keys.now }
     ensures none { IfNone result (EachOf (AreSilentWhere model.now region.now.region best d.now order.Forward first.member) members.now) }
     ensures free { IfNone result (is_open.new ≡ false → (is_open.old ≡ false) × EachOf (AreSilentWhere model.now region.now.region best d.now order.Unknown first.member) members.now) }
     ensures some { IfSome result (IsFinding refutes model.now region.now.region best) }
     ensures busy { IfSome result (λ f. quiet model.now d.now.c region.now.region best → ⊥) }
 {
+    let (p, matrix) = (d.p, d.matrix);
     for k in 0..members.len() {
         let second = Task {
             member: members[k],
-            ends: ends[k],
+            keys: keys[k],
         };
-        if are_surely_silent(model, region, d, first, second) {
+        if are_surely_silent(model, region, p, matrix, first, second) {
             continue;
         }
         let (a, b) = (first.member, second.member);
@@ -178,23 +179,24 @@ fn ask_row(
     order: OrderCell,
     first: Task,
     members: &[Itv],
-    ends: &[Ends],
+    keys: &[Keys],
 ) -> Option<Finding<SeqWitness>>
     requires of { IsRegionOf model.now region.now.region }
     requires is { IsDisjunctive model.now d.now }
-    requires first { first.ends ≡ ends_of (bounds_of region.now.region first.member) }
-    requires room { length members.now ≤ length ends.now }
-    requires ends { AreEnds region.now.region members.now ends.now }
+    requires first { IsKeyed (ends_of (bounds_of region.now.region first.member)) first.keys }
+    requires room { length members.now ≤ length keys.now }
+    requires keys { AreKeyed region.now.region members.now keys.now }
     ensures none { IfNone result (EachOf (AreSilentWhere model.now region.now.region best d.now order first.member) members.now) }
     ensures some { IfSome result (IsFinding refutes model.now region.now.region best) }
     ensures busy { IfSome result (λ f. quiet model.now d.now.c region.now.region best → ⊥) }
 {
+    let (p, matrix) = (d.p, d.matrix);
     for k in 0..members.len() {
         let second = Task {
             member: members[k],
-            ends: ends[k],
+            keys: keys[k],
         };
-        if is_surely_silent(model, region, d, order, first, second) {
+        if is_surely_silent(model, region, p, matrix, order, first, second) {
             continue;
         }
         if let Some(found) = ask_two(model, region, best, d, order, first.member, second.member) {
@@ -213,15 +215,15 @@ fn ask_places(
     d: &Disjunctive,
     order: OrderCell,
     members: &[Itv],
-    ends: &[Ends],
+    keys: &[Keys],
     from: usize,
     to: usize,
     at: &mut usize,
 ) -> Option<Finding<SeqWitness>>
     requires of { IsRegionOf model.now region.now.region }
     requires is { IsDisjunctive model.now d.now }
-    requires room { length members.now ≤ length ends.now }
-    requires ends { AreEnds region.now.region members.now ends.now }
+    requires room { length members.now ≤ length keys.now }
+    requires keys { AreKeyed region.now.region members.now keys.now }
     requires within { to ≤ length members.now }
     ensures none { IfNone result (EachBetween (SilentRow model.now region.now.region best d.now order members.now) members.now from to) }
     ensures some { IfSome result (IsFinding refutes model.now region.now.region best) }
@@ -230,9 +232,9 @@ fn ask_places(
     for k in from..to {
         let first = Task {
             member: members[k],
-            ends: ends[k],
+            keys: keys[k],
         };
-        if let Some(found) = ask_row(model, region, best, d, order, first, members, ends) {
+        if let Some(found) = ask_row(model, region, best, d, order, first, members, keys) {
             *at = k;
             return Some(found);
         }
@@ -247,7 +249,7 @@ fn ask_told_places(
     best: Option<i64>,
     d: &Disjunctive,
     members: &[Itv],
-    ends: &[Ends],
+    keys: &[Keys],
     from: usize,
     to: usize,
     at: &mut usize,
@@ -255,8 +257,8 @@ fn ask_told_places(
 ) -> Option<Finding<SeqWitness>>
     requires of { IsRegionOf model.now region.now.region }
     requires is { IsDisjunctive model.now d.now }
-    requires room { length members.now ≤ length ends.now }
-    requires ends { AreEnds region.now.region members.now ends.now }
+    requires room { length members.now ≤ length keys.now }
+    requires keys { AreKeyed region.now.region members.now keys.now }
     requires within { to ≤ length members.now }
     ensures none { IfNone result (EachBetween (SilentRow model.now region.now.region best d.now order.Forward members.now) members.now from to) }
     ensures free { IfNone result (is_open.new ≡ false → (is_open.old ≡ false) × EachBetween (SilentRow model.now region.now.region best d.now order.Unknown members.now) members.now from to) }
@@ -266,9 +268,9 @@ fn ask_told_places(
     for k in from..to {
         let first = Task {
             member: members[k],
-            ends: ends[k],
+            keys: keys[k],
         };
-        if let Some(found) = ask_told_row(model, region, best, d, first, members, ends, is_open) {
+        if let Some(found) = ask_told_row(model, region, best, d, first, members, keys, is_open) {
             *at = k;
             return Some(found);
         }
@@ -284,14 +286,14 @@ fn ask_told_order(
     best: Option<i64>,
     d: &Disjunctive,
     members: &[Itv],
-    ends: &[Ends],
+    keys: &[Keys],
     at: &mut usize,
     is_open: &mut bool,
 ) -> Option<Finding<SeqWitness>>
     requires of { IsRegionOf model.now region.now.region }
     requires is { IsDisjunctive model.now d.now }
-    requires room { length members.now ≤ length ends.now }
-    requires ends { AreEnds region.now.region members.now ends.now }
+    requires room { length members.now ≤ length keys.now }
+    requires keys { AreKeyed region.now.region members.now keys.now }
     ensures none { IfNone result (EachOf (SilentRow model.now region.now.region best d.now order.Forward members.now) members.now) }
     ensures free { IfNone result (is_open.new ≡ false → (is_open.old ≡ false) × EachOf (SilentRow model.now region.now.region best d.now order.Unknown members.now) members.now) }
     ensures some { IfSome result (IsFinding refutes model.now region.now.region best) }
@@ -299,10 +301,10 @@ fn ask_told_order(
 {
     let n = members.len();
     let start = (*at).min(n);
-    if let Some(f) = ask_told_places(model, region, best, d, members, ends, start, n, at, is_open) {
+    if let Some(f) = ask_told_places(model, region, best, d, members, keys, start, n, at, is_open) {
         return Some(f);
     }
-    ask_told_places(model, region, best, d, members, ends, 0, start, at, is_open)
+    ask_told_places(model, region, best, d, members, keys, 0, start, at, is_open)
 }
 
 /// What is found of each two whose order is this one. It begins with the member at a place, and goes
@@ -314,23 +316,23 @@ fn ask_order(
     d: &Disjunctive,
     order: OrderCell,
     members: &[Itv],
-    ends: &[Ends],
+    keys: &[Keys],
     at: &mut usize,
 ) -> Option<Finding<SeqWitness>>
     requires of { IsRegionOf model.now region.now.region }
     requires is { IsDisjunctive model.now d.now }
-    requires room { length members.now ≤ length ends.now }
-    requires ends { AreEnds region.now.region members.now ends.now }
+    requires room { length members.now ≤ length keys.now }
+    requires keys { AreKeyed region.now.region members.now keys.now }
     ensures none { IfNone result (EachOf (λ a. EachOf (AreSilentWhere model.now region.now.region best d.now order a) members.now) members.now) }
     ensures some { IfSome result (IsFinding refutes model.now region.now.region best) }
     ensures busy { IfSome result (λ f. quiet model.now d.now.c region.now.region best → ⊥) }
 {
     let n = members.len();
     let start = (*at).min(n);
-    if let Some(f) = ask_places(model, region, best, d, order, members, ends, start, n, at) {
+    if let Some(f) = ask_places(model, region, best, d, order, members, keys, start, n, at) {
         return Some(f);
     }
-    ask_places(model, region, best, d, order, members, ends, 0, start, at)
+    ask_places(model, region, best, d, order, members, keys, 0, start, at)
 }
 
 /// What PAIR finds of a sequence without overlap, whose members these are: first of two that are told
@@ -343,21 +345,21 @@ pub fn ask_pairs(
     best: Option<i64>,
     d: &Disjunctive,
     members: &[Itv],
-    ends: &mut [Ends],
+    keys: &mut [Keys],
     at: &mut usize,
 ) -> Option<Finding<SeqWitness>>
     requires of { IsRegionOf model.now region.now.region }
     requires is { IsDisjunctive model.now d.now }
     requires members { members.now ≡ members_of model.now d.now.p }
-    requires room { length members.now ≤ length ends.old }
-    ensures same { length ends.new ≡ length ends.old }
+    requires room { length members.now ≤ length keys.old }
+    ensures same { length keys.new ≡ length keys.old }
     ensures none { IfNone result (quiet model.now d.now.c region.now.region best) }
     ensures some { IfSome result (IsFinding refutes model.now region.now.region best) }
     ensures busy { IfSome result (λ f. quiet model.now d.now.c region.now.region best → ⊥) }
 {
-    note_ends(&region.look(None, None), members, ends);
+    note_keys(&region.look(None, None), members, keys);
     let mut is_open = false;
-    if let Some(f) = ask_told_order(model, region, best, d, members, ends, at, &mut is_open) {
+    if let Some(f) = ask_told_order(model, region, best, d, members, keys, at, &mut is_open) {
         return Some(f);
     }
     if !is_open {
@@ -370,7 +372,7 @@ pub fn ask_pairs(
         d,
         OrderCell::Unknown,
         members,
-        ends,
+        keys,
         at,
     )
 }

@@ -1,16 +1,15 @@
 //! Where PAIR of two members finds nothing, by a few comparisons.
-ghost use Rattle.std.specs.Prelude.{◌≡◌, ◌+ℤ◌, int_le, true, not, ◌||◌};
+ghost use Rattle.std.specs.Prelude.{◌≡◌, ◌+ℤ◌, int_le, true, ◌&&◌};
 ghost use Rattle.std.specs.Int.{int_max};
 ghost use Rattle.region.specs.declared.types.OrderCell.TheVariants as order;
-ghost use Rattle.region.specs.Cells.{says_present, says_absent, bounds_of};
+ghost use Rattle.region.specs.Cells.{bounds_of};
 ghost use Rattle.region.specs.Looks.{IsRegionOf};
 ghost use Rattle.findings.specs.code.Numbers.{ends_of};
-ghost use Rattle.prop_unary.specs.code.Silence.{are_in_time, are_silent_ends, is_silent_two, reach};
+ghost use Rattle.prop_unary.specs.code.Silence.{IsKeyed, are_keys_in_time, are_silent_keys, is_silent_two, AreSilentOrders, reach};
 
-use crate::disjunctive::Disjunctive;
-use findings::Ends;
+use crate::keys::{Back, Front, Keys};
 use refute_seq::gap;
-use region::{Look, OrderCell, Presence, Region};
+use region::{OrderCell, Region};
 use sched_base::{Itv, Mat, Seq};
 use sched_model::Model;
 
@@ -30,102 +29,88 @@ fn fits(end: i64, n: i64, start: i64) -> bool
     i128::from(end) + i128::from(n) <= i128::from(start)
 }
 
-fn is_present(c: Presence) -> bool
-    ensures { result ≡ says_present c }
+fn are_keys_in_time(c: Front, d: Back, n: i64) -> bool
+    ensures { result ≡ are_keys_in_time c d n }
 {
-    c == Presence::Present
+    fits(c.present_ect, n, d.lowest_start) && fits(c.highest_end, n, d.present_lst)
 }
 
-fn is_absent(c: Presence) -> bool
-    ensures { result ≡ says_absent c }
-{
-    c == Presence::Absent
-}
-
-/// The same where it is asked for.
-fn fits_if(asked: bool, end: i64, n: i64, start: i64) -> bool
-    ensures { result ≡ (not asked || int_le (end +ℤ n) start) }
-{
-    !asked || fits(end, n, start)
-}
-
-fn are_in_time(c: Ends, d: Ends, n: i64) -> bool
-    ensures { result ≡ are_in_time c d n }
-{
-    fits_if(is_present(c.presence), c.ect, n, d.lowest_start)
-        && fits_if(is_present(d.presence), c.highest_end, n, d.lst)
-}
-
-fn are_silent_ends(order: OrderCell, c: Ends, d: Ends, n: i64) -> bool
-    ensures { result ≡ are_silent_ends order c d n }
+fn are_silent_keys(order: OrderCell, c: Front, d: Back, n: i64) -> bool
+    ensures { result ≡ are_silent_keys order c d n }
 {
     match order {
         OrderCell::Unknown => fits(c.ect, n, d.lst),
-        OrderCell::Forward => are_in_time(c, d, n),
+        OrderCell::Forward => are_keys_in_time(c, d, n),
         OrderCell::Backward => true,
     }
 }
 
-/// Whether PAIR of two members finds nothing, by their order and their numbers.
-fn is_silent_two(order: OrderCell, c: Ends, d: Ends, n: i64) -> bool
-    ensures { result ≡ (says_absent c.presence || says_absent d.presence || are_silent_ends order c d n) }
+/// The same where their order is open, and where the first is told to stand before the second.
+fn are_silent_orders(c: Front, d: Back, n: i64) -> bool
+    ensures { result ≡ (int_le (c.ect +ℤ n) d.lst && are_keys_in_time c d n) }
 {
-    is_absent(c.presence) || is_absent(d.presence) || are_silent_ends(order, c, d, n)
+    fits(c.ect, n, d.lst) && are_keys_in_time(c, d, n)
 }
 
-/// The greatest distance that may bind two members.
-fn reach(model: &Model, look: &Look<'_>, p: Seq, matrix: Option<Mat>, a: Itv, b: Itv) -> i64
-    requires { IsRegionOf model.now look.now.region }
+/// The greatest distance that may bind two members. Most sequences keep none, so it stays out of the
+/// loops through pairs.
+#[inline(never)]
+fn reach(model: &Model, region: &Region, p: Seq, matrix: Option<Mat>, a: Itv, b: Itv) -> i64
+    requires { IsRegionOf model.now region.now.region }
     ensures { result ≡ reach model.now p matrix a b }
 {
-    if matrix.is_none() {
-        return 0;
-    }
-    greater(0, gap(model, look, p, matrix, a, b))
+    let look = region.look(None, None);
+    greater(0, gap(model, &look, p, matrix, a, b))
 }
 
 /// A member, and the numbers of it.
 #[derive(Clone, Copy, Debug)]
 pub struct Task {
     pub member: Itv,
-    pub ends: Ends,
+    pub keys: Keys,
 }
 
 /// Whether PAIR of two members surely finds nothing where their order is this one.
 pub fn is_surely_silent(
     model: &Model,
     region: &Region,
-    d: &Disjunctive,
+    p: Seq,
+    matrix: Option<Mat>,
     order: OrderCell,
     first: Task,
     second: Task,
 ) -> bool
     requires of { IsRegionOf model.now region.now.region }
-    requires first { first.ends ≡ ends_of (bounds_of region.now.region first.member) }
-    requires second { second.ends ≡ ends_of (bounds_of region.now.region second.member) }
-    ensures { result ≡ true → is_silent_two order (bounds_of region.now.region first.member) (bounds_of region.now.region second.member) (reach model.now d.now.p d.now.matrix first.member second.member) ≡ true }
+    requires first { IsKeyed (ends_of (bounds_of region.now.region first.member)) first.keys }
+    requires second { IsKeyed (ends_of (bounds_of region.now.region second.member)) second.keys }
+    ensures { result ≡ true → is_silent_two order (bounds_of region.now.region first.member) (bounds_of region.now.region second.member) (reach model.now p matrix first.member second.member) ≡ true }
 {
-    let look = region.look(None, None);
-    let n = reach(model, &look, d.p, d.matrix, first.member, second.member);
-    is_silent_two(order, first.ends, second.ends, n)
+    let (c, d) = (first.keys.front, second.keys.back);
+    if matrix.is_none() {
+        return are_silent_keys(order, c, d, 0);
+    }
+    let n = reach(model, region, p, matrix, first.member, second.member);
+    are_silent_keys(order, c, d, n)
 }
 
 /// The same of both orders: that the first is told to stand before the second, and that none is.
 pub fn are_surely_silent(
     model: &Model,
     region: &Region,
-    d: &Disjunctive,
+    p: Seq,
+    matrix: Option<Mat>,
     first: Task,
     second: Task,
 ) -> bool
     requires of { IsRegionOf model.now region.now.region }
-    requires first { first.ends ≡ ends_of (bounds_of region.now.region first.member) }
-    requires second { second.ends ≡ ends_of (bounds_of region.now.region second.member) }
-    ensures told { result ≡ true → is_silent_two order.Forward (bounds_of region.now.region first.member) (bounds_of region.now.region second.member) (reach model.now d.now.p d.now.matrix first.member second.member) ≡ true }
-    ensures free { result ≡ true → is_silent_two order.Unknown (bounds_of region.now.region first.member) (bounds_of region.now.region second.member) (reach model.now d.now.p d.now.matrix first.member second.member) ≡ true }
+    requires first { IsKeyed (ends_of (bounds_of region.now.region first.member)) first.keys }
+    requires second { IsKeyed (ends_of (bounds_of region.now.region second.member)) second.keys }
+    ensures { result ≡ true → AreSilentOrders (bounds_of region.now.region first.member) (bounds_of region.now.region second.member) (reach model.now p matrix first.member second.member) }
 {
-    if !is_surely_silent(model, region, d, OrderCell::Unknown, first, second) {
-        return false;
+    let (c, d) = (first.keys.front, second.keys.back);
+    if matrix.is_none() {
+        return are_silent_orders(c, d, 0);
     }
-    is_surely_silent(model, region, d, OrderCell::Forward, first, second)
+    let n = reach(model, region, p, matrix, first.member, second.member);
+    are_silent_orders(c, d, n)
 }

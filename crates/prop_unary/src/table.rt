@@ -15,10 +15,11 @@ ghost use Rattle.prop_unary.specs.code.Tables.{IsFor, members_at, sequences_at, 
 
 use crate::circles::ask_circles;
 use crate::disjunctive::Disjunctive;
+use crate::keys::Keys;
 use crate::members::sequence_at;
 use crate::pairs::ask_pairs;
 use crate::places::Places;
-use findings::{Ends, Finding};
+use findings::Finding;
 use refute_seq::{SeqWitness, members_of};
 use region::Region;
 use sched_base::{Itv, List, NoMemory, Seq, at};
@@ -36,7 +37,7 @@ pub struct PropUnary {
     /// Each one's sequence.
     sequences: Vec<List<Seq>>,
     /// Room for the numbers of the members of a sequence, and for their rows.
-    ends: Vec<Ends>,
+    keys: Vec<Keys>,
     rows: Vec<Places>,
     /// The place of the member with which each begins.
     starts: Vec<usize>,
@@ -53,7 +54,7 @@ impl std::marker::Model for PropUnary {
 
     ghost view = { λ p. record { constraints = p.constraints; members = p.members.items; sequences = p.sequences.items } };
 
-    ghost invariant = { λ p. (length p.members.items < 2 ^ 32) × (length p.ends.items ≡ 500) × (length p.rows.items ≡ 500) × (length p.starts.items ≡ length p.members.items) };
+    ghost invariant = { λ p. (length p.members.items < 2 ^ 32) × (length p.keys.items ≡ 500) × (length p.rows.items ≡ 500) × (length p.starts.items ≡ length p.members.items) };
 }
 
 /// The members of a sequence, where there is one.
@@ -115,13 +116,13 @@ fn ask_constraint(
     region: &Region,
     best: Option<i64>,
     c: u32,
-    ends: &mut [Ends],
+    keys: &mut [Keys],
     start: &mut usize,
 ) -> Option<Finding<SeqWitness>>
     requires of { IsRegionOf model.now region.now.region }
     requires within { c < length model.now.constraints }
-    requires room { length ends.old ≡ 500 }
-    ensures same { length ends.new ≡ length ends.old }
+    requires room { length keys.old ≡ 500 }
+    ensures same { length keys.new ≡ length keys.old }
     ensures none { IfNone result (quiet model.now c region.now.region best) }
     ensures some { IfSome result (IsFinding refutes model.now region.now.region best) }
     ensures busy { IfSome result (λ f. quiet model.now c region.now.region best → ⊥) }
@@ -134,7 +135,7 @@ fn ask_constraint(
                 matrix: *matrix,
                 direct: *direct,
             };
-            ask_pairs(model, region, best, &d, few_members(model, *p), ends, start)
+            ask_pairs(model, region, best, &d, few_members(model, *p), keys, start)
         }
         _ => None,
     }
@@ -154,7 +155,7 @@ impl PropUnary {
             constraints,
             members,
             sequences,
-            ends: vec![in alloc; Ends::UNKNOWN; MOST]?,
+            keys: vec![in alloc; Keys::ABSENT; MOST]?,
             rows: vec![in alloc; Places::none(); MOST]?,
             starts: vec![in alloc; 0; n as usize]?,
         })
@@ -185,7 +186,7 @@ impl PropUnary {
     {
         if k < self.constraints {
             let start = &mut self.starts[k as usize];
-            return ask_constraint(model, region, best, k, &mut self.ends, start);
+            return ask_constraint(model, region, best, k, &mut self.keys, start);
         }
         let p = Seq(k - self.constraints);
         ask_circles(

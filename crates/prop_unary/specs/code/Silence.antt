@@ -1,5 +1,5 @@
 -- Where PAIR of two members is silent, by their numbers and their order alone.
-use Rattle.std.specs.Prelude.{◌≡◌, ℕ, ◌<◌, ℤ, pos, ◌+ℤ◌, Bool, true, not, ◌&&◌, ◌||◌, List, length, slice_index_or, Option, Some, slice_get, int_le}
+use Rattle.std.specs.Prelude.{◌≡◌, ℕ, ◌<◌, ℤ, pos, ◌+ℤ◌, Bool, true, false, not, ◌&&◌, ◌||◌, List, length, slice_index_or, Option, Some, slice_get, int_le}
 use Rattle.std.specs.Int.{int_max}
 use Rattle.sched_base.specs.declared.ids.Itv.{Itv}
 use Rattle.sched_base.specs.declared.ids.Seq.{Seq}
@@ -15,6 +15,9 @@ use Rattle.findings.specs.declared.ends.Ends.{Ends}
 use Rattle.findings.specs.code.Numbers.{ends_of}
 use Rattle.refute_seq.specs.declared.witness.SeqWitness.TheVariants.{Pair}
 use Rattle.prop_unary.specs.declared.disjunctive.Disjunctive.{Disjunctive}
+use Rattle.prop_unary.specs.declared.keys.Front.{Front}
+use Rattle.prop_unary.specs.declared.keys.Back.{Back}
+use Rattle.prop_unary.specs.declared.keys.Keys.{Keys}
 use Rattle.prop_unary.specs.code.Tasks.{IsSilent}
 use Rattle.prop_unary.specs.code.Circles.{EachOf}
 
@@ -42,9 +45,37 @@ is_silent_order o c d n = are_silent_ends o (ends_of c) (ends_of d) n
 abbrev pub is_silent_two : OrderCell → Bounds → Bounds → ℤ → Bool
 is_silent_two o c d n = says_absent c.presence || says_absent d.presence || is_silent_order o c d n
 
--- the numbers of the members of a list, at their places
-abbrev pub AreEnds : Region → List Itv → List Ends → Type 0
-AreEnds r xs es = (k : ℕ) → k < length xs → (d : Ends) (e : Itv) → slice_index_or es k d ≡ ends_of (bounds_of r (slice_index_or xs k e))
+-- both where their order is open and where the first is told to stand before the second
+pub record AreSilentOrders (c d : Bounds) (n : ℤ) : Type 0 where
+  pub free : is_silent_two Unknown c d n ≡ true
+  pub told : is_silent_two Forward c d n ≡ true
+
+-- the keys of a member say of its numbers what is asked of one who is so present: as the first of two, and as the second
+pub record IsFront (e : Ends) (k : Front) : Type 0 where
+  pub ect : says_absent e.presence ≡ false → k.ect ≡ e.ect
+  pub present_ect : says_present e.presence ≡ true → k.present_ect ≡ e.ect
+  pub highest_end : says_absent e.presence ≡ false → k.highest_end ≡ e.highest_end
+
+pub record IsBack (e : Ends) (k : Back) : Type 0 where
+  pub lst : says_absent e.presence ≡ false → k.lst ≡ e.lst
+  pub present_lst : says_present e.presence ≡ true → k.present_lst ≡ e.lst
+  pub lowest_start : says_absent e.presence ≡ false → k.lowest_start ≡ e.lowest_start
+
+abbrev pub IsKeyed : Ends → Keys → Type 0
+IsKeyed e k = IsFront e k.front × IsBack e k.back
+
+-- two are silent by their keys: where their order is open, and where the first is told to stand before the second
+abbrev pub are_keys_in_time : Front → Back → ℤ → Bool
+are_keys_in_time c d n = int_le (c.present_ect +ℤ n) d.lowest_start && int_le (c.highest_end +ℤ n) d.present_lst
+
+abbrev pub are_silent_keys : OrderCell → Front → Back → ℤ → Bool
+are_silent_keys Unknown c d n = int_le (c.ect +ℤ n) d.lst
+are_silent_keys Forward c d n = are_keys_in_time c d n
+are_silent_keys Backward c d n = true
+
+-- the keys of the members of a list, at their places
+abbrev pub AreKeyed : Region → List Itv → List Keys → Type 0
+AreKeyed r xs ks = (i : ℕ) → i < length xs → (d : Keys) (e : Itv) → IsKeyed (ends_of (bounds_of r (slice_index_or xs i e))) (slice_index_or ks i d)
 
 -- the distance of either case: 0, or what the sequence keeps
 abbrev pub reach : Data → Seq → Option Mat → Itv → Itv → ℤ

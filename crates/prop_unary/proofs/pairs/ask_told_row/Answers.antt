@@ -8,11 +8,11 @@ use Rattle.prop_unary.proofs.pairs.ask_told_row.Goals as goal
 pub loop-k-preserved-then-are_surely_silent : goal.loop-k-preserved-then-are_surely_silent
 loop-k-preserved-then-are_surely_silent c = record {
   told = each_more (AreSilentWhere c.args.model.now c.args.region.now.region c.args.best c.args.d.now Forward c.args.first.member) c.args.members.now c.loop-k.k _ (record { 0 = 0 }) c.loop-k-test.true refl c.loop-k.invariant.told
-      (silent_by_test c.args.model.now c.args.region.now.region c.args.best c.args.d.now Forward c.args.first.member _ c.requires.is (c.are_surely_silent.ensures.told c.if-are_surely_silent.true));
+      (silent_by_test c.args.model.now c.args.region.now.region c.args.best c.args.d.now Forward c.args.first.member _ c.requires.is (c.are_surely_silent.ensures c.if-are_surely_silent.true).told);
   free = λ closed. let before = c.loop-k.invariant.free closed in (
     before.0,
     each_more (AreSilentWhere c.args.model.now c.args.region.now.region c.args.best c.args.d.now Unknown c.args.first.member) c.args.members.now c.loop-k.k _ (record { 0 = 0 }) c.loop-k-test.true refl before.1
-        (silent_by_test c.args.model.now c.args.region.now.region c.args.best c.args.d.now Unknown c.args.first.member _ c.requires.is (c.are_surely_silent.ensures.free c.if-are_surely_silent.true)),
+        (silent_by_test c.args.model.now c.args.region.now.region c.args.best c.args.d.now Unknown c.args.first.member _ c.requires.is (c.are_surely_silent.ensures c.if-are_surely_silent.true).free),
   );
 }
 
