@@ -1,5 +1,5 @@
 -- What was asked is silent, and what is silent finds nothing.
-use Rattle.std.specs.Prelude.{◌≡◌, ℕ, ◌+◌, ◌<◌, ℤ, true, false, ◌&&◌, ◌||◌, List, length, Option, Some, None, IfNone, IfSome}
+use Rattle.std.specs.Prelude.{◌≡◌, ℕ, ◌+◌, ◌<◌, ℤ, true, false, ◌&&◌, ◌||◌, List, length, Option, Some, None, is_none, is_some, IfNone, IfSome}
 use Rattle.std.proofs.Common.{refl, sym, ap, subst, ◌∙◌}
 use Rattle.std.proofs.lemmas.Bool.{true≢false, or_left, or_right}
 use Rattle.std.proofs.lemmas.Option.{slice_get_within}
@@ -46,6 +46,10 @@ silent_other m r best d o a b other told = absurd (other told)
 pub silent_tested : (m : Data) (r : Region) (best : Option ℤ) (d : Disjunctive) (o : OrderCell) (a b : Itv) → IsDisjunctive m d → (a.0 ≡ b.0 → ⊥) → is_silent_two o (bounds_of r a) (bounds_of r b) (reach m d.p d.matrix a b) ≡ true → AreSilentWhere m r best d o a b
 silent_tested m r best d o a b is apart test told =
     silent_pair m r best d a b is (different a.0 b.0 apart) (subst (λ u. is_silent_two u (bounds_of r a) (bounds_of r b) (reach m d.p d.matrix a b) ≡ true) (sym told) test)
+
+pub no_matrix : {X : Type 0} (o : Option X) → is_none o ≡ true → is_some o ≡ false
+no_matrix None h = refl
+no_matrix (Some x) h = cc
 
 -- of each two
 abbrev pub EachTwo : Data → Region → Option ℤ → Disjunctive → OrderCell → List Itv → Type 0

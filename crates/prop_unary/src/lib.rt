@@ -5,10 +5,12 @@
 mod circles;
 mod disjunctive;
 mod keys;
+mod likely;
 mod members;
 mod pairs;
 mod places;
 mod silence;
 mod table;
+mod waiting;
 
 pub use table::PropUnary;

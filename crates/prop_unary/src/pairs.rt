@@ -14,14 +14,15 @@ ghost use Rattle.prop_unary.specs.code.Circles.{EachOf, EachBetween};
 
 use crate::disjunctive::Disjunctive;
 use crate::keys::{Keys, note_keys};
+use crate::likely::likely_told;
 use crate::silence::{Task, are_surely_silent, is_surely_silent};
-use findings::{Finding, Pair, ask};
+use findings::{Finding, Likely, Pair, ask_likely};
 use refute_seq::{OnSequence, SeqWitness};
 use region::{OrderCell, Region};
 use sched_base::Itv;
 use sched_model::Model;
 
-/// What one case of PAIR finds of two members.
+/// What one case of PAIR finds of two members. The likely guess is asked about first.
 fn ask_case(
     model: &Model,
     region: &Region,
@@ -30,6 +31,7 @@ fn ask_case(
     a: Itv,
     b: Itv,
     k: u32,
+    likely: Likely,
 ) -> Option<Finding<SeqWitness>>
     requires of { IsRegionOf model.now region.now.region }
     requires is { IsDisjunctive model.now d.now }
@@ -48,13 +50,13 @@ fn ask_case(
         first: a,
         second: b,
     };
-    match ask::<OnSequence>(model, region, best, &witness, &[a, b], &[pair]) {
+    match ask_likely::<OnSequence>(model, region, best, &witness, &[a, b], &[pair], likely) {
         None => None,
         Some(guess) => Some(Finding { guess, witness }),
     }
 }
 
-/// What both cases find.
+/// What both cases find. Without distances there is but the first.
 fn ask_both(
     model: &Model,
     region: &Region,
@@ -62,6 +64,7 @@ fn ask_both(
     d: &Disjunctive,
     a: Itv,
     b: Itv,
+    likely: Likely,
 ) -> Option<Finding<SeqWitness>>
     requires of { IsRegionOf model.now region.now.region }
     requires is { IsDisjunctive model.now d.now }
@@ -69,10 +72,13 @@ fn ask_both(
     ensures some { IfSome result (IsFinding refutes model.now region.now.region best) }
     ensures busy { IfSome result (λ f. quiet model.now d.now.c region.now.region best → ⊥) }
 {
-    if let Some(found) = ask_case(model, region, best, d, a, b, 0) {
+    if let Some(found) = ask_case(model, region, best, d, a, b, 0, likely) {
         return Some(found);
     }
-    ask_case(model, region, best, d, a, b, 1)
+    if d.matrix.is_none() {
+        return None;
+    }
+    ask_case(model, region, best, d, a, b, 1, likely)
 }
 
 /// The same where the order of the two is this one.
@@ -97,7 +103,16 @@ fn ask_two(
     if region.look(None, None).order(d.p, a, b) != order {
         return None;
     }
-    ask_both(model, region, best, d, a, b)
+    let pair = Pair {
+        sequence: d.p,
+        first: a,
+        second: b,
+    };
+    let likely = match order {
+        OrderCell::Forward => likely_told(region, pair),
+        _ => Likely::StandsBehind(pair),
+    };
+    ask_both(model, region, best, d, a, b, likely)
 }
 
 /// The same of two of which the first is told to stand before the second. Where none is told to, it is
@@ -127,7 +142,14 @@ fn ask_told(
             *is_open = true;
             None
         }
-        OrderCell::Forward => ask_both(model, region, best, d, a, b),
+        OrderCell::Forward => {
+            let pair = Pair {
+                sequence: d.p,
+                first: a,
+                second: b,
+            };
+            ask_both(model, region, best, d, a, b, likely_told(region, pair))
+        }
     }
 }
 

@@ -19,6 +19,7 @@ use crate::keys::Keys;
 use crate::members::sequence_at;
 use crate::pairs::ask_pairs;
 use crate::places::Places;
+use crate::waiting::can_wait;
 use findings::Finding;
 use refute_seq::{SeqWitness, members_of};
 use region::Region;
@@ -197,6 +198,20 @@ impl PropUnary {
             few_members(model, p),
             &mut self.rows,
         )
+    }
+
+    /// Whether what it finds now, if it finds anything, can wait until others are quiet. It says so only
+    /// of a constraint without distances. Nothing hangs on it.
+    pub fn can_wait(&self, k: u32, model: &Model, region: &Region) -> bool {
+        if k >= self.constraints {
+            return false;
+        }
+        match at(model.constraints(), k as usize) {
+            Some(Constraint::NoOverlap { p, matrix, .. }) => {
+                matrix.is_none() && can_wait(region, *p, few_members(model, *p))
+            }
+            _ => false,
+        }
     }
 
     /// The intervals whose presence it watches.

@@ -360,6 +360,24 @@ both_cases m r best d a b is first second (suc (suc k)) = λ guess asked. by_cas
         absurd (other_cases m l.region (suc (suc k)) a b d (off k 0 (omega arith)) (off k 1 (omega arith))
         (subst (λ o. passes (pair_of m l.region (suc (suc k)) a b) o ≡ true) is (both_true (is_valid (Pair d.c a.0 b.0 (suc (suc k)))) (row_of m l (Pair d.c a.0 b.0 (suc (suc k)))) e).1))
 
+-- where there is no matrix there is but one
+near_needs : (m : Data) (q : Region) (a b : Itv) (d : Disjunctive) → is_some d.matrix ≡ false → pair_case m q 1 a b d.p d.matrix d.direct ≡ true → ⊥
+near_needs m q a b d none h =
+    let two = both_true (stand q d.p a b) _ h in
+    elim (has_cases (nat_eq 1 0 && int_lt (lst_of q b) (ect_of q a)) _ two.1) [
+      | inl e ↦ true≢false (sym (both_true (nat_eq 1 0) (int_lt (lst_of q b) (ect_of q a)) e).0)
+      | inr e ↦ true≢false (sym (four_true (nat_eq 1 1) (is_some d.matrix) (int_lt (lst_of q b) (ect_of q a +ℤ gap m d.p d.matrix a b)) (d.direct implies are_next m q d.p a b) e).1 ∙ none)
+    ]
+
+pub one_case : (m : Data) (r : Region) (best : Option ℤ) (d : Disjunctive) (a b : Itv) → IsDisjunctive m d → is_some d.matrix ≡ false → IsSilent m r best (Pair d.c a.0 b.0 0) → AreSilent m r best d a b
+one_case m r best d a b is none first = both_cases m r best d a b is first (λ guess asked. by_case guess (refutes m (seen_at r best guess) (Pair d.c a.0 b.0 1)) refl)
+  where
+    by_case : (guess : Option Guess) (t : Bool) → refutes m (seen_at r best guess) (Pair d.c a.0 b.0 1) ≡ t → refutes m (seen_at r best guess) (Pair d.c a.0 b.0 1) ≡ false
+    by_case guess false e = e
+    by_case guess true e = let l = seen_at r best guess in
+        absurd (near_needs m l.region a b d none
+        (subst (λ o. passes (pair_of m l.region 1 a b) o ≡ true) is (both_true (is_valid (Pair d.c a.0 b.0 1)) (row_of m l (Pair d.c a.0 b.0 1)) e).1))
+
 -- where the second is told to stand before the first
 pub backward_pair : (m : Data) (r : Region) (best : Option ℤ) (d : Disjunctive) (a b : Itv) → IsDisjunctive m d → order_in (cells_of r d.p) a b ≡ Backward → AreSilent m r best d a b
 backward_pair m r best d a b is back = silent_pair m r best d a b is (off (same a b) refl) (ap (λ o. is_silent_two o (bounds_of r a) (bounds_of r b) (reach m d.p d.matrix a b)) back ∙ always (says_absent (bounds_of r a).presence) (says_absent (bounds_of r b).presence))
