@@ -1,10 +1,12 @@
 pub mod Given
 pub mod Named
+pub mod Kinds
 pub mod Walked
 pub mod Collecting
 pub mod Quieting
 pub mod Elsewhere
 pub mod Own
+pub mod Falling
 pub mod Touching
 pub mod Ready
 pub mod Owners

@@ -5,32 +5,19 @@ ghost use Rattle.prop_temporal.specs.code.Heights.{AllKeep, height_in, height_wi
 use refute_basic::Arc;
 
 /// Whether the tail stands less than the weight above the head.
-fn is_late(weight: i64, head: i64, tail: i64) -> bool
+pub fn is_late(weight: i64, head: i64, tail: i64) -> bool
     ensures { result ≡ int_lt tail (weight +ℤ head) }
 {
     i128::from(tail) < i128::from(weight) + i128::from(head)
 }
 
-fn height(heights: &[i64], p: usize) -> i64
+pub fn height(heights: &[i64], p: usize) -> i64
     ensures { result ≡ height_in heights.now p }
 {
     match heights.get(p) {
         None => 0,
         Some(h) => *h,
     }
-}
-
-/// Whether along each arc the height falls by its weight at least.
-pub fn hold(arcs: &[Arc], heights: &[i64]) -> bool
-    ensures { result ≡ true → AllKeep (height_in heights.now) arcs.now }
-{
-    for k in 0..arcs.len() {
-        let a = arcs[k];
-        if is_late(a.weight, height(heights, a.head), height(heights, a.tail)) {
-            return false;
-        }
-    }
-    true
 }
 
 /// Heights of the two points of an interval.
@@ -52,7 +39,8 @@ fn height_with(heights: &[i64], x: u32, pair: Pair, p: usize) -> i64
     height(heights, p)
 }
 
-/// The same where the two points of an interval have these heights.
+/// Whether along each arc the height falls by its weight at least, where the two points of an interval
+/// have these heights.
 pub fn hold_with(arcs: &[Arc], heights: &[i64], x: u32, pair: Pair) -> bool
     ensures { result ≡ true → AllKeep (height_with heights.now x pair.start pair.end) arcs.now }
 {

@@ -1,6 +1,7 @@
 //! Propagators of precedences: ARC of each constraint, and CYCLE.
 #![tactic(auto)]
 
+mod calm;
 mod ends;
 mod heights;
 mod members;

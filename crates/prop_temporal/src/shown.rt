@@ -37,14 +37,14 @@ fn weighed(e: Arc) -> Arc
     e
 }
 
-fn named(kind: u32, x: u32, y: u32) -> ArcName
+pub fn named(kind: u32, x: u32, y: u32) -> ArcName
     ensures value { result ≡ name kind x y }
     ensures valid { is_name result ≡ true }
 {
     ArcName { kind, x, y, z: 0 }
 }
 
-fn named_member(behind: bool, u: u32, x: Itv, y: Itv) -> ArcName
+pub fn named_member(behind: bool, u: u32, x: Itv, y: Itv) -> ArcName
     ensures value { result ≡ member_name behind u x.0 y.0 }
     ensures valid { is_name result ≡ true }
     ensures kind { result.kind ≡ 3 }

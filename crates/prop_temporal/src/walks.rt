@@ -8,10 +8,12 @@ ghost use Rattle.refute_basic.specs.declared.witness.BasicWitness.TheVariants as
 ghost use Rattle.refute_basic.specs.Basic.{refutes};
 ghost use Rattle.prop_temporal.specs.code.Tasks.{quiet};
 ghost use Rattle.prop_temporal.specs.code.Shown.{AreShown, HasTried, name_at};
-ghost use Rattle.prop_temporal.specs.code.Heights.{AreTouched, IsReady, OwnKeep};
+ghost use Rattle.refute_basic.specs.laws.Walks.{AllLose};
+ghost use Rattle.prop_temporal.specs.code.Heights.{AreTouched, IsReady, OwnKeep, height_in};
 ghost use Rattle.prop_temporal.specs.laws.Quieting.{NoWalk, present_at};
 
-use crate::heights::{hold, hold_with, least_heights};
+use crate::calm::all_fall;
+use crate::heights::{hold_with, least_heights};
 use crate::shown::Shown;
 use cycles::GainSearch;
 use findings::Finding;
@@ -43,6 +45,32 @@ fn start_heights(look: &Look<'_>, heights: &mut Vec<i64>) -> Result<(), NoMemory
         return Ok(());
     }
     first_heights(look, heights)
+}
+
+/// Whether the kept heights fall along all arcs that the look shows, or else the first ones, which are
+/// kept then: these mostly do where precedences and orders have pushed all moments that they push.
+fn settle(
+    model: &Model,
+    look: &Look<'_>,
+    heights: &mut Vec<i64>,
+    first: &mut Vec<i64>,
+) -> Result<bool, NoMemory>
+    requires of { IsRegionOf model.now look.now.region }
+    requires size { length heights.old.items ≡ 2 * length look.now.region.bounds }
+    ensures fall { IfOk result (λ b. b ≡ true → AllLose model.now look.now.region (height_in heights.new.items)) }
+    ensures size { length heights.new.items ≡ 2 * length look.now.region.bounds }
+{
+    // Called for its clause alone.
+    let _ = model.intervals();
+    if all_fall(model, look, heights) {
+        return Ok(true);
+    }
+    first_heights(look, first)?;
+    if !all_fall(model, look, first) {
+        return Ok(false);
+    }
+    std::mem::swap(heights, first);
+    Ok(true)
 }
 
 /// The heights that the last search ended with in place of those that it began with.
@@ -86,10 +114,6 @@ fn walk_along(
 {
     // Called for its clause alone.
     let _ = model.intervals();
-    let _ = look.len();
-    if hold(shown.arcs(), heights) {
-        return Ok(None);
-    }
     let Some(places) = search.find(alloc, shown.arcs(), heights)? else {
         take_heights(search, heights);
         return Ok(None);
@@ -121,10 +145,10 @@ fn is_calm_with(
 pub struct Walks {
     alloc: Global,
     search: GainSearch,
-    present: Shown,
-    under: Shown,
+    shown: Shown,
     own: Shown,
     heights: Vec<i64>,
+    first: Vec<i64>,
     held: bool,
 }
 
@@ -133,7 +157,7 @@ impl std::marker::Model for Walks {
 
     ghost Value = { Kept };
 
-    ghost view = { λ w. record { present = w.present; heights = w.heights.items; held = w.held } };
+    ghost view = { λ w. record { heights = w.heights.items; held = w.held } };
 }
 
 impl Walks {
@@ -141,12 +165,35 @@ impl Walks {
         Walks {
             alloc,
             search: GainSearch::new(alloc),
-            present: Shown::new(alloc),
-            under: Shown::new(alloc),
+            shown: Shown::new(alloc),
             own: Shown::new(alloc),
             heights: Vec::new(alloc),
+            first: Vec::new(alloc),
             held: false,
         }
+    }
+
+    /// A walk along all arcs that a look shows.
+    fn search_all(
+        &mut self,
+        model: &Model,
+        look: &Look<'_>,
+    ) -> Result<Option<List<ArcName>>, NoMemory>
+        requires of { IsRegionOf model.now look.now.region }
+        requires size { length self.old.heights ≡ 2 * length look.now.region.bounds }
+        ensures some { IfOk result (λ o. IfSome o (λ is. refutes model.now look.now (basic.Cycle is) ≡ true)) }
+        ensures none { IfOk result (λ o. IfNone o ((is : Seq Name) → refutes model.now look.now (basic.Cycle is) ≡ false)) }
+        ensures size { OnOk result (length self.new.heights ≡ length self.old.heights) }
+    {
+        self.shown.fill(model, look)?;
+        walk_along(
+            self.alloc,
+            &mut self.search,
+            model,
+            look,
+            &self.shown,
+            &mut self.heights,
+        )
     }
 
     /// A walk in the region as it stands, between the intervals that are present.
@@ -165,16 +212,12 @@ impl Walks {
         let _ = model.intervals();
         let look = region.look(None, best);
         start_heights(&look, &mut self.heights)?;
-        self.present.fill(model, &look)?;
-        let walk = walk_along(
-            self.alloc,
-            &mut self.search,
-            model,
-            &look,
-            &self.present,
-            &mut self.heights,
-        )?;
-        self.held = hold(self.present.arcs(), &self.heights);
+        self.held = settle(model, &look, &mut self.heights, &mut self.first)?;
+        if self.held {
+            return Ok(None);
+        }
+        let walk = self.search_all(model, &look)?;
+        self.held = all_fall(model, &look, &self.heights);
         Ok(walk)
     }
 
@@ -223,16 +266,8 @@ impl Walks {
         // Called for its clause alone.
         let _ = model.intervals();
         let look = region.look(Some(Guess::Present(Itv(n))), best);
-        self.under.fill(model, &look)?;
-        let walk = walk_along(
-            self.alloc,
-            &mut self.search,
-            model,
-            &look,
-            &self.under,
-            &mut self.heights,
-        )?;
-        self.held = hold(self.present.arcs(), &self.heights);
+        let walk = self.search_all(model, &look)?;
+        self.held = all_fall(model, &region.look(None, best), &self.heights);
         Ok(walk)
     }
 

@@ -9,7 +9,8 @@ use Rattle.refute_basic.specs.declared.edge.Arc.{Arc as Edge}
 use Rattle.refute_basic.specs.declared.arc_name.ArcName.{ArcName}
 use Rattle.refute_basic.specs.Cycle.{edge_of}
 use Rattle.prop_temporal.specs.code.Members.{touched_by}
-use Rattle.prop_temporal.specs.code.Shown.{Shown, HasTried, OfConstraint, OfOne}
+use Rattle.refute_basic.specs.laws.Walks.{AllLose}
+use Rattle.prop_temporal.specs.code.Shown.{OfConstraint, OfOne}
 
 abbrev pub height_in : List ℤ → ℕ → ℤ
 height_in hs p = get_or hs p (pos 0)
@@ -39,13 +40,19 @@ pub record OwnKeep (m : Data) (r : Region) (x : ℕ) (cs : List ℕ) (hs : List 
   pub end : ℤ
   pub keep : (i : ArcName) (e : Edge) → IsOwn x cs i → edge_of m r i ≡ Some e → (e.weight +ℤ height_with hs x start end e.head) ≤ℤ height_with hs x start end e.tail
 
--- the arcs between present intervals, heights, and whether these are known to fall along those
+-- along the arc of this name, if the region shows it, the height falls by its weight at least
+abbrev pub Falls : Data → Region → (ℕ → ℤ) → ArcName → Type 0
+Falls m r h i = (e : Edge) → edge_of m r i ≡ Some e → (e.weight +ℤ h e.head) ≤ℤ h e.tail
+
+-- along each arc of a kind
+abbrev pub FallsAlong : Data → Region → (ℕ → ℤ) → (ArcName → Type 0) → Type 0
+FallsAlong m r h kind = (i : ArcName) → kind i → Falls m r h i
+
+-- heights, and whether these are known to fall along all arcs between present intervals
 pub record Kept : Type 0 where
-  pub present : Shown
   pub heights : List ℤ
   pub held : Bool
 
 pub record IsReady (m : Data) (r : Region) (w : Kept) : Type 0 where
-  pub tried : HasTried m r (length m.constraints) (length r.bounds) w.present
   pub size : length w.heights ≡ 2 * length r.bounds
-  pub keep : w.held ≡ true → AllKeep (height_in w.heights) w.present.arcs
+  pub keep : w.held ≡ true → AllLose m r (height_in w.heights)

@@ -1,6 +1,7 @@
 -- The intervals between whose points the arcs of a constraint lie.
-use Rattle.std.specs.Prelude.{Bool, false, List, [], ◌++◌, Option, Some}
+use Rattle.std.specs.Prelude.{Bool, false, ◌||◌, List, [], ◌++◌, Option, Some, None, is_none, if◌then◌else◌}
 use Rattle.sched_base.specs.declared.ids.Itv.{Itv}
+use Rattle.sched_base.specs.declared.ids.Seq.{Seq}
 use Rattle.sched_model.specs.declared.types.Constraint.{Constraint}
 use Rattle.sched_model.specs.declared.types.Constraint.TheVariants.{NoOverlap}
 use Rattle.sched_model.specs.Data.{Data, members_of}
@@ -21,3 +22,8 @@ told_in r _ x y = false
 -- these, or the two of a precedence
 abbrev pub touched_by : Data → Option Constraint → List Itv
 touched_by m o = ends_of o ++ members_at m o
+
+-- the sequence of such a constraint, where the arcs between members weigh nothing: it has no distances, or they bind neighbours alone
+abbrev pub light_in : Option Constraint → Option Seq
+light_in (Some (NoOverlap p matrix direct)) = if direct || is_none matrix then Some p else None
+light_in _ = None

@@ -1,6 +1,6 @@
 -- Arcs are collected one name after another, and what they show.
 use Rattle.std.specs.Prelude.{◌≡◌, ℕ, zero, suc, ◌+◌, ◌*◌, ◌<◌, ◌≤◌, ℤ, pos, ◌+ℤ◌, ◌≤ℤ◌, ◌<ℤ◌, Bool, true, false, ◌&&◌, List, [], ◌∷◌, ◌++◌, length, map, get_or, Option, Some, None, option_and_then, if◌then◌else◌, slice_get, nat_eq, nat_lt, nat_le, int_lt}
-use Rattle.std.specs.List.{list_all, list_any}
+use Rattle.std.specs.List.{list_all}
 use Rattle.std.proofs.Common.{inl, inr, refl, sym, ap, subst, ◌∙◌, arith, take}
 use Rattle.std.proofs.lemmas.Bool.{true≢false}
 use Rattle.std.proofs.lemmas.Int.{ints}
@@ -17,8 +17,6 @@ use Rattle.sched_model.specs.laws.Limits.{limits_of}
 use Rattle.region.specs.Looks.{Seen, IsRegionOf}
 use Rattle.region.specs.laws.Lists.{both_true, true_both}
 use Rattle.region.specs.laws.Narrowing.{as_many_bounds}
-use Rattle.region.specs.laws.OneSequence.{same_is}
-use Rattle.findings.specs.laws.Members.{any_more}
 use Rattle.refute_basic.specs.declared.edge.Arc.{Arc as Edge}
 use Rattle.cycles.specs.code.Walks.{no_arc, picked, are_places, total, IsGain, HasHeights}
 use Rattle.cycles.specs.code.Search.{IsOn}
@@ -31,9 +29,10 @@ use Rattle.refute_basic.specs.Standing.{precedes}
 use Rattle.refute_basic.specs.laws.Walks.{AllLose, none_closes}
 use Rattle.prop_temporal.specs.code.Heights.{AllKeep}
 use Rattle.prop_temporal.specs.laws.Walked.{AreOf, AreOf.none, AreOf.one, closes_led}
-use Rattle.prop_temporal.specs.code.Shown.{Shown, name, no_name, name_at, IsAmong, AreShown, HasTried, Tries, TriesAll, IsOfConstraint, IsOfInterval, IsOfPrecedence, IsOfOrder, IsOfOrderFrom, IsOfSide, IsOfSideOf, IsOfMember, member_name, other_of}
+use Rattle.prop_temporal.specs.code.Shown.{Shown, name, no_name, name_at, IsAmong, AreShown, HasTried, Tries, TriesAll, IsOfConstraint, IsOfInterval, IsOfPrecedence, IsOfOrder, IsOfOrderFrom, IsOfSide, IsOfSideOf, IsOfMember, member_name}
 use Rattle.prop_temporal.specs.code.Members.{members_at, told_in}
-use Rattle.prop_temporal.specs.laws.Named.{named, no_constraint, ordered, tried_all, same_name, same_member}
+use Rattle.prop_temporal.specs.laws.Named.{ordered, tried_all}
+use Rattle.prop_temporal.specs.laws.Kinds.{precedence_names, interval_names, side_next, side_among, order_next, order_among}
 use Rattle.base_laws.specs.laws.Numbers.{below_or_last}
 use Rattle.sched_model.specs.Bounds.{is_number}
 
@@ -199,20 +198,13 @@ place_below arcs (j ∷ ks) zero places less = at j (length arcs) (both_true (na
 place_below arcs (j ∷ ks) (suc k) places less = place_below arcs ks k (both_true (nat_lt j (length arcs)) (are_places arcs ks) places).1 (omega (arith, less))
 
 -- the two names of a precedence, and those of an interval
-not_both : (i : ArcName) (k j : ℕ) → i.kind ≡ k → i.kind ≡ j → (k ≡ j → ⊥) → ⊥
-not_both i k j a b other = other (sym a ∙ b)
-
 pub of_precedence : (m : Data) (r : Region) (u : ℕ) (s t w : Shown) → Tries m r (name 0 u 0) s t → Tries m r (name 0 u 1) t w → TriesAll m r (IsOfPrecedence u) s w
 of_precedence m r u s t w first second = record {
   shown = λ are. second.shown (first.shown are);
   grows = λ e is. second.grows e (first.grows e is);
-  has = λ j e of h. elim ((named m r j e h).of) [
-    | inl n ↦ elim n.way [
-      | inl y ↦ second.grows e (first.has e (ap (edge_of m r) (sym (same_name j 0 u 0 of.0 of.1 y n.last)) ∙ h))
-      | inr y ↦ second.has e (ap (edge_of m r) (sym (same_name j 0 u 1 of.0 of.1 y n.last)) ∙ h)
-    ]
-    | inr (inl n) ↦ absurd (no_constraint j n.kind (inl of.0))
-    | inr (inr n) ↦ absurd (not_both j 0 3 of.0 n.kind (λ is. absurd (omega (arith, is))))
+  has = λ j e of h. elim (precedence_names m r j e u of h) [
+    | inl is ↦ second.grows e (first.has e (ap (edge_of m r) (sym is) ∙ h))
+    | inr is ↦ second.has e (ap (edge_of m r) (sym is) ∙ h)
   ];
 }
 
@@ -220,20 +212,13 @@ pub of_interval : (m : Data) (r : Region) (x : ℕ) (s t w : Shown) → Tries m 
 of_interval m r x s t w first second = record {
   shown = λ are. second.shown (first.shown are);
   grows = λ e is. second.grows e (first.grows e is);
-  has = λ j e of h. elim ((named m r j e h).of) [
-    | inl n ↦ absurd (of.0 (inl n.kind))
-    | inr (inl n) ↦ elim n.kind [
-      | inl k ↦ second.grows e (first.has e (ap (edge_of m r) (sym (same_name j 1 x 0 k of.1 n.second n.last)) ∙ h))
-      | inr k ↦ second.has e (ap (edge_of m r) (sym (same_name j 2 x 0 k of.1 n.second n.last)) ∙ h)
-    ]
-    | inr (inr n) ↦ absurd (of.0 (inr n.kind))
+  has = λ j e of h. elim (interval_names m r j e x of h) [
+    | inl is ↦ second.grows e (first.has e (ap (edge_of m r) (sym is) ∙ h))
+    | inr is ↦ second.has e (ap (edge_of m r) (sym is) ∙ h)
   ];
 }
 
 -- the names of one member with others, on one side of them
-one_more : (k : ℕ) → k + 1 ≡ suc k
-one_more k = omega arith
-
 pub side_none : (m : Data) (r : Region) (behind : Bool) (u x : ℕ) (s : Shown) → TriesAll m r (IsOfSideOf behind u x []) s s
 side_none m r behind u x s = record {
   shown = λ are. are;
@@ -246,26 +231,19 @@ pub side_more : (m : Data) (r : Region) (behind : Bool) (u x : ℕ) (ys : List I
 side_more m r behind u x ys k y s t w within at before last = record {
   shown = λ are. last.shown (before.shown are);
   grows = λ e is. last.grows e (before.grows e is);
-  has = λ i e of h. elim (any_more (same (itv (other_of behind i))) ys k y within at (subst (λ n. list_any (same (itv (other_of behind i))) (take n ys) ≡ true) (one_more k) of.3)) [
-    | inl here ↦ last.has e (ap (edge_of m r) (sym (same_member behind i u x y.0 of.0 of.1 of.2 (same_number (other_of behind i) y.0 here))) ∙ h)
-    | inr earlier ↦ last.grows e (before.has i e (of.0, of.1, of.2, earlier) h)
+  has = λ i e of h. elim (side_next behind u x ys k y i within at of) [
+    | inl is ↦ last.has e (ap (edge_of m r) (sym is) ∙ h)
+    | inr earlier ↦ last.grows e (before.has i e earlier h)
   ];
 }
-  where
-    same_number : (i j : ℕ) → nat_eq i j ≡ true → i ≡ j
-    same_number i j h = grind (arith, nat_tests)
 
 pub side_all : (m : Data) (r : Region) (behind : Bool) (u x : ℕ) (ys : List Itv) (k : ℕ) (s t : Shown) → IsRegionOf m r → ys ≡ members_at m (slice_get m.constraints u) → length ys ≤ k → TriesAll m r (IsOfSideOf behind u x (take k ys)) s t
     → TriesAll m r (IsOfSide behind u x) s t
 side_all m r behind u x ys k s t of are past before = record {
   shown = before.shown;
   grows = before.grows;
-  has = λ i e mine h. before.has i e (mine.0, mine.1, mine.2, subst (λ zs. has zs (itv (other_of behind i)) ≡ true) (sym (take_all k ys past)) (among i e mine.0 mine.1 h behind)) h;
+  has = λ i e mine h. before.has i e (subst (λ zs. IsOfSideOf behind u x zs i) (sym (take_all k ys past)) (side_among m r behind u x ys i e of are mine h)) h;
 }
-  where
-    among : (i : ArcName) (e : Edge) → i.kind ≡ 3 → i.x ≡ u → edge_of m r i ≡ Some e → (b : Bool) → has ys (itv (other_of b i)) ≡ true
-    among i e kind at h true = ap (λ zs. has zs (itv i.y)) (are ∙ ap (λ n. members_at m (slice_get m.constraints n)) (sym at)) ∙ (ordered m r i e of kind h).first
-    among i e kind at h false = ap (λ zs. has zs (itv i.z)) (are ∙ ap (λ n. members_at m (slice_get m.constraints n)) (sym at)) ∙ (ordered m r i e of kind h).second
 
 -- those of each member, one after another; of a member that isn't present there is none
 pub order_none : (m : Data) (r : Region) (u : ℕ) (s : Shown) → TriesAll m r (IsOfOrderFrom u []) s s
@@ -280,23 +258,20 @@ pub order_more : (m : Data) (r : Region) (u : ℕ) (xs : List Itv) (k : ℕ) (x 
 order_more m r u xs k x s t w within at before last = record {
   shown = λ are. last.shown (before.shown are);
   grows = λ e is. last.grows e (before.grows e is);
-  has = λ i e of h. elim (any_more (same (itv i.y)) xs k x within at (subst (λ n. list_any (same (itv i.y)) (take n xs) ≡ true) (one_more k) of.2)) [
-    | inl here ↦ last.has i e (of.0, of.1, same_number i.y x.0 here) h
-    | inr earlier ↦ last.grows e (before.has i e (of.0, of.1, earlier) h)
+  has = λ i e of h. elim (order_next u xs k x i within at of) [
+    | inl here ↦ last.has i e here h
+    | inr earlier ↦ last.grows e (before.has i e earlier h)
   ];
 }
-  where
-    same_number : (i j : ℕ) → nat_eq i j ≡ true → i ≡ j
-    same_number i j h = grind (arith, nat_tests)
 
 pub order_past : (m : Data) (r : Region) (u : ℕ) (xs : List Itv) (k : ℕ) (x : Itv) (s t : Shown) → IsRegionOf m r → k < length xs → x ≡ get_or xs k x → is_there r x ≡ false → TriesAll m r (IsOfOrderFrom u (take k xs)) s t
     → TriesAll m r (IsOfOrderFrom u (take (k + 1) xs)) s t
 order_past m r u xs k x s t of within at away before = record {
   shown = before.shown;
   grows = before.grows;
-  has = λ i e mine h. elim (any_more (same (itv i.y)) xs k x within at (subst (λ n. list_any (same (itv i.y)) (take n xs) ≡ true) (one_more k) mine.2)) [
-    | inl here ↦ absurd (true≢false (sym (ordered m r i e of mine.0 h).present ∙ ap (is_there r) (same_is (itv i.y) x here) ∙ away))
-    | inr earlier ↦ before.has i e (mine.0, mine.1, earlier) h
+  has = λ i e mine h. elim (order_next u xs k x i within at mine) [
+    | inl here ↦ absurd (true≢false (sym (ordered m r i e of here.0 h).present ∙ ap (λ n. is_there r (itv n)) here.2 ∙ away))
+    | inr earlier ↦ before.has i e earlier h
   ];
 }
 
@@ -304,11 +279,8 @@ pub order_all : (m : Data) (r : Region) (u : ℕ) (xs : List Itv) (k : ℕ) (s t
 order_all m r u xs k s t of are past before = record {
   shown = before.shown;
   grows = before.grows;
-  has = λ i e mine h. before.has i e (mine.0, mine.1, subst (λ zs. has zs (itv i.y) ≡ true) (sym (take_all k xs past)) (among i e mine.0 mine.1 h)) h;
+  has = λ i e mine h. before.has i e (subst (λ zs. IsOfOrderFrom u zs i) (sym (take_all k xs past)) (order_among m r u xs i e of are mine h)) h;
 }
-  where
-    among : (i : ArcName) (e : Edge) → i.kind ≡ 3 → i.x ≡ u → edge_of m r i ≡ Some e → has xs (itv i.y) ≡ true
-    among i e kind at h = ap (λ zs. has zs (itv i.y)) (are ∙ ap (λ n. members_at m (slice_get m.constraints n)) (sym at)) ∙ (ordered m r i e of kind h).first
 
 -- all names of a constraint, and those of one member
 pub of_constraint : (m : Data) (r : Region) (u : ℕ) (s t w : Shown) → TriesAll m r (IsOfPrecedence u) s t → TriesAll m r (IsOfOrder u) t w → TriesAll m r (IsOfConstraint u) s w

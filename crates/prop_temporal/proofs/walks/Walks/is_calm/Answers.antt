@@ -2,8 +2,7 @@ use Rattle.std.proofs.Common.{◌≡◌, ℕ, ℤ, true, List, [], get_or, subst
 use Rattle.std.proofs.lemmas.List.{get_or_default}
 use Rattle.region.specs.Guesses.{with_guess}
 use Rattle.region.specs.Looks.{Seen}
-use Rattle.prop_temporal.specs.code.Heights.{Kept, OwnKeep, height_in}
-use Rattle.prop_temporal.specs.laws.Collecting.{all_lose}
+use Rattle.prop_temporal.specs.code.Heights.{Kept, OwnKeep}
 use Rattle.prop_temporal.specs.laws.Quieting.{present_at}
 use Rattle.prop_temporal.specs.laws.Elsewhere.{calm}
 use Rattle.prop_temporal.proofs.walks.Walks.is_calm.Goals as goal
@@ -17,7 +16,7 @@ returns-clause-calm c = λ yes.
     let heights : c.deref.result.now ≡ c.args.self.now.heights = c.deref.ensures.value ∙ ap (λ (w : Kept). w.heights) c.self.view_is in
     let constraints : c.as_slice-constraints.result.now ≡ get_or c.args.touching.now c.args.n [] = c.as_slice-constraints.ensures ∙ c.index-touching-n.is ∙ get_or_default c.args.touching.now c.args.n c.index-touching-n.result [] c.requires.within in
     calm m r c.args.best (record { 0 = c.args.n }) c.args.touching.now c.args.self.now.heights c.requires.of c.requires.touching c.requires.admitted
-    (all_lose m r (height_in c.args.self.now.heights) c.args.self.now.present c.requires.ready.tried (c.requires.ready.keep held))
+    (c.requires.ready.keep held)
     (subst (λ (hs : List ℤ). OwnKeep m (with_guess (present_at c.args.n) r) c.args.n (get_or c.args.touching.now c.args.n []) hs) heights
     (subst (λ (cs : List ℕ). OwnKeep m (with_guess (present_at c.args.n) r) c.args.n cs c.deref.result.now) constraints
     (subst (λ (l : Seen). OwnKeep m l.region c.args.n c.as_slice-constraints.result.now c.deref.result.now) c.look-look.ensures.value (c.in_ok-calm.ensures yes))))

@@ -1,0 +1,129 @@
+-- Heights are tested along one name after another.
+use Rattle.std.specs.Prelude.{◌≡◌, ℕ, ◌+◌, ◌*◌, ◌<◌, ◌≤◌, ℤ, pos, ◌+ℤ◌, ◌≤ℤ◌, Bool, true, false, not, ◌&&◌, ◌||◌, List, [], length, get_or, Option, Some, None, is_none, option_and_then, if◌then◌else◌, slice_get, int_le}
+use Rattle.std.proofs.Common.{inl, inr, refl, sym, ap, subst, ◌∙◌, arith, take}
+use Rattle.std.proofs.lemmas.Bool.{true≢false}
+use Rattle.std.proofs.lemmas.Int.{ints}
+use Rattle.std.proofs.lemmas.List.{take_all}
+use Rattle.sched_base.specs.declared.ids.Itv.{Itv}
+use Rattle.sched_base.specs.declared.ids.Seq.{Seq}
+use Rattle.sched_base.specs.declared.ids.Mat.{Mat}
+use Rattle.sched_model.specs.declared.types.Constraint.{Constraint}
+use Rattle.sched_model.specs.declared.types.Constraint.TheVariants.{NoOverlap}
+use Rattle.sched_model.specs.declared.types.End.TheVariants.{Start, Finish}
+use Rattle.sched_model.specs.Data.{Data, gap}
+use Rattle.region.specs.Cells.{Region, is_there}
+use Rattle.region.specs.Looks.{IsRegionOf}
+use Rattle.region.specs.laws.Lists.{true_both}
+use Rattle.refute_basic.specs.declared.arc_name.ArcName.{ArcName}
+use Rattle.refute_basic.specs.Standing.{precedes, stand}
+use Rattle.refute_basic.specs.Cycle.{itv, edge, along, edge_of}
+use Rattle.refute_basic.specs.laws.Cycle.{no_edge, chosen}
+use Rattle.refute_basic.specs.laws.Told.{AreTold, told}
+use Rattle.refute_basic.specs.laws.Walks.{AllLose}
+use Rattle.prop_temporal.specs.code.Members.{members_at, light_in}
+use Rattle.prop_temporal.specs.code.Shown.{member_name, OfConstraint, IsOfConstraint, IsOfInterval, IsOfOrder, IsOfOrderFrom, IsOfSide, IsOfSideOf}
+use Rattle.prop_temporal.specs.code.Heights.{Falls, FallsAlong}
+use Rattle.prop_temporal.specs.laws.Named.{ordered, tried_all}
+use Rattle.prop_temporal.specs.laws.Kinds.{side_next, side_among, order_next, order_among}
+use Rattle.base_laws.specs.laws.Numbers.{below_or_last}
+
+-- along the one of two members
+not_told : (r : Region) (p : Seq) (x y : Itv) → stand r p x y ≡ true → not (precedes r p x y && is_there r y) ≡ false
+not_told r p x y h = let t : AreTold r p x y = told r p x y h in ap not (true_both (precedes r p x y) (is_there r y) t.order t.second)
+
+weightless : (m : Data) (p : Seq) (matrix : Option Mat) (direct : Bool) (x y : Itv) → (direct || is_none matrix) ≡ true → (if direct then pos 0 else gap m p matrix x y) ≡ pos 0
+weightless m p matrix true x y h = refl
+weightless m p None false x y h = refl
+weightless m p (Some k) false x y h = absurd (true≢false (sym h))
+
+pub falls_light : (m : Data) (r : Region) (h : ℕ → ℤ) (u : ℕ) (p : Seq) (x y : Itv) → light_in (slice_get m.constraints u) ≡ Some p → (int_le (h (2 * y.0)) (h (2 * x.0 + 1)) || not (precedes r p x y && is_there r y)) ≡ true → Falls m r h (member_name false u x.0 y.0)
+falls_light m r h u p x y light low e shown = by_constraint (slice_get m.constraints u) light shown
+  where
+    low_enough : (a b : ℤ) (t : Bool) → t ≡ false → (int_le a b || t) ≡ true → (pos 0 +ℤ a) ≤ℤ b
+    low_enough a b true off h = absurd (true≢false off)
+    low_enough a b false off h = let le : int_le a b ≡ true = right (int_le a b) h in grind (arith, ints)
+      where
+        right : (t : Bool) → (t || false) ≡ true → t ≡ true
+        right true h = refl
+        right false h = h
+
+    by_stand : (q : Seq) (w : ℤ) → q ≡ p → w ≡ pos 0 → stand r q x y ≡ true → e ≡ edge Finish x w Start y → (e.weight +ℤ h e.head) ≤ℤ h e.tail
+    by_stand q w same zero told is = rw (is, zero) (low_enough (h (2 * y.0)) (h (2 * x.0 + 1)) _ (not_told r p x y (subst (λ s. stand r s x y ≡ true) same told)) low)
+
+    by_light : (q : Seq) (matrix : Option Mat) (direct : Bool) (b : Bool) → (direct || is_none matrix) ≡ b → (if b then Some q else None) ≡ Some p → along m r x y (NoOverlap q matrix direct) ≡ Some e → (e.weight +ℤ h e.head) ≤ℤ h e.tail
+    by_light q matrix direct true free is shown =
+        let two = chosen (stand r q x y) (edge Finish x (if direct then pos 0 else gap m q matrix x y) Start y) e shown in
+        by_stand q (if direct then pos 0 else gap m q matrix x y) (one q p is) (weightless m q matrix direct x y free) two.0 two.1
+      where
+        one : (q p : Seq) → Some q ≡ Some p → q ≡ p
+        one q p h = cc
+    by_light q matrix direct false free is shown = cc
+
+    by_constraint : (o : Option Constraint) → light_in o ≡ Some p → option_and_then (along m r x y) o ≡ Some e → (e.weight +ℤ h e.head) ≤ℤ h e.tail
+    by_constraint None light shown = no_edge e shown
+    by_constraint (Some (NoOverlap q matrix direct)) light shown = by_light q matrix direct (direct || is_none matrix) refl light shown
+    by_constraint (Some c) light shown = no_edge e shown
+
+-- along those of one member with those behind it
+pub falls_side_none : (m : Data) (r : Region) (h : ℕ → ℤ) (u x : ℕ) → FallsAlong m r h (IsOfSideOf false u x [])
+falls_side_none m r h u x i of = absurd (true≢false (sym of.3))
+
+pub falls_side_more : (m : Data) (r : Region) (h : ℕ → ℤ) (u x : ℕ) (ys : List Itv) (k : ℕ) (y : Itv) → k < length ys → y ≡ get_or ys k y → FallsAlong m r h (IsOfSideOf false u x (take k ys)) → Falls m r h (member_name false u x y.0)
+    → FallsAlong m r h (IsOfSideOf false u x (take (k + 1) ys))
+falls_side_more m r h u x ys k y within at before last i of e shown = elim (side_next false u x ys k y i within at of) [
+  | inl is ↦ last e (ap (edge_of m r) (sym is) ∙ shown)
+  | inr earlier ↦ before i earlier e shown
+]
+
+pub falls_side_all : (m : Data) (r : Region) (h : ℕ → ℤ) (u x : ℕ) (ys : List Itv) (k : ℕ) → IsRegionOf m r → ys ≡ members_at m (slice_get m.constraints u) → length ys ≤ k → FallsAlong m r h (IsOfSideOf false u x (take k ys)) → FallsAlong m r h (IsOfSide false u x)
+falls_side_all m r h u x ys k of are past before i mine e shown = before i (subst (λ zs. IsOfSideOf false u x zs i) (sym (take_all k ys past)) (side_among m r false u x ys i e of are mine shown)) e shown
+
+-- along those of each member: of a member that isn't present there is none
+pub falls_order_none : (m : Data) (r : Region) (h : ℕ → ℤ) (u : ℕ) → FallsAlong m r h (IsOfOrderFrom u [])
+falls_order_none m r h u i of = absurd (true≢false (sym of.2))
+
+pub falls_order_more : (m : Data) (r : Region) (h : ℕ → ℤ) (u : ℕ) (xs : List Itv) (k : ℕ) (x : Itv) → k < length xs → x ≡ get_or xs k x → FallsAlong m r h (IsOfOrderFrom u (take k xs)) → FallsAlong m r h (IsOfSide false u x.0)
+    → FallsAlong m r h (IsOfOrderFrom u (take (k + 1) xs))
+falls_order_more m r h u xs k x within at before last i of e shown = elim (order_next u xs k x i within at of) [
+  | inl here ↦ last i here e shown
+  | inr earlier ↦ before i earlier e shown
+]
+
+pub falls_order_past : (m : Data) (r : Region) (h : ℕ → ℤ) (u : ℕ) (xs : List Itv) (k : ℕ) (x : Itv) → IsRegionOf m r → k < length xs → x ≡ get_or xs k x → is_there r x ≡ false → FallsAlong m r h (IsOfOrderFrom u (take k xs))
+    → FallsAlong m r h (IsOfOrderFrom u (take (k + 1) xs))
+falls_order_past m r h u xs k x of within at away before = falls_order_more m r h u xs k x within at before (λ i here e shown.
+    absurd (true≢false (sym (ordered m r i e of here.0 shown).present ∙ ap (λ n. is_there r (itv n)) here.2 ∙ away)))
+
+pub falls_order_all : (m : Data) (r : Region) (h : ℕ → ℤ) (u : ℕ) (xs : List Itv) (k : ℕ) → IsRegionOf m r → xs ≡ members_at m (slice_get m.constraints u) → length xs ≤ k → FallsAlong m r h (IsOfOrderFrom u (take k xs)) → FallsAlong m r h (IsOfOrder u)
+falls_order_all m r h u xs k of are past before i mine e shown = before i (subst (λ zs. IsOfOrderFrom u zs i) (sym (take_all k xs past)) (order_among m r u xs i e of are mine shown)) e shown
+
+-- along those of all constraints and intervals
+abbrev pub AreConstraints : ℕ → ArcName → Type 0
+AreConstraints u i = OfConstraint i × (i.x < u)
+
+abbrev pub AreIntervals : ℕ → ArcName → Type 0
+AreIntervals x i = (OfConstraint i → ⊥) × (i.x < x)
+
+pub falls_none_yet : (m : Data) (r : Region) (h : ℕ → ℤ) (kind : ArcName → Type 0) → FallsAlong m r h (λ i. kind i × (i.x < 0))
+falls_none_yet m r h kind i of = absurd (omega (arith, of.1))
+
+pub falls_next_constraint : (m : Data) (r : Region) (h : ℕ → ℤ) (u : ℕ) → FallsAlong m r h (IsOfConstraint u) → FallsAlong m r h (AreConstraints u) → FallsAlong m r h (AreConstraints (u + 1))
+falls_next_constraint m r h u last before i of e shown = elim (below_or_last i.x u of.1) [
+  | inl less ↦ before i (of.0, less) e shown
+  | inr same ↦ last i (of.0, same) e shown
+]
+
+pub falls_next_interval : (m : Data) (r : Region) (h : ℕ → ℤ) (x : ℕ) → FallsAlong m r h (IsOfInterval x) → FallsAlong m r h (AreIntervals x) → FallsAlong m r h (AreIntervals (x + 1))
+falls_next_interval m r h x last before i of e shown = elim (below_or_last i.x x of.1) [
+  | inl less ↦ before i (of.0, less) e shown
+  | inr same ↦ last i (of.0, same) e shown
+]
+
+pub falls_fewer : (m : Data) (r : Region) (h : ℕ → ℤ) (u n : ℕ) → n ≤ u → FallsAlong m r h (AreConstraints u) → FallsAlong m r h (AreConstraints n)
+falls_fewer m r h u n less all i of = all i (of.0, omega (arith, of.1, less))
+
+pub all_fallen : (m : Data) (r : Region) (h : ℕ → ℤ) (x : ℕ) → length r.bounds ≤ x → FallsAlong m r h (AreConstraints (length m.constraints)) → FallsAlong m r h (AreIntervals x) → AllLose m r h
+all_fallen m r h x all constraints intervals i e shown = elim (tried_all m r i e shown) [
+  | inl of ↦ constraints i of e shown
+  | inr of ↦ intervals i (of.0, omega (arith, of.1, all)) e shown
+]
