@@ -2,16 +2,45 @@
 ghost use Rattle.std.specs.Prelude.{◌≡◌, ◌<◌, ◌∷◌, [], suc, length, IsTrue, IfNone, IfSome};
 ghost use Rattle.region.specs.Looks.{IsRegionOf};
 ghost use Rattle.findings.specs.Found.{IsFinding};
+ghost use Rattle.findings.specs.code.Reads.{IsUnrefuted};
 ghost use Rattle.refute_basic.specs.declared.witness.BasicWitness.TheVariants as basic;
 ghost use Rattle.refute_basic.specs.Basic.{refutes};
 ghost use Rattle.prop_temporal.specs.code.Tasks.{IsSilent, quiet, reads_of};
 
+use crate::likely::likely_of;
 use crate::silence::is_surely_silent;
-use findings::{Finding, ask};
+use crate::ways::way_of;
+use findings::{Finding, Likely, ask, ask_likely};
 use refute_basic::{Basic, BasicWitness};
-use region::Region;
+use region::{Guess, Region};
 use sched_base::Itv;
 use sched_model::Model;
+
+/// What a witness refutes of these intervals, asked about the likely guess before others, if there is
+/// one.
+fn ask_ends(
+    model: &Model,
+    region: &Region,
+    best: Option<i64>,
+    witness: &BasicWitness,
+    ends: &[Itv],
+    likely: Option<Likely>,
+) -> Option<Option<Guess>>
+    requires of { IsRegionOf model.now region.now.region }
+    ensures none { IfNone result (IsUnrefuted refutes model.now region.now.region best witness.now ends.now []) }
+    ensures some { IfSome result (λ guess. IsFinding refutes model.now region.now.region best (record { guess = guess; witness = witness.now })) }
+    ensures busy { IfSome result (λ guess. IsUnrefuted refutes model.now region.now.region best witness.now ends.now [] → ⊥) }
+{
+    match likely {
+        None => ask::<Basic>(model, region, best, witness, ends, &[]),
+        Some(likely) => ask_likely::<Basic>(model, region, best, witness, ends, &[], likely),
+    }
+}
+
+/// The guess that the way of this number refutes likely.
+fn likely_at(model: &Model, region: &Region, c: u32, d: u32) -> Option<Likely> {
+    likely_of(region, way_of(model, c, d)?)
+}
 
 /// What ARC finds of a precedence read one way. Mostly the bounds of its intervals show at once that
 /// it finds nothing.
@@ -33,7 +62,8 @@ fn ask_way(
         return None;
     }
     let witness = BasicWitness::Arc { c, d };
-    match ask::<Basic>(model, region, best, &witness, ends, &[]) {
+    let likely = likely_at(model, region, c, d);
+    match ask_ends(model, region, best, &witness, ends, likely) {
         None => None,
         Some(guess) => Some(Finding { guess, witness }),
     }

@@ -4,6 +4,7 @@
 mod calm;
 mod ends;
 mod heights;
+mod likely;
 mod members;
 mod shown;
 mod silence;
@@ -11,5 +12,6 @@ mod sources;
 mod table;
 mod touching;
 mod walks;
+mod ways;
 
 pub use table::PropTemporal;

@@ -76,7 +76,7 @@ fn least_start(c: Bounds) -> i128
     min_difference(start, end, c.pmin)
 }
 
-pub fn earliest_in(end: End, c: Bounds) -> i128
+fn earliest_in(end: End, c: Bounds) -> i128
     ensures value { result ≡ earliest_in end c }
     ensures lower { neg_ℤ (pos (2 ^ 65)) ≤ℤ result }
     ensures upper { result ≤ℤ pos (2 ^ 65) }
@@ -87,7 +87,7 @@ pub fn earliest_in(end: End, c: Bounds) -> i128
     }
 }
 
-pub fn latest_in(end: End, c: Bounds) -> i128
+fn latest_in(end: End, c: Bounds) -> i128
     ensures value { result ≡ latest_in end c }
     ensures lower { neg_ℤ (pos (2 ^ 65)) ≤ℤ result }
     ensures upper { result ≤ℤ pos (2 ^ 65) }

@@ -1,124 +1,26 @@
 //! From which precedence to learn first. A fact that follows from a point which others still move is
 //! learnt again once they have moved it, so a chain of precedences is learnt from the end at which
 //! nothing moves any more, whatever their order in the model. No promise hangs on this.
-ghost use Rattle.std.specs.Prelude.{◌≤ℤ◌, ◌^◌, pos, neg_ℤ, IfOk};
+ghost use Rattle.std.specs.Prelude.{IfOk};
 ghost use Rattle.region.specs.Looks.{IsRegionOf};
 ghost use Rattle.findings.specs.Found.{IsFinding};
 ghost use Rattle.refute_basic.specs.Basic.{refutes};
 
-use crate::silence::{earliest_in, latest_in, minus};
-use findings::{Finding, ask};
+use crate::likely::moved;
+use crate::ways::{Side, Way, push_of, way_of};
+use findings::{Finding, ask_likely};
 use refute_basic::{Basic, BasicWitness};
-use region::{Bounds, Guess, Presence, Region};
+use region::{Guess, Region};
 use sched_base::{Itv, List, NoMemory, at};
-use sched_model::{Constraint, End, Model};
+use sched_model::Model;
 use std::alloc::Global;
 
 /// Of the ways to or from an interval so many are looked at, so that an interval of many costs no more
 /// than one of few.
 const FEW: usize = 8;
 
-/// A precedence read forwards (0), or backwards (1) where it has `equal`: the first point, moved on by
-/// `z`, is not after the second.
-#[derive(Clone, Copy, Debug)]
-struct Way {
-    c: u32,
-    d: u32,
-    first: Itv,
-    from: End,
-    second: Itv,
-    to: End,
-    z: i64,
-}
-
-/// Which point a way moves: the second one, which gets later, or the first one, which gets earlier.
-#[derive(Clone, Copy, Debug, PartialEq, Eq)]
-enum Side {
-    Later,
-    Earlier,
-}
-
-/// A way of a precedence between two intervals.
-fn way_of(model: &Model, c: u32, d: u32) -> Option<Way> {
-    let Constraint::Temporal {
-        from,
-        to,
-        equal,
-        a,
-        b,
-        z,
-    } = at(model.constraints(), c as usize)?
-    else {
-        return None;
-    };
-    if a.0 == b.0 {
-        return None;
-    }
-    let forwards = Way {
-        c,
-        d,
-        first: *a,
-        from: *from,
-        second: *b,
-        to: *to,
-        z: *z,
-    };
-    match (d, *equal) {
-        (0, _) => Some(forwards),
-        (1, true) => reversed(forwards),
-        _ => None,
-    }
-}
-
-fn reversed(way: Way) -> Option<Way> {
-    let z = minus(way.z)?;
-    Some(Way {
-        first: way.second,
-        from: way.to,
-        second: way.first,
-        to: way.from,
-        z,
-        ..way
-    })
-}
-
-/// By how much the first point, moved on by `z`, is after the second.
-fn excess(first: i128, z: i64, second: i128) -> i128
-    requires lower { neg_ℤ (pos (2 ^ 65)) ≤ℤ first }
-    requires upper { first ≤ℤ pos (2 ^ 65) }
-    requires low { neg_ℤ (pos (2 ^ 65)) ≤ℤ second }
-    requires high { second ≤ℤ pos (2 ^ 65) }
-{
-    first + i128::from(z) - second
-}
-
-/// By how much an interval that is present moves another one that may be: not at all where this isn't
-/// positive.
-fn push_between(c: Bounds, d: Bounds, way: Way, side: Side) -> i128 {
-    match (side, c.presence, d.presence) {
-        (Side::Later, Presence::Present, Presence::Present | Presence::Maybe) => excess(
-            earliest_in(way.from, c),
-            way.z,
-            earliest_in(way.to, d),
-        ),
-        (Side::Earlier, Presence::Present | Presence::Maybe, Presence::Present) => {
-            excess(latest_in(way.from, c), way.z, latest_in(way.to, d))
-        }
-        _ => 0,
-    }
-}
-
-/// By how much a way moves its point.
-fn push_of(region: &Region, way: Way, side: Side) -> i128 {
-    let look = region.look(None, None);
-    if way.first.0 as usize >= look.len() || way.second.0 as usize >= look.len() {
-        return 0;
-    }
-    push_between(look.bounds(way.first), look.bounds(way.second), way, side)
-}
-
 /// Of the first of these ways the one that moves its point most, where that is by more than `least`.
-fn strongest(region: &Region, ways: &[Way], side: Side, least: i128) -> Option<Way> {
+fn strongest(region: &Region, ways: &[Way], side: Side, least: i64) -> Option<Way> {
     let mut found = None;
     let mut most = least;
     for k in 0..ways.len().min(FEW) {
@@ -298,12 +200,13 @@ fn ask_first(
     requires found { IsFinding refutes model.now region.now.region best found }
     ensures { IsFinding refutes model.now region.now.region best result }
 {
-    let moved = match side {
+    let point = match side {
         Side::Later => way.second,
         Side::Earlier => way.first,
     };
     let witness = BasicWitness::Arc { c: way.c, d: way.d };
-    match ask::<Basic>(model, region, best, &witness, &[moved], &[]) {
+    let likely = moved(way, side);
+    match ask_likely::<Basic>(model, region, best, &witness, &[point], &[], likely) {
         None => found,
         Some(guess) => Finding { guess, witness },
     }

@@ -17,6 +17,7 @@ use crate::ends::ask_constraint;
 use crate::sources::Sources;
 use crate::touching::touching_of;
 use crate::walks::Walks;
+use crate::ways::{moves_nothing, way_of};
 use findings::Finding;
 use refute_basic::BasicWitness;
 use region::{CellName, Region};
@@ -215,6 +216,24 @@ impl PropTemporal {
         };
         let first = self.sources.first_found(model, region, best, found)?;
         Ok(Some(first))
+    }
+
+    /// Whether what it finds now, if it finds anything, can wait until others are quiet: all that it
+    /// finds follows from the least sizes alone.
+    pub fn can_wait(&self, k: u32, model: &Model, region: &Region) -> bool {
+        if k == 0 {
+            return false;
+        }
+        let Some(way) = way_of(model, k - 1, 0) else {
+            return false;
+        };
+        if !moves_nothing(region, way) {
+            return false;
+        }
+        match way_of(model, k - 1, 1) {
+            None => true,
+            Some(back) => moves_nothing(region, back),
+        }
     }
 
     /// The intervals whose presence it watches.
