@@ -116,35 +116,43 @@ fn ask_two(
 }
 
 /// The same of two of which the first is told to stand before the second. Where none is told to, it is
-/// noted that their order is open.
+/// noted that their order is open, if their numbers leave something to find of it.
 fn ask_told(
     model: &Model,
     region: &Region,
     best: Option<i64>,
     d: &Disjunctive,
-    a: Itv,
-    b: Itv,
+    first: Task,
+    second: Task,
     is_open: &mut bool,
 ) -> Option<Finding<SeqWitness>>
     requires of { IsRegionOf model.now region.now.region }
     requires is { IsDisjunctive model.now d.now }
-    ensures none { IfNone result (AreSilentWhere model.now region.now.region best d.now order.Forward a b) }
-    ensures free { is_open.new ≡ false → (is_open.old ≡ false) × AreSilentWhere model.now region.now.region best d.now order.Unknown a b }
+    requires first { IsKeyed (ends_of (bounds_of region.now.region first.member)) first.keys }
+    requires second { IsKeyed (ends_of (bounds_of region.now.region second.member)) second.keys }
+    ensures none { IfNone result (AreSilentWhere model.now region.now.region best d.now order.Forward first.member second.member) }
+    ensures free { is_open.new ≡ false → (is_open.old ≡ false) × AreSilentWhere model.now region.now.region best d.now order.Unknown first.member second.member }
     ensures some { IfSome result (IsFinding refutes model.now region.now.region best) }
     ensures busy { IfSome result (λ f. quiet model.now d.now.c region.now.region best → ⊥) }
 {
+    let (p, matrix) = (d.p, d.matrix);
+    let (a, b) = (first.member, second.member);
     if a.0 == b.0 {
         return None;
     }
-    match region.look(None, None).order(d.p, a, b) {
+    match region.look(None, None).order(p, a, b) {
         OrderCell::Backward => None,
         OrderCell::Unknown => {
+            let open = OrderCell::Unknown;
+            if is_surely_silent(model, region, p, matrix, open, first, second) {
+                return None;
+            }
             *is_open = true;
             None
         }
         OrderCell::Forward => {
             let pair = Pair {
-                sequence: d.p,
+                sequence: p,
                 first: a,
                 second: b,
             };
@@ -184,8 +192,7 @@ fn ask_told_row(
         if are_surely_silent(model, region, p, matrix, first, second) {
             continue;
         }
-        let (a, b) = (first.member, second.member);
-        if let Some(found) = ask_told(model, region, best, d, a, b, is_open) {
+        if let Some(found) = ask_told(model, region, best, d, first, second, is_open) {
             return Some(found);
         }
     }
