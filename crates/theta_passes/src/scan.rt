@@ -1,9 +1,10 @@
-ghost use Rattle.std.specs.Prelude.{◌≡◌, ℕ, ◌<◌, ◌≤◌, None, length};
+ghost use Rattle.std.specs.Prelude.{◌≡◌, ℕ, ◌<◌, ◌≤◌, ◌+ℤ◌, int_le, None, length};
+ghost use Rattle.std.specs.Int.{int_max};
 ghost use Rattle.theta_passes.specs.code.Rows.{row_at, is_candidate, IsNearRow, IsByEst};
 ghost use Rattle.theta_passes.specs.code.Parts.{part_has, GivesTop};
 ghost use Rattle.theta_passes.specs.code.Late.{LateAt, LateCandidate, LatePass, late_by};
 ghost use Rattle.theta_passes.specs.declared.parts.Part.TheVariants.{Before, Cut};
-ghost use Rattle.theta_passes.specs.code.Edge.{is_pushed, FoundBy, FoundOrNone, IsMember, IsOrder, PassOrNone};
+ghost use Rattle.theta_passes.specs.code.Edge.{is_pushed, is_over_with, FoundBy, FoundOrNone, IsMember, IsOrder, PassOrNone};
 
 use crate::parts::{Part, Top, top_of};
 use crate::{Presence, Row};
@@ -86,6 +87,29 @@ fn is_pushed(row: Row, level: i64, pushing: Option<Top>) -> bool
     level < row.lct && row.lst < top.value
 }
 
+fn later(a: i64, b: i64) -> i64
+    ensures { result ≡ int_max a b }
+{
+    if a < b { b } else { a }
+}
+
+fn ends_by(start: i64, p: i64, level: i64) -> bool
+    ensures { result ≡ int_le (start +ℤ p) level }
+{
+    i128::from(start) + i128::from(p) <= i128::from(level)
+}
+
+/// Whether the cut is over by its moment even with the member in it, as the numbers tell by
+/// themselves: the member adds its size at the most, and starts no earlier than it can.
+fn is_over_with(row: Row, level: i64, pushing: Option<Top>) -> bool
+    ensures { result ≡ is_over_with row level pushing }
+{
+    let Some(top) = pushing else {
+        return false;
+    };
+    ends_by(later(row.est, top.value), row.p, level)
+}
+
 #[tactic(auto, using(crate::proofs::scans::CutScans::no_candidate_found))]
 fn finds(rows: &[Row], i: u32, level: i64, pushing: Option<Top>) -> bool
     requires few { length rows.now ≤ 500 }
@@ -100,6 +124,9 @@ fn finds(rows: &[Row], i: u32, level: i64, pushing: Option<Top>) -> bool
         return false;
     }
     if !is_pushed(rows[i as usize], level, pushing) {
+        return false;
+    }
+    if is_over_with(rows[i as usize], level, pushing) {
         return false;
     }
     is_late_by(level, top_of(rows, Part::CutAnd(level, i)))

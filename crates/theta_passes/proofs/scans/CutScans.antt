@@ -1,18 +1,19 @@
 -- The scans of the cuts: for an overload, and for a member that some cut finds.
-use Rattle.std.specs.Prelude.{◌≡◌, ℕ, ◌+◌, ◌<◌, ◌≤◌, ℤ, Bool, true, false, ◌&&◌, ◌||◌, nat_eq, int_lt, is_some, int_le, slice_index_or, List, length, Option, Some, None, refl}
+use Rattle.std.specs.Prelude.{◌≡◌, ℕ, ◌+◌, ◌<◌, ◌≤◌, ℤ, ◌+ℤ◌, Bool, true, false, ◌&&◌, ◌||◌, nat_eq, int_lt, is_some, int_le, slice_index_or, List, length, Option, Some, None, refl}
+use Rattle.std.specs.Int.{int_max}
 use Rattle.std.proofs.Common.{arith, sym, subst, ap, ◌∙◌, inl, inr}
 use Rattle.std.proofs.lemmas.Int.{ints}
 use Rattle.std.proofs.lemmas.Bool.{and_from, and_parts, both_ways, cases_eq, true≢false}
 use Rattle.base_laws.specs.laws.Numbers.{below_or_last}
 use Rattle.task_sets.specs.laws.Cuts.{cut_below, cut_overloads, overload_cuts}
-use Rattle.task_sets.specs.laws.Ects.{lt_holds, lt_true}
+use Rattle.task_sets.specs.laws.Ects.{le_holds, lt_holds, lt_true}
 use Rattle.task_sets.specs.laws.Moved.{ect_alike}
 use Rattle.task_sets.specs.laws.Sums.{has_first, same_number}
-use Rattle.task_sets.specs.Times.{IsEct, IsEdgeCut, in_cut, lct_at, overload_row, with_one}
+use Rattle.task_sets.specs.Times.{IsEct, IsEdgeCut, est_at, size_at, in_cut, lct_at, overload_row, with_one}
 use Rattle.theta_passes.specs.declared.parts.Part.TheVariants.{Cut, CutAnd}
 use Rattle.theta_passes.specs.declared.parts.Top.{Top}
 use Rattle.theta_passes.specs.declared.rows.Row.{Row}
-use Rattle.theta_passes.specs.code.Edge.{FoundBy, FoundOrNone, IsMember, IsOrder, NoneAt, PassOrNone, cut_of, is_pushed}
+use Rattle.theta_passes.specs.code.Edge.{FoundBy, FoundOrNone, IsMember, IsOrder, NoneAt, PassOrNone, cut_of, is_pushed, is_over_with}
 use Rattle.theta_passes.specs.code.Late.{late_by}
 use Rattle.theta_passes.specs.code.Over.{OverPass}
 use Rattle.theta_passes.specs.code.Parts.{GivesTop, IsTop, part_has}
@@ -21,6 +22,7 @@ use Rattle.theta_passes.specs.code.Witnesses.{FullCut, part_from}
 use Rattle.theta_passes.specs.laws.Members.{present_below, with_below}
 use Rattle.theta_passes.specs.laws.Members.{is_below as row_below}
 use Rattle.theta_passes.proofs.trees.Cuts.{one_below}
+use Rattle.theta_passes.proofs.scans.OneMore.{one_more}
 use Rattle.theta_passes.proofs.scans.Reached.{near_sized, top_ect}
 use Rattle.theta_passes.proofs.shown.Showing.{no_full}
 
@@ -117,6 +119,16 @@ cut_finds rows level i (Some v) (Some w) b near sorted member one pushed is top_
         let up = (with_ect rows level i w near sorted one top_w).greatest set.0 set.1 set.2 in
         let same = set.3 in
         both_ways (int_lt level w.value) low (lt_true level w.value (omega (arith, ints, up, same, found.full)))
+
+-- and none that is over with the member
+pub none_over : (rows : List Row) (level : ℤ) (i : ℕ) (v : Option Top) (b : Bool) → ((k : ℕ) → IsNearRow (row_at rows k)) → IsByEst rows → b ≡ true → b ≡ is_over_with (row_at rows i) level v → GivesTop rows (part_has rows (Cut None level)) 0 v → FoundBy rows level i false
+none_over rows level i None b near sorted on is gives z u one found = absurd (true≢false (sym on ∙ is))
+none_over rows level i (Some v) b near sorted on is top z u one found =
+    let d = times_at rows in
+    let most = one_more d (cut_of rows level) i z v.value (near_sized rows near) found.with_i (cut_ect rows level v near sorted top) in
+    let over = le_holds (int_max (est_at d i) v.value +ℤ size_at d i) level (sym is ∙ on) in
+    let full = found.full in
+    omega (arith, ints, most, over, full)
 
 pub none_tried : (rows : List Row) (level : ℤ) (j : ℕ) → j < 0 → FoundBy rows level j false
 none_tried rows level j low = absurd (omega (arith, low))
