@@ -18,25 +18,20 @@ fn do_clash(c: Keys, d: Keys) -> bool {
     c.front.present_ect > d.back.present_lst && d.front.present_ect > c.back.present_lst
 }
 
-/// The order of two is read only where it matters.
+/// Where two fit as they are in one order, it is mostly the one that is told. So their order is read
+/// only where they fit in none.
 fn can_two_wait(region: &Region, p: Seq, first: Task, second: Task) -> bool {
     let (c, d) = (first.keys, second.keys);
-    let forward = is_pushed(c.front, d.back);
-    let backward = is_pushed(d.front, c.back);
-    if !forward && !backward {
+    if !is_pushed(c.front, d.back) || !is_pushed(d.front, c.back) {
         return true;
     }
     if do_clash(c, d) {
         return false;
     }
-    match region
+    let order = region
         .look(None, None)
-        .order(p, first.member, second.member)
-    {
-        OrderCell::Forward => !forward,
-        OrderCell::Backward => !backward,
-        OrderCell::Unknown => true,
-    }
+        .order(p, first.member, second.member);
+    order == OrderCell::Unknown
 }
 
 /// What is found of a member and those from a place on.
