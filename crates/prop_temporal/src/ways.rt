@@ -1,5 +1,4 @@
 //! A precedence read one way, and by how much it moves its points. No promise hangs on this.
-use crate::silence::minus;
 use region::{Bounds, Presence, Region};
 use sched_base::{Itv, at};
 use sched_model::{Constraint, End, Model};
@@ -54,6 +53,14 @@ pub fn way_of(model: &Model, c: u32, d: u32) -> Option<Way> {
         (1, true) => reversed(forwards),
         _ => None,
     }
+}
+
+/// The distance backwards, where it is a number of 64 bits.
+fn minus(z: i64) -> Option<i64> {
+    if z == i64::MIN {
+        return None;
+    }
+    Some(0 - z)
 }
 
 fn reversed(way: Way) -> Option<Way> {

@@ -10,8 +10,8 @@ returns-then-d-eq0 c = λ yes.
     let in_time : is_in_time (bounds_of r c.args.a) c.args.from (bounds_of r c.args.b) c.args.to c.args.z ≡ true = search (rules, yes) in
     forth_told r c.args.d c.args.from c.args.to c.args.equal c.args.a c.args.b c.args.z (search rules) (search rules) in_time
 
-pub returns-in-Some : goal.returns-in-Some
-returns-in-Some c = λ yes.
+pub returns : goal.returns
+returns c = λ yes.
     let r = c.args.region.now.region in
     let in_time : is_in_time (bounds_of r c.args.b) c.args.to (bounds_of r c.args.a) c.args.from (pos 0 -ℤ c.args.z) ≡ true = search (rules, yes) in
     back_told r c.args.d c.args.from c.args.to c.args.equal c.args.a c.args.b c.args.z (search rules) (search rules) (ap (λ b. not c.args.equal || b) in_time ∙ or_true (not c.args.equal))
