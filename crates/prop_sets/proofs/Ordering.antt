@@ -9,17 +9,21 @@ use Rattle.std.proofs.lemmas.List.{get_or_append_left, length_push}
 use Rattle.base_laws.specs.laws.Numbers.{below_or_last}
 use Rattle.base_laws.specs.laws.Places.{newest}
 use Rattle.sched_base.specs.declared.ids.Itv.{Itv}
+use Rattle.region.specs.declared.types.Bounds.{Bounds}
 use Rattle.region.specs.Cells.{Region, bounds_of}
 use Rattle.theta_passes.specs.declared.rows.Row.{Row}
 use Rattle.theta_passes.specs.laws.Members.{present_below, is_below as row_below}
+use Rattle.prop_sets.specs.declared.known.Numbers.{Numbers}
 use Rattle.prop_sets.specs.declared.orders.Keyed.{Keyed}
 use Rattle.prop_sets.specs.declared.orders.By.{By}
 use Rattle.prop_sets.specs.declared.orders.By.TheVariants as by
-use Rattle.prop_sets.specs.code.Rows.{seen, member_at}
+use Rattle.prop_sets.specs.code.Rows.{seen, member_at, times_from, AreMoments}
+use Rattle.prop_sets.specs.code.Known.{numbers_at, AreNumbers}
+use Rattle.prop_sets.specs.code.Known as known
 use Rattle.std.specs.List.Sorted.{IsPermutation}
 use Rattle.prop_sets.specs.code.Reordered.{IsReordered}
 use Rattle.prop_sets.specs.laws.Reordering.{reordered}
-use Rattle.prop_sets.specs.code.Orders.{AreRising, AreKeyed, ArePlaces, AreStarts, AreNamed, IsByStart, IsOrderBy, on_by, key_by, keyed_at, no_place}
+use Rattle.prop_sets.specs.code.Orders.{AreRising, AreKeyed, ArePlaces, AreStarts, AreNamed, AreNumbered, IsByStart, IsOrderBy, on_by, key_by, keyed_at, no_place}
 
 -- no key is below one before it, for each that is next to another
 pub rising_from_sort : (ks : List Keyed) → ((k : ℕ) (d : Keyed) → 0 ≤ k → k + 1 < length ks → is_lt (int_cmp (get_or ks (k + 1) d).key (get_or ks k d).key) ≡ false) → AreRising ks
@@ -158,6 +162,29 @@ more_named xs ks n ys x is h = record {
 pub all_named : (xs : List Itv) (ks : List Keyed) (k n : ℕ) (ys : List Itv) → k ≡ n → AreNamed xs ks k ys → AreNamed xs ks n ys
 all_named xs ks k n ys same h = subst (λ i. AreNamed xs ks i ys) same h
 
+pub none_numbered : (ns : List Numbers) (ks : List Keyed) → AreNumbered ns ks 0 []
+none_numbered ns ks = record { size = refl; each = λ i low. absurd (omega (arith, low)) }
+
+pub more_numbered : (ns : List Numbers) (ks : List Keyed) (n : ℕ) (zs : List Numbers) (x : Numbers) → x ≡ numbers_at ns (keyed_at ks n).place → AreNumbered ns ks n zs → AreNumbered ns ks (n + 1) (zs ++ x ∷ [])
+more_numbered ns ks n zs x is h = record {
+  size = length_push zs x ∙ ap (λ k. k + 1) h.size;
+  each = λ i low. elim (below_or_last i n low) [
+    | inl less ↦ (let size = h.size in get_or_append_left zs (x ∷ []) known.no_numbers i (omega (arith, less, size)) ∙ h.each i less)
+    | inr last ↦ newest i zs x known.no_numbers (last ∙ sym h.size) ∙ is ∙ ap (λ k. numbers_at ns (keyed_at ks k).place) (sym last)
+  ];
+}
+
+pub all_numbered : (ns : List Numbers) (ks : List Keyed) (k n : ℕ) (zs : List Numbers) → k ≡ n → AreNumbered ns ks k zs → AreNumbered ns ks n zs
+all_numbered ns ks k n zs same h = subst (λ i. AreNumbered ns ks i zs) same h
+
+-- the earliest start is told by the numbers
+starts_as : (side : ℕ) (c : Bounds) → (times_from side (known.numbers_of c)).est ≡ (seen side c).est
+starts_as zero c = refl
+starts_as (suc n) c = refl
+
+pub start_is : (side : ℕ) (r : Region) (xs : List Itv) (ns : List Numbers) (k : ℕ) (x : Numbers) (t : ℤ) → AreNumbers r xs (length xs) ns → k < length xs → x ≡ numbers_at ns k → t ≡ (times_from side x).est → t ≡ (seen side (bounds_of r (member_at xs k))).est
+start_is side r xs ns k x t are low at is = is ∙ ap (λ z. (times_from side z).est) (at ∙ are.each k low) ∙ starts_as side (bounds_of r (member_at xs k))
+
 -- after sorting
 start_at : (side : ℕ) (r : Region) (xs : List Itv) (old ks : List Keyed) → AreStarts side r xs (length xs) old → (moved : IsReordered old ks) → (k : ℕ) → k < length ks → keyed_at ks k ≡ record { key = (seen side (bounds_of r (member_at xs (moved.to k)))).est; place = moved.to k }
 start_at side r xs old ks starts moved k low = let size = starts.size in let within = moved.low k low in moved.at k no_place low ∙ starts.each (moved.to k) (omega (arith, within, size))
@@ -168,6 +195,22 @@ starts_low side r xs old ks starts sorted k low =
     let size = starts.size in
     let within = moved.low k low in
     subst (λ (q : Keyed). q.place < length xs) (sym (start_at side r xs old ks starts moved k low)) (omega (arith, within, size))
+
+-- the numbers of members that are named by places, in their order
+pub numbers_along : (r : Region) (xs : List Itv) (ns : List Numbers) (ks : List Keyed) (ys : List Itv) (zs : List Numbers) → ((k : ℕ) → k < length ks → (keyed_at ks k).place < length xs) → AreNumbers r xs (length xs) ns → AreNamed xs ks (length ks) ys → AreNumbered ns ks (length ks) zs
+    → AreNumbers r ys (length ys) zs
+numbers_along r xs ns ks ys zs low are named numbered =
+    let many = named.size in
+    let as_many = numbered.size in
+    record {
+      size = as_many ∙ sym many;
+      each = λ k less.
+          let within : k < length ks = omega (arith, less, many) in
+          numbered.each k within ∙ are.each (keyed_at ks k).place (low k within) ∙ ap (λ x. known.numbers_of (bounds_of r x)) (sym (named.each k within));
+      moments = λ k less.
+          let within : k < length ks = omega (arith, less, many) in
+          subst AreMoments (sym (numbered.each k within)) (are.moments (keyed_at ks k).place (low k within));
+    }
 
 pub in_start_order : (side : ℕ) (r : Region) (xs : List Itv) (old ks : List Keyed) (ys : List Itv) → AreStarts side r xs (length xs) old → IsPermutation old ks → AreNamed xs ks (length ks) ys → IsReordered xs ys
 in_start_order side r xs old ks ys starts sorted named =

@@ -8,19 +8,23 @@ use Rattle.base_laws.specs.laws.Places.{newest}
 use Rattle.sched_base.specs.declared.ids.Itv.{Itv}
 use Rattle.region.specs.Cells.{Region, bounds_of}
 use Rattle.prop_sets.specs.declared.known.Numbers.{Numbers}
-use Rattle.prop_sets.specs.code.Rows.{member_at}
+use Rattle.prop_sets.specs.code.Rows.{member_at, AreMoments}
 use Rattle.prop_sets.specs.code.Known.{numbers_of, AreNumbers, IfKnown, AreKnown, AreUnknown}
 use Rattle.prop_sets.specs.code.Known as known
 
 pub no_numbers : (r : Region) (ms : List Itv) → AreNumbers r ms 0 []
-no_numbers r ms = record { size = refl; each = λ k low. absurd (omega (arith, low)) }
+no_numbers r ms = record { size = refl; each = λ k low. absurd (omega (arith, low)); moments = λ k low. absurd (omega (arith, low)) }
 
-pub more_numbers : (r : Region) (ms : List Itv) (n : ℕ) (ns : List Numbers) (x : Numbers) → x ≡ numbers_of (bounds_of r (member_at ms n)) → AreNumbers r ms n ns → AreNumbers r ms (n + 1) (ns ++ x ∷ [])
-more_numbers r ms n ns x is h = record {
+pub more_numbers : (r : Region) (ms : List Itv) (n : ℕ) (ns : List Numbers) (x : Numbers) → x ≡ numbers_of (bounds_of r (member_at ms n)) → AreMoments x → AreNumbers r ms n ns → AreNumbers r ms (n + 1) (ns ++ x ∷ [])
+more_numbers r ms n ns x is here h = record {
   size = length_push ns x ∙ ap (λ k. k + 1) h.size;
   each = λ i low. elim (below_or_last i n low) [
     | inl less ↦ (let size = h.size in get_or_append_left ns (x ∷ []) known.no_numbers i (omega (arith, less, size)) ∙ h.each i less)
     | inr last ↦ newest i ns x known.no_numbers (last ∙ sym h.size) ∙ is ∙ ap (λ k. numbers_of (bounds_of r (member_at ms k))) (sym last)
+  ];
+  moments = λ i low. elim (below_or_last i n low) [
+    | inl less ↦ (let size = h.size in subst AreMoments (sym (get_or_append_left ns (x ∷ []) known.no_numbers i (omega (arith, less, size)))) (h.moments i less))
+    | inr last ↦ subst AreMoments (sym (newest i ns x known.no_numbers (last ∙ sym h.size))) here
   ];
 }
 

@@ -9,7 +9,7 @@ ghost use Rattle.prop_sets.specs.code.Rows.{member_at, side_of};
 ghost use Rattle.prop_sets.specs.code.Busy.{IsBusy, IsNext, IsNextOf, name_at, ids_of};
 
 use crate::passes::{Behind, Cut};
-use findings::{Finding, ask};
+use findings::{Finding, Likely, ask, ask_likely};
 use refute_seq::{Few, OnSequence, SeqWitness};
 use region::Region;
 use sched_base::{Itv, NoMemory};
@@ -34,6 +34,35 @@ fn answer(
 {
     let guess = ask::<OnSequence>(model, region, best, &w, &[i], &[])?;
     Some(Finding { guess, witness: w })
+}
+
+/// The same where one guess on the member is likely the one, so that it is asked about first.
+#[tactic(auto, using(crate::proofs::Answered::never_unrefuted, crate::proofs::Answered::never_quiet))]
+fn answer_likely(
+    model: &Model,
+    region: &Region,
+    best: Option<i64>,
+    c: u32,
+    i: Itv,
+    likely: Likely,
+    w: SeqWitness,
+) -> Option<Finding<SeqWitness>>
+    requires of { IsRegionOf model.now region.now.region }
+    requires busy { IsBusy model.now region.now.region best i w }
+    ensures none { IfNone result ⊥ }
+    ensures some { IfSome result (IsFinding refutes model.now region.now.region best) }
+    ensures busy { (later : Bool) → looks_after later model.now c w ≡ true → IfSome result (λ f. quiet later model.now c region.now.region best → ⊥) }
+{
+    let guess = ask_likely::<OnSequence>(model, region, best, &w, &[i], &[], likely)?;
+    Some(Finding { guess, witness: w })
+}
+
+/// The guess that a row is made under: that a member starts as early as it can, or ends as late.
+fn guess_on(early: bool, i: Itv) -> Likely {
+    if early {
+        return Likely::StartsLater(i);
+    }
+    Likely::EndsSooner(i)
 }
 
 /// The member at a place.
@@ -142,7 +171,8 @@ pub fn answer_detect(
         i: i.0,
         s,
     };
-    Ok(answer(model, region, best, c, i, w))
+    let likely = guess_on(!back, i);
+    Ok(answer_likely(model, region, best, c, i, likely, w))
 }
 
 pub fn answer_not_end(
@@ -169,7 +199,8 @@ pub fn answer_not_end(
         i: i.0,
         s,
     };
-    Ok(answer(model, region, best, c, i, w))
+    let likely = guess_on(back, i);
+    Ok(answer_likely(model, region, best, c, i, likely, w))
 }
 
 pub fn answer_edge(
@@ -200,7 +231,8 @@ pub fn answer_edge(
         u,
         v,
     };
-    Ok(answer(model, region, best, c, i, w))
+    let likely = guess_on(!back, i);
+    Ok(answer_likely(model, region, best, c, i, likely, w))
 }
 
 /// The side of a row.

@@ -1,6 +1,7 @@
 //! The numbers of members, by which it is known again that nothing is found of them.
 ghost use Rattle.std.specs.Prelude.{◌≡◌, true, length, Some, IfOk};
 ghost use Rattle.region.specs.Looks.{HasMoments};
+ghost use Rattle.prop_sets.specs.code.Rows.{AreMoments};
 ghost use Rattle.prop_sets.specs.code.Known.{numbers_of, AreNumbers};
 
 use crate::numbers::{bounds_at, ect_in, lst_in, row_presence};
@@ -22,7 +23,8 @@ pub struct Numbers {
 
 fn numbers_of(c: Bounds) -> Numbers
     requires { HasMoments c }
-    ensures { result ≡ numbers_of c }
+    ensures value { result ≡ numbers_of c }
+    ensures moments { AreMoments result }
 {
     Numbers {
         presence: row_presence(c.presence),

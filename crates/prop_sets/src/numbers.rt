@@ -4,8 +4,10 @@ ghost use Rattle.std.specs.Int.{int_max, int_min};
 ghost use Rattle.sched_model.specs.Valid.{is_moment};
 ghost use Rattle.region.specs.Cells.{bounds_of, unknown};
 ghost use Rattle.region.specs.Looks.{HasMoments, is_shifted, ect_in, lst_in};
-ghost use Rattle.prop_sets.specs.code.Rows.{asked_bounds, row_presence, row_of, seen, chosen_row, side_of, AreRows};
+ghost use Rattle.prop_sets.specs.code.Rows.{asked_numbers, row_presence, row_by, row_from, chosen_row, side_of, member_at, AreMoments, AreRows};
+ghost use Rattle.prop_sets.specs.code.Known.{numbers_at, AreNumbers};
 
+use crate::known::Numbers;
 use region::{Bounds, Look, Presence, Region};
 use sched_base::{Itv, NoMemory};
 use std::alloc::Global;
@@ -76,83 +78,87 @@ pub fn row_presence(presence: Presence) -> RowPresence
     }
 }
 
-/// The bounds under the guess that it starts as early as it can, or ends as late.
-fn asked_bounds(early: bool, c: Bounds) -> Bounds
-    requires { HasMoments c }
-    ensures value { result ≡ asked_bounds early c }
-    ensures moments { HasMoments result }
+/// The numbers under the guess that it starts as early as it can, or ends as late.
+fn asked_numbers(early: bool, n: Numbers) -> Numbers
+    requires { AreMoments n }
+    ensures value { result ≡ asked_numbers early n }
+    ensures moments { AreMoments result }
 {
     if early {
-        return Bounds {
-            presence: Presence::Present,
-            smax: c.smin,
-            ..c
+        return Numbers {
+            lst: min_difference(n.est, n.lct, n.p),
+            ..n
         };
     }
-    Bounds {
-        presence: Presence::Present,
-        emin: c.emax,
-        ..c
+    Numbers {
+        ect: max_sum(n.lct, n.est, n.p),
+        ..n
     }
 }
 
-fn forward_row(presence: Presence, c: Bounds, asked: Bounds) -> Row
-    requires moments { HasMoments c }
-    requires also { HasMoments asked }
-    ensures { result ≡ row_of presence (seen 0 c) (seen 0 asked) }
+fn forward_row(n: Numbers, asked: Numbers) -> Row
+    ensures { result ≡ row_by 0 n asked }
 {
     Row {
-        est: c.smin,
-        p: c.pmin,
-        lst: lst_in(c),
-        ect: ect_in(c),
-        lct: c.emax,
-        presence: row_presence(presence),
-        bar: lst_in(asked),
-        reach: ect_in(asked),
+        est: n.est,
+        p: n.p,
+        lst: n.lst,
+        ect: n.ect,
+        lct: n.lct,
+        presence: n.presence,
+        bar: asked.lst,
+        reach: asked.ect,
     }
 }
 
 /// The same with time turned round.
-fn backward_row(presence: Presence, c: Bounds, asked: Bounds) -> Row
-    requires moments { HasMoments c }
-    requires also { HasMoments asked }
-    ensures { result ≡ row_of presence (seen 1 c) (seen 1 asked) }
+fn backward_row(n: Numbers, asked: Numbers) -> Row
+    requires moments { AreMoments n }
+    requires also { AreMoments asked }
+    ensures { result ≡ row_by 1 n asked }
 {
     Row {
-        est: turned_moment(c.emax),
-        p: c.pmin,
-        lst: turned(ect_in(c)),
-        ect: turned(lst_in(c)),
-        lct: turned_moment(c.smin),
-        presence: row_presence(presence),
-        bar: turned(ect_in(asked)),
-        reach: turned(lst_in(asked)),
+        est: turned_moment(n.lct),
+        p: n.p,
+        lst: turned(n.ect),
+        ect: turned(n.lst),
+        lct: turned_moment(n.est),
+        presence: n.presence,
+        bar: turned(asked.ect),
+        reach: turned(asked.lst),
     }
 }
 
-fn row_on(back: bool, presence: Presence, c: Bounds, asked: Bounds) -> Row
-    requires moments { HasMoments c }
-    requires also { HasMoments asked }
-    ensures { result ≡ row_of presence (seen (side_of back) c) (seen (side_of back) asked) }
+fn row_on(back: bool, n: Numbers, asked: Numbers) -> Row
+    requires moments { AreMoments n }
+    requires also { AreMoments asked }
+    ensures { result ≡ row_by (side_of back) n asked }
 {
     if back {
-        return backward_row(presence, c, asked);
+        return backward_row(n, asked);
     }
-    forward_row(presence, c, asked)
+    forward_row(n, asked)
 }
 
 /// The row of an interval: its numbers, or where they are chosen those under the guess, and beside
 /// them those under the guess.
-fn chosen_row(chosen: bool, back: bool, early: bool, c: Bounds) -> Row
-    requires { HasMoments c }
-    ensures { result ≡ chosen_row chosen (side_of back) early c }
+fn row_from(chosen: bool, back: bool, early: bool, n: Numbers) -> Row
+    requires { AreMoments n }
+    ensures { result ≡ row_from chosen (side_of back) early n }
 {
-    let asked = asked_bounds(early, c);
+    let asked = asked_numbers(early, n);
     if chosen {
-        return row_on(back, c.presence, asked, asked);
+        return row_on(back, asked, asked);
     }
-    row_on(back, c.presence, c, asked)
+    row_on(back, n, asked)
+}
+
+/// The numbers at a place.
+pub fn numbers_at(numbers: &[Numbers], k: usize) -> Numbers
+    requires { k < length numbers.now }
+    ensures { result ≡ numbers_at numbers.now k }
+{
+    numbers[k]
 }
 
 /// The bounds of an interval; of one that isn't there nothing is known.
@@ -174,22 +180,42 @@ pub fn bounds_at(look: &Look<'_>, x: Itv) -> Bounds
     look.bounds(x)
 }
 
-/// One row for each member.
+/// The row of the member at a place, whose numbers are given.
+fn row_of(
+    region: &Region,
+    members: &[Itv],
+    numbers: &[Numbers],
+    chosen: bool,
+    back: bool,
+    early: bool,
+    k: usize,
+) -> Row
+    requires are { AreNumbers region.now.region members.now (length members.now) numbers.now }
+    requires within { k < length numbers.now }
+    ensures { result ≡ chosen_row chosen (side_of back) early (bounds_of region.now.region (member_at members.now k)) }
+{
+    let _ = region;
+    let _ = members;
+    row_from(chosen, back, early, numbers_at(numbers, k))
+}
+
+/// One row for each member, from their numbers.
 #[tactic(auto, using(crate::proofs::Noted::no_rows, crate::proofs::Noted::more_rows, crate::proofs::Noted::all_rows))]
 pub fn rows_of(
     alloc: Global,
     region: &Region,
     members: &[Itv],
+    numbers: &[Numbers],
     chosen: bool,
     back: bool,
     early: bool,
 ) -> Result<Vec<Row>, NoMemory>
+    requires { AreNumbers region.now.region members.now (length members.now) numbers.now }
     ensures { IfOk result (λ v. AreRows (chosen_row chosen (side_of back) early) region.now.region members.now v.items) }
 {
-    let look = region.look(None, None);
-    let mut rows = Vec::with_capacity(alloc, members.len())?;
-    for k in 0..members.len() {
-        rows.push(chosen_row(chosen, back, early, bounds_at(&look, members[k])))?;
+    let mut rows = Vec::with_capacity(alloc, numbers.len())?;
+    for k in 0..numbers.len() {
+        rows.push(row_of(region, members, numbers, chosen, back, early, k))?;
     }
     Ok(rows)
 }

@@ -1,15 +1,17 @@
 //! Members and places in the orders that the passes ask for.
 ghost use Rattle.std.specs.Prelude.{◌≡◌, ℕ, ◌<◌, ◌≤◌, neg_ℤ, length, IfOk};
 ghost use Rattle.std.specs.List.Sorted.{IsPermutation};
-ghost use Rattle.region.specs.Looks.{HasMoments};
+ghost use Rattle.region.specs.Cells.{bounds_of};
 ghost use Rattle.theta_passes.specs.code.Rows.{row_at};
-ghost use Rattle.prop_sets.specs.code.Rows.{seen, side_of, member_at};
+ghost use Rattle.prop_sets.specs.code.Rows.{seen, side_of, member_at, times_from, AreMoments};
+ghost use Rattle.prop_sets.specs.code.Known.{AreNumbers};
 ghost use Rattle.prop_sets.specs.code.Reordered.{IsReordered};
-ghost use Rattle.prop_sets.specs.code.Orders.{AreRising, AreKeyed, ArePlaces, AreStarts, AreNamed, AreSpanned, IsByStart, IsOrderBy, on_by, key_by, keyed_at};
+ghost use Rattle.prop_sets.specs.code.Orders.{AreRising, AreKeyed, ArePlaces, AreStarts, AreNamed, AreNumbered, AreSpanned, IsByStart, IsOrderBy, on_by, key_by, keyed_at};
 ghost use Rattle.prop_sets.specs.laws.Under.{IsMoment};
 
-use crate::numbers::{bounds_at, turned_moment};
-use region::{Bounds, Region};
+use crate::known::Numbers;
+use crate::numbers::{numbers_at, turned_moment};
+use region::Region;
 use sched_base::{Itv, NoMemory};
 use std::alloc::Global;
 use theta_passes::{Presence, Row};
@@ -137,15 +139,27 @@ pub fn order_by(alloc: Global, rows: &[Row], by: By) -> Result<Vec<u32>, NoMemor
     places(alloc, &keyed)
 }
 
-/// The earliest start of an interval on a side.
-fn start_of(back: bool, c: Bounds) -> i64
-    requires { HasMoments c }
-    ensures { result ≡ (seen (side_of back) c).est }
+/// The earliest start on a side, of the numbers of an interval.
+fn start_of(back: bool, n: Numbers) -> i64
+    requires { AreMoments n }
+    ensures { result ≡ (times_from (side_of back) n).est }
 {
     if back {
-        return turned_moment(c.emax);
+        return turned_moment(n.lct);
     }
-    c.smin
+    n.est
+}
+
+/// That of the member at a place, whose numbers are given.
+#[tactic(auto, using(crate::proofs::Ordering::start_is))]
+fn start_at(region: &Region, members: &[Itv], numbers: &[Numbers], back: bool, k: usize) -> i64
+    requires are { AreNumbers region.now.region members.now (length members.now) numbers.now }
+    requires within { k < length members.now }
+    ensures { result ≡ (seen (side_of back) (bounds_of region.now.region (member_at members.now k))).est }
+{
+    let _ = region;
+    let _ = members;
+    start_of(back, numbers_at(numbers, k))
 }
 
 /// The members with their earliest starts on a side, not sorted yet.
@@ -154,15 +168,16 @@ fn starts(
     alloc: Global,
     region: &Region,
     members: &[Itv],
+    numbers: &[Numbers],
     back: bool,
 ) -> Result<Vec<Keyed>, NoMemory>
     requires few { length members.now ≤ 500 }
+    requires are { AreNumbers region.now.region members.now (length members.now) numbers.now }
     ensures { IfOk result (λ v. AreStarts (side_of back) region.now.region members.now (length members.now) v.items) }
 {
-    let look = region.look(None, None);
     let mut keyed = Vec::with_capacity(alloc, members.len())?;
     for k in 0..members.len() {
-        keyed.push(entry(start_of(back, bounds_at(&look, members[k])), k))?;
+        keyed.push(entry(start_at(region, members, numbers, back, k), k))?;
     }
     Ok(keyed)
 }
@@ -188,19 +203,47 @@ fn named(alloc: Global, members: &[Itv], keyed: &[Keyed]) -> Result<Vec<Itv>, No
     Ok(list)
 }
 
+/// The numbers at the places.
+#[tactic(auto, using(crate::proofs::Ordering::none_numbered, crate::proofs::Ordering::more_numbered, crate::proofs::Ordering::all_numbered))]
+fn numbered(alloc: Global, numbers: &[Numbers], keyed: &[Keyed]) -> Result<Vec<Numbers>, NoMemory>
+    requires { (k : ℕ) → k < length keyed.now → (keyed_at keyed.now k).place < length numbers.now }
+    ensures { IfOk result (λ v. AreNumbered numbers.now keyed.now (length keyed.now) v.items) }
+{
+    let mut list = Vec::with_capacity(alloc, keyed.len())?;
+    for k in 0..keyed.len() {
+        list.push(numbers_at(numbers, keyed[k].place as usize))?;
+    }
+    Ok(list)
+}
+
+/// Members in an order, and their numbers in the same one.
+#[derive(Debug, Drop)]
+pub struct Ordered {
+    pub members: Vec<Itv>,
+    pub numbers: Vec<Numbers>,
+}
+
 /// The members in the order of their earliest starts on a side.
 #[tactic(auto, using(crate::proofs::Ordering::starts_low, crate::proofs::Ordering::in_start_order, crate::proofs::Ordering::by_start))]
 pub fn by_start(
     alloc: Global,
     region: &Region,
     members: &[Itv],
+    numbers: &[Numbers],
     back: bool,
-) -> Result<Vec<Itv>, NoMemory>
+) -> Result<Ordered, NoMemory>
     requires few { length members.now ≤ 500 }
-    ensures moved { IfOk result (λ v. IsReordered members.now v.items) }
-    ensures sorted { IfOk result (λ v. IsByStart (side_of back) region.now.region v.items) }
+    requires are { AreNumbers region.now.region members.now (length members.now) numbers.now }
+    ensures moved { IfOk result (λ o. IsReordered members.now o.members.items) }
+    ensures sorted { IfOk result (λ o. IsByStart (side_of back) region.now.region o.members.items) }
+    ensures numbers { IfOk result (λ o. AreNumbers region.now.region o.members.items (length o.members.items) o.numbers.items) }
 {
-    let mut keyed = starts(alloc, region, members, back)?;
+    let mut keyed = starts(alloc, region, members, numbers, back)?;
     sort_all(&mut keyed);
-    named(alloc, members, &keyed)
+    let ordered = named(alloc, members, &keyed)?;
+    let along = numbered(alloc, numbers, &keyed)?;
+    Ok(Ordered {
+        members: ordered,
+        numbers: along,
+    })
 }

@@ -9,10 +9,12 @@ ghost use Rattle.prop_sets.specs.code.Sides.{NoFull, NoEdge, NoDetect, NoNotEnd,
 ghost use Rattle.task_sets.specs.Times.{IsSized};
 ghost use Rattle.theta_passes.specs.code.Rows.{row_at, times_at, IsNearRow, IsByEst};
 ghost use Rattle.theta_passes.specs.code.Late.{IsLow};
+ghost use Rattle.prop_sets.specs.code.Known.{AreNumbers};
 ghost use Rattle.prop_sets.specs.code.Given.{IsOf, IsRowed};
 ghost use Rattle.prop_sets.specs.code.Orders.{AreSpanned, IsByStart};
 
 use crate::answering::{answer_detect, answer_edge, answer_not_end, answer_overload};
+use crate::known::Numbers;
 use crate::numbers::rows_of;
 use crate::passes::{find_edge, find_late, find_overload};
 use findings::Finding;
@@ -24,12 +26,13 @@ use std::alloc::Global;
 use theta_passes::Row;
 
 /// A constraint without overlap: its number, its sequence and the members of this, in an order that
-/// the call names.
+/// the call names, with their numbers in the same order.
 #[derive(Clone, Copy)]
 pub struct Asked<'a> {
     pub c: u32,
     pub p: Seq,
     pub members: &'a [Itv],
+    pub numbers: &'a [Numbers],
 }
 
 #[tactic(auto, using(crate::proofs::Asking::rowed))]
@@ -42,11 +45,20 @@ fn rows_made(
     chosen: bool,
     early: bool,
 ) -> Result<Vec<Row>, NoMemory>
-    requires { IsOf model.now asked.now.c asked.now.p region.now.region asked.now.members.now }
+    requires is { IsOf model.now asked.now.c asked.now.p region.now.region asked.now.members.now }
+    requires numbers { AreNumbers region.now.region asked.now.members.now (length asked.now.members.now) asked.now.numbers.now }
     ensures { IfOk result (λ v. IsRowed model.now asked.now.c asked.now.p region.now.region asked.now.members.now back chosen early v.items) }
 {
     let _ = model;
-    rows_of(alloc, region, asked.members, chosen, back, early)
+    rows_of(
+        alloc,
+        region,
+        asked.members,
+        asked.numbers,
+        chosen,
+        back,
+        early,
+    )
 }
 
 /// The rows of the members.
@@ -61,6 +73,7 @@ fn rows_for(
     early: bool,
 ) -> Result<Vec<Row>, NoMemory>
     requires is { IsOf model.now asked.now.c asked.now.p region.now.region asked.now.members.now }
+    requires numbers { AreNumbers region.now.region asked.now.members.now (length asked.now.members.now) asked.now.numbers.now }
     requires few { length asked.now.members.now ≤ 500 }
     requires sorted { IsByStart (side_of back) region.now.region asked.now.members.now }
     ensures rowed { IfOk result (λ v. IsRowed model.now asked.now.c asked.now.p region.now.region asked.now.members.now back chosen early v.items) }
@@ -86,6 +99,7 @@ fn ask_edges(
     asked: &Asked<'_>,
 ) -> Result<Option<Finding<SeqWitness>>, NoMemory>
     requires is { IsOf model.now asked.now.c asked.now.p region.now.region asked.now.members.now }
+    requires numbers { AreNumbers region.now.region asked.now.members.now (length asked.now.members.now) asked.now.numbers.now }
     requires few { length asked.now.members.now ≤ 500 }
     requires sorted { IsByStart (side_of back) region.now.region asked.now.members.now }
     ensures none { IfOk result (λ o. IfNone o (NoEdge (side_of back) region.now.region asked.now.members.now)) }
@@ -122,6 +136,7 @@ fn ask_detects(
     asked: &Asked<'_>,
 ) -> Result<Option<Finding<SeqWitness>>, NoMemory>
     requires is { IsOf model.now asked.now.c asked.now.p region.now.region asked.now.members.now }
+    requires numbers { AreNumbers region.now.region asked.now.members.now (length asked.now.members.now) asked.now.numbers.now }
     requires few { length asked.now.members.now ≤ 500 }
     requires sorted { IsByStart (side_of back) region.now.region asked.now.members.now }
     ensures none { IfOk result (λ o. IfNone o (NoDetect (side_of back) region.now.region asked.now.members.now)) }
@@ -155,6 +170,7 @@ fn ask_not_ends(
     asked: &Asked<'_>,
 ) -> Result<Option<Finding<SeqWitness>>, NoMemory>
     requires is { IsOf model.now asked.now.c asked.now.p region.now.region asked.now.members.now }
+    requires numbers { AreNumbers region.now.region asked.now.members.now (length asked.now.members.now) asked.now.numbers.now }
     requires few { length asked.now.members.now ≤ 500 }
     requires sorted { IsByStart (side_of back) region.now.region asked.now.members.now }
     ensures none { IfOk result (λ o. IfNone o (NoNotEnd (side_of back) region.now.region asked.now.members.now)) }
@@ -187,6 +203,7 @@ fn ask_overload(
     asked: &Asked<'_>,
 ) -> Result<Option<Finding<SeqWitness>>, NoMemory>
     requires is { IsOf model.now asked.now.c asked.now.p region.now.region asked.now.members.now }
+    requires numbers { AreNumbers region.now.region asked.now.members.now (length asked.now.members.now) asked.now.numbers.now }
     requires few { length asked.now.members.now ≤ 500 }
     requires sorted { IsByStart 0 region.now.region asked.now.members.now }
     ensures none { IfOk result (λ o. IfNone o (NoFull 0 region.now.region asked.now.members.now)) }
@@ -212,7 +229,9 @@ fn ask_first(
     second: &Asked<'_>,
 ) -> Result<Option<Finding<SeqWitness>>, NoMemory>
     requires is { IsOf model.now first.now.c first.now.p region.now.region first.now.members.now }
+    requires numbers { AreNumbers region.now.region first.now.members.now (length first.now.members.now) first.now.numbers.now }
     requires also { IsOf model.now second.now.c second.now.p region.now.region second.now.members.now }
+    requires numbers_too { AreNumbers region.now.region second.now.members.now (length second.now.members.now) second.now.numbers.now }
     requires same { first.now.c ≡ second.now.c }
     requires few { length first.now.members.now ≤ 500 }
     requires few_too { length second.now.members.now ≤ 500 }
@@ -246,7 +265,9 @@ fn ask_later(
     second: &Asked<'_>,
 ) -> Result<Option<Finding<SeqWitness>>, NoMemory>
     requires is { IsOf model.now first.now.c first.now.p region.now.region first.now.members.now }
+    requires numbers { AreNumbers region.now.region first.now.members.now (length first.now.members.now) first.now.numbers.now }
     requires also { IsOf model.now second.now.c second.now.p region.now.region second.now.members.now }
+    requires numbers_too { AreNumbers region.now.region second.now.members.now (length second.now.members.now) second.now.numbers.now }
     requires same { first.now.c ≡ second.now.c }
     requires few { length first.now.members.now ≤ 500 }
     requires few_too { length second.now.members.now ≤ 500 }
@@ -283,7 +304,9 @@ pub fn ask_sides(
     second: &Asked<'_>,
 ) -> Result<Option<Finding<SeqWitness>>, NoMemory>
     requires is { IsOf model.now first.now.c first.now.p region.now.region first.now.members.now }
+    requires numbers { AreNumbers region.now.region first.now.members.now (length first.now.members.now) first.now.numbers.now }
     requires also { IsOf model.now second.now.c second.now.p region.now.region second.now.members.now }
+    requires numbers_too { AreNumbers region.now.region second.now.members.now (length second.now.members.now) second.now.numbers.now }
     requires same { first.now.c ≡ second.now.c }
     requires few { length first.now.members.now ≤ 500 }
     requires few_too { length second.now.members.now ≤ 500 }

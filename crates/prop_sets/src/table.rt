@@ -11,7 +11,7 @@ ghost use Rattle.findings.specs.code.Tables.{AreLists, members_in};
 ghost use Rattle.refute_seq.specs.OnSequence.{refutes};
 ghost use Rattle.prop_sets.specs.code.Tasks.{size_of, sequence_in, sequence_at, members_at, quiet, watching, watching_best, is_bound, is_bound_of};
 ghost use Rattle.prop_sets.specs.code.Tables.{IsFor};
-ghost use Rattle.prop_sets.specs.code.Known.{IsStill, AreUnknown};
+ghost use Rattle.prop_sets.specs.code.Known.{IsStill, AreUnknown, AreNumbers};
 
 use crate::known::{Numbers, is_remembered, numbers_in};
 use crate::orders::by_start;
@@ -111,7 +111,7 @@ fn unknown(alloc: Global, n: usize) -> Result<Vec<Option<List<Numbers>>>, NoMemo
     Ok(known)
 }
 
-/// What a round finds of the members of a sequence.
+/// What a round finds of the members of a sequence, whose numbers are given.
 #[tactic(auto, using(crate::proofs::Making::is_of))]
 fn ask_members(
     alloc: Global,
@@ -121,19 +121,31 @@ fn ask_members(
     later: bool,
     c: u32,
     p: Seq,
+    numbers: &[Numbers],
 ) -> Result<Option<Finding<SeqWitness>>, NoMemory>
     requires of { IsRegionOf model.now region.now.region }
     requires within { c < length model.now.constraints }
     requires sequence { sequence_at model.now c ≡ Some p }
+    requires are { AreNumbers region.now.region (members_of model.now p) (length (members_of model.now p)) numbers.now }
     ensures none { IfOk result (λ o. IfNone o (IsStill later region.now.region (members_of model.now p))) }
     ensures some { IfOk result (λ o. IfSome o (IsFinding refutes model.now region.now.region best)) }
     ensures busy { IfOk result (λ o. IfSome o (λ f. quiet later model.now c region.now.region best → ⊥)) }
 {
     let members = few_members(model, p);
-    let xs = by_start(alloc, region, members, false)?;
-    let ys = by_start(alloc, region, members, true)?;
-    let first = Asked { c, p, members: &xs };
-    let second = Asked { c, p, members: &ys };
+    let xs = by_start(alloc, region, members, numbers, false)?;
+    let ys = by_start(alloc, region, members, numbers, true)?;
+    let first = Asked {
+        c,
+        p,
+        members: &xs.members,
+        numbers: &xs.numbers,
+    };
+    let second = Asked {
+        c,
+        p,
+        members: &ys.members,
+        numbers: &ys.numbers,
+    };
     if let Some(found) = ask_sides(alloc, model, region, best, later, &first, &second)? {
         return Ok(Some(found));
     }
@@ -191,7 +203,8 @@ impl PropSets {
         if is_remembered(&self.known[i], &now) {
             return Ok(None);
         }
-        let Some(found) = ask_members(self.alloc, model, region, best, self.later, k, p)? else {
+        let Some(found) = ask_members(self.alloc, model, region, best, self.later, k, p, &now)?
+        else {
             self.known[i] = Some(List::from_vec(now));
             return Ok(None);
         };

@@ -6,7 +6,7 @@ use Rattle.region.specs.Cells.{Region, bounds_of}
 use Rattle.region.specs.Looks.{est_in, lct_in, lst_in, ect_in}
 use Rattle.theta_passes.specs.declared.rows.Presence.TheVariants as is
 use Rattle.prop_sets.specs.declared.known.Numbers.{Numbers}
-use Rattle.prop_sets.specs.code.Rows.{row_presence, member_at}
+use Rattle.prop_sets.specs.code.Rows.{row_presence, member_at, AreMoments}
 use Rattle.prop_sets.specs.code.Reordered.{IsReordered}
 use Rattle.prop_sets.specs.code.Sides.{IsSideQuiet}
 
@@ -16,10 +16,14 @@ numbers_of c = record { presence = row_presence c.presence; est = est_in c; lct 
 abbrev pub no_numbers : Numbers
 no_numbers = record { presence = is.Absent; est = pos 0; lct = pos 0; lst = pos 0; ect = pos 0; p = pos 0 }
 
+abbrev pub numbers_at : List Numbers → ℕ → Numbers
+numbers_at ns k = slice_index_or ns k no_numbers
+
 -- those of the first members in a region
 pub record AreNumbers (r : Region) (ms : List Itv) (n : ℕ) (ns : List Numbers) : Type 0 where
   pub size : length ns ≡ n
-  pub each : (k : ℕ) → k < n → slice_index_or ns k no_numbers ≡ numbers_of (bounds_of r (member_at ms k))
+  pub each : (k : ℕ) → k < n → numbers_at ns k ≡ numbers_of (bounds_of r (member_at ms k))
+  pub moments : (k : ℕ) → k < n → AreMoments (numbers_at ns k)
 
 -- a round finds nothing of members on either side, in some order of them
 pub record IsStill (later : Bool) (r : Region) (ms : List Itv) : Type 0 where

@@ -4,10 +4,12 @@ use Rattle.sched_base.specs.declared.ids.Itv.{Itv}
 use Rattle.region.specs.Cells.{Region, bounds_of}
 use Rattle.theta_passes.specs.declared.rows.Row.{Row}
 use Rattle.theta_passes.specs.code.Rows.{row_at, is_present, is_candidate}
+use Rattle.prop_sets.specs.declared.known.Numbers.{Numbers}
 use Rattle.prop_sets.specs.declared.orders.Keyed.{Keyed}
 use Rattle.prop_sets.specs.declared.orders.By.{By}
 use Rattle.prop_sets.specs.declared.orders.By.TheVariants as by
 use Rattle.prop_sets.specs.code.Rows.{seen, member_at}
+use Rattle.prop_sets.specs.code.Known.{numbers_at}
 use Rattle.prop_sets.specs.laws.Under.{IsMoment}
 
 abbrev pub no_place : Keyed
@@ -35,6 +37,11 @@ pub record ArePlaces (ks : List Keyed) (n : ℕ) (order : List ℕ) : Type 0 whe
 pub record AreNamed (xs : List Itv) (ks : List Keyed) (n : ℕ) (ys : List Itv) : Type 0 where
   pub size : length ys ≡ n
   pub each : (i : ℕ) → i < n → member_at ys i ≡ member_at xs (keyed_at ks i).place
+
+-- and their numbers
+pub record AreNumbered (ns : List Numbers) (ks : List Keyed) (n : ℕ) (zs : List Numbers) : Type 0 where
+  pub size : length zs ≡ n
+  pub each : (i : ℕ) → i < n → numbers_at zs i ≡ numbers_at ns (keyed_at ks i).place
 
 -- who is in an order, and by what it rises
 abbrev pub on_by : By → List Row → ℕ → Bool

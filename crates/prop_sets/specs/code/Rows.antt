@@ -1,6 +1,8 @@
 -- The numbers of members by which sets are looked for, one row for each member.
-use Rattle.std.specs.Prelude.{◌≡◌, ℕ, zero, suc, ◌<◌, Bool, true, false, List, length, slice_index_or}
+use Rattle.std.specs.Prelude.{◌≡◌, ℕ, zero, suc, ◌<◌, ◌+ℤ◌, ◌-ℤ◌, Bool, true, false, List, length, slice_index_or, IsTrue}
+use Rattle.std.specs.Int.{int_max, int_min}
 use Rattle.sched_base.specs.declared.ids.Itv.{Itv}
+use Rattle.sched_model.specs.Valid.{is_moment}
 use Rattle.region.specs.declared.types.Presence.{Presence}
 use Rattle.region.specs.declared.types.Presence.TheVariants as presence
 use Rattle.region.specs.declared.types.Bounds.{Bounds}
@@ -8,12 +10,14 @@ use Rattle.region.specs.declared.types.Claim.{Claim}
 use Rattle.region.specs.declared.types.Claim.TheVariants.{StartLe, EndGe}
 use Rattle.region.specs.Cells.{Region, bounds_of}
 use Rattle.region.specs.Claims.{guessed}
+use Rattle.region.specs.Looks.{is_shifted}
 use Rattle.task_sets.specs.Times.{Times, seen_in}
 use Rattle.refute_seq.specs.Sets.{times_in}
 use Rattle.theta_passes.specs.declared.rows.Row.{Row}
 use Rattle.theta_passes.specs.declared.rows.Presence.{Presence as RowPresence}
 use Rattle.theta_passes.specs.declared.rows.Presence.TheVariants as is
 use Rattle.theta_passes.specs.code.Rows.{row_at}
+use Rattle.prop_sets.specs.declared.known.Numbers.{Numbers}
 
 -- the guess that an interval starts as early as it can, or that it ends as late
 abbrev pub end_claim : Bool → Bounds → Claim
@@ -54,6 +58,32 @@ asked_row side early c = row_of c.presence (seen side (asked_bounds early c)) (s
 abbrev pub chosen_row : Bool → ℕ → Bool → Bounds → Row
 chosen_row true side early c = asked_row side early c
 chosen_row false side early c = plain_row side early c
+
+-- the same row, from the numbers of the interval alone, which tell those under the guess too
+abbrev pub asked_numbers : Bool → Numbers → Numbers
+asked_numbers true n = record n { lst = int_min n.est (n.lct -ℤ n.p) }
+asked_numbers false n = record n { ect = int_max n.lct (n.est +ℤ n.p) }
+
+abbrev pub times_from : ℕ → Numbers → Times
+times_from side n = seen_in side (record { est = n.est; lct = n.lct; lst = n.lst; ect = n.ect; p = n.p })
+
+abbrev pub row_with : RowPresence → Times → Times → Row
+row_with h t a = record { est = t.est; p = t.p; lst = t.lst; ect = t.ect; lct = t.lct; presence = h; bar = a.lst; reach = a.ect }
+
+abbrev pub row_by : ℕ → Numbers → Numbers → Row
+row_by side n a = row_with n.presence (times_from side n) (times_from side a)
+
+abbrev pub row_from : Bool → ℕ → Bool → Numbers → Row
+row_from true side early n = row_by side (asked_numbers early n) (asked_numbers early n)
+row_from false side early n = row_by side n (asked_numbers early n)
+
+-- moments, and the sum or the difference of a moment and a length
+pub record AreMoments (n : Numbers) : Type 0 where
+  pub est : IsTrue (is_moment n.est)
+  pub lct : IsTrue (is_moment n.lct)
+  pub p : IsTrue (is_moment n.p)
+  pub lst : IsTrue (is_shifted n.lst)
+  pub ect : IsTrue (is_shifted n.ect)
 
 -- the member at a place
 abbrev pub member_at : List Itv → ℕ → Itv

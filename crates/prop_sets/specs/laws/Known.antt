@@ -1,6 +1,5 @@
 -- Members with the same numbers have the same rows, and so nothing is found of them again.
-use Rattle.std.specs.Prelude.{◌≡◌, ℕ, zero, suc, ◌<◌, ℤ, ◌+ℤ◌, ◌-ℤ◌, Bool, true, false, List, [], length, Option, Some, None}
-use Rattle.std.specs.Int.{int_max, int_min}
+use Rattle.std.specs.Prelude.{◌≡◌, ℕ, zero, suc, ◌<◌, ℤ, Bool, true, false, List, [], length, Option, Some, None}
 use Rattle.std.proofs.Common.{refl, sym, ap, subst, ◌∙◌, arith, get_or, set, inl, inr}
 use Rattle.std.proofs.lemmas.Bool.{cases_eq}
 use Rattle.std.proofs.lemmas.List.{get_or-set_same, get_or-set_other, length-set}
@@ -13,12 +12,10 @@ use Rattle.region.specs.Cells.{Region, bounds_of}
 use Rattle.region.specs.Looks.{IsRegionOf}
 use Rattle.region.specs.Orders.{place_of}
 use Rattle.region.specs.laws.OneSequence.{place_within}
-use Rattle.task_sets.specs.Times.{Times, seen_in}
 use Rattle.theta_passes.specs.declared.rows.Row.{Row}
-use Rattle.theta_passes.specs.declared.rows.Presence.{Presence as RowPresence}
 use Rattle.prop_sets.specs.declared.known.Numbers.{Numbers}
 use Rattle.prop_sets.specs.code.Tasks.{quiet, sequence_at}
-use Rattle.prop_sets.specs.code.Rows.{chosen_row, member_at, AreRows, asks_early, asks_late}
+use Rattle.prop_sets.specs.code.Rows.{chosen_row, row_from, member_at, AreRows, asks_early, asks_late}
 use Rattle.prop_sets.specs.code.Reordered.{IsReordered}
 use Rattle.prop_sets.specs.code.Sides.{IsSideQuiet, NoFull, NoEdge, NoDetect, NoNotEnd}
 use Rattle.prop_sets.specs.code.Known.{numbers_of, AreNumbers, IsStill, IsKnown, IfKnown, AreKnown}
@@ -26,22 +23,8 @@ use Rattle.prop_sets.specs.laws.Members.{has_at, has_same}
 use Rattle.prop_sets.specs.laws.Placed.{stands_at}
 use Rattle.prop_sets.specs.laws.Silent.{sets_quiet}
 
--- the numbers under the guess that is asked about, and the row, from those without it
-abbrev asked_numbers : Bool → Numbers → Times
-asked_numbers true n = record { est = n.est; lct = n.lct; lst = int_min n.est (n.lct -ℤ n.p); ect = n.ect; p = n.p }
-asked_numbers false n = record { est = n.est; lct = n.lct; lst = n.lst; ect = int_max n.lct (n.est +ℤ n.p); p = n.p }
-
-abbrev plain_numbers : Numbers → Times
-plain_numbers n = record { est = n.est; lct = n.lct; lst = n.lst; ect = n.ect; p = n.p }
-
-abbrev with_guess : RowPresence → Times → Times → Row
-with_guess h t a = record { est = t.est; p = t.p; lst = t.lst; ect = t.ect; lct = t.lct; presence = h; bar = a.lst; reach = a.ect }
-
-abbrev row_from : Bool → ℕ → Bool → Numbers → Row
-row_from true side early n = with_guess n.presence (seen_in side (asked_numbers early n)) (seen_in side (asked_numbers early n))
-row_from false side early n = with_guess n.presence (seen_in side (plain_numbers n)) (seen_in side (asked_numbers early n))
-
-row_is : (chosen : Bool) (side : ℕ) (early : Bool) (c : Bounds) → chosen_row chosen side early c ≡ row_from chosen side early (numbers_of c)
+-- the row from the numbers
+pub row_is : (chosen : Bool) (side : ℕ) (early : Bool) (c : Bounds) → chosen_row chosen side early c ≡ row_from chosen side early (numbers_of c)
 row_is true side true c = refl
 row_is true side false c = refl
 row_is false side true c = refl
