@@ -2,10 +2,12 @@ ghost use Rattle.std.specs.Prelude.{◌≡◌, ℕ, ◌<◌, ◌≤◌, ℤ, len
 ghost use Rattle.task_sets.specs.Times.{overload_row};
 ghost use Rattle.task_sets.specs.laws.Cuts.{IsBelow};
 ghost use Rattle.theta_passes.specs.code.Rows.{row_at, is_candidate, is_present, times_at, IsNearRow, IsByEst};
+ghost use Rattle.theta_passes.specs.code.Parts.{part_has, GivesTop};
+ghost use Rattle.theta_passes.specs.declared.parts.Part.TheVariants.{Cut};
 ghost use Rattle.theta_passes.specs.code.Over.{Overfull, NoOverloads, OverPass};
 ghost use Rattle.theta_passes.specs.code.Late.{IsLateRow};
 ghost use Rattle.theta_passes.specs.code.Edge.{IsFound, IsOrder};
-ghost use Rattle.theta_passes.specs.code.Witnesses.{members_of, full_by, FullAt, FullCut, IsLateSet, IsEdgeSets, edge_by, EdgeAt, EdgeCut};
+ghost use Rattle.theta_passes.specs.code.Witnesses.{members_of, full_by, told_by, is_told, FullCut, IsLateSet, IsEdgeSets, edge_by, EdgeAt, EdgeCut};
 
 use crate::Row;
 use crate::parts::{Part, Top, set_from, top_of};
@@ -21,18 +23,45 @@ fn full_by(end: i64, top: Option<Top>) -> Option<usize>
     }
 }
 
-/// Where a set of the cut at a moment begins that overloads.
-#[tactic(auto, using(crate::proofs::shown::Showing::full_is))]
-fn full_at(rows: &[Row], with: Option<u32>, end: i64) -> Option<usize>
-    requires few { length rows.now ≤ 500 }
-    requires near { (k : ℕ) → IsNearRow (row_at rows.now k) }
-    requires sorted { IsByEst rows.now }
-    requires low { IsBelow (members_of rows.now with) (length rows.now) }
-    ensures { FullAt rows.now with end result }
-{
-    full_by(end, top_of(rows, Part::Cut(with, end)))
+/// The moment of a cut, and one by which each set of the cut may be over.
+#[derive(Clone, Copy, Debug)]
+pub struct Ended {
+    pub end: i64,
+    pub value: i64,
 }
 
+fn told_by(end: i64, top: Option<Top>) -> Option<Ended>
+    ensures { result ≡ told_by end top }
+{
+    let top = top?;
+    Some(Ended {
+        end,
+        value: top.value,
+    })
+}
+
+/// Whether a cut tells that no set overloads of the one at a moment, since it has all of its members.
+fn is_told(known: Option<Ended>, end: i64) -> bool
+    ensures { result ≡ is_told known end }
+{
+    match known {
+        None => false,
+        Some(cut) => end <= cut.end && cut.value <= end,
+    }
+}
+
+/// Where a set of the cut at a moment begins that completes latest.
+#[inline(always)]
+fn cut_top(rows: &[Row], with: Option<u32>, end: i64) -> Option<Top>
+    requires few { length rows.now ≤ 500 }
+    requires near { (k : ℕ) → IsNearRow (row_at rows.now k) }
+    ensures { GivesTop rows.now (part_has rows.now (Cut with end)) 0 result }
+{
+    top_of(rows, Part::Cut(with, end))
+}
+
+/// A cut of which a set overloads, and where that begins. Those that start last come first, since
+/// their cuts have more members and may tell of others.
 fn full_cut(rows: &[Row], with: Option<u32>) -> Option<(i64, usize)>
     requires few { length rows.now ≤ 500 }
     requires near { (k : ℕ) → IsNearRow (row_at rows.now k) }
@@ -40,11 +69,19 @@ fn full_cut(rows: &[Row], with: Option<u32>) -> Option<(i64, usize)>
     requires low { IsBelow (members_of rows.now with) (length rows.now) }
     ensures { FullCut rows.now with result }
 {
-    for m in 0..rows.len() {
+    let mut known = None;
+    let mut m = rows.len();
+    while m > 0 {
+        m -= 1;
         let end = rows[m].lct;
-        if let Some(first) = full_at(rows, with, end) {
+        if is_told(known, end) {
+            continue;
+        }
+        let top = cut_top(rows, with, end);
+        if let Some(first) = full_by(end, top) {
             return Some((end, first));
         }
+        known = told_by(end, top);
     }
     None
 }

@@ -1,12 +1,12 @@
 -- The sets of a finding make its row true.
-use Rattle.std.specs.Prelude.{◌≡◌, ℕ, ◌+◌, ◌<◌, ℤ, ◌≤ℤ◌, Bool, true, false, not, nat_eq, int_lt, cond, List, ◌∷◌, length, Option, Some, None, refl}
+use Rattle.std.specs.Prelude.{◌≡◌, ℕ, ◌+◌, ◌<◌, ◌≤◌, ℤ, ◌≤ℤ◌, Bool, true, false, not, nat_eq, int_le, int_lt, cond, List, ◌∷◌, length, Option, Some, None, refl}
 use Rattle.std.proofs.Common.{arith, sym, subst, ap, ◌∙◌, inl, inr}
 use Rattle.std.proofs.lemmas.Int.{ints}
-use Rattle.std.proofs.lemmas.Bool.{cases_eq, and_parts, or_right, or_left, not-true}
+use Rattle.std.proofs.lemmas.Bool.{cases_eq, and_from, and_parts, true≢false, or_right, or_left, not-true}
 use Rattle.base_laws.specs.laws.Truth.{three_true, all_three}
-use Rattle.task_sets.specs.Times.{has, lct_at, lst_at, ect_at, IsEct, in_cut, overload_row, detect_row, before_end}
+use Rattle.task_sets.specs.Times.{has, lct_at, lst_at, ect_at, IsWithin, IsEct, in_cut, overload_row, detect_row, before_end}
 use Rattle.task_sets.specs.laws.Sums.{has_first, self_eq}
-use Rattle.task_sets.specs.laws.Ects.{greatest_reached, le_holds, lt_holds, lt_true}
+use Rattle.task_sets.specs.laws.Ects.{greatest_reached, le_holds, le_true, lt_holds, lt_true}
 use Rattle.task_sets.specs.laws.Cuts.{IsBelow, overload_is, overload_cuts, cut_below}
 use Rattle.task_sets.specs.laws.NotEndCuts.{detect_not_ends}
 use Rattle.task_sets.specs.laws.Moved.{ends_alike}
@@ -14,11 +14,12 @@ use Rattle.task_sets.specs.laws.Witnesses.{detect_made}
 use Rattle.theta_passes.specs.declared.rows.Row.{Row}
 use Rattle.theta_passes.specs.declared.parts.Part.TheVariants.{Cut, Before}
 use Rattle.theta_passes.specs.declared.parts.Top.{Top}
+use Rattle.theta_passes.specs.declared.witnesses.Ended.{Ended}
 use Rattle.theta_passes.specs.code.Rows.{row_at, is_present, times_at, with_candidate, IsNearRow, IsByEst}
 use Rattle.theta_passes.specs.code.Over.{Overfull}
 use Rattle.theta_passes.specs.code.Late.{before_key, IsLateRow}
 use Rattle.theta_passes.specs.code.Parts.{part_has, IsTop, GivesTop}
-use Rattle.theta_passes.specs.code.Witnesses.{members_of, part_from, full_by, FullAt, FullCut, IsLateSet}
+use Rattle.theta_passes.specs.code.Witnesses.{members_of, part_from, full_by, told_by, is_told, AreEnded, FullAt, FullCut, IsLateSet}
 use Rattle.theta_passes.specs.laws.Members.{present_below, with_below}
 use Rattle.theta_passes.proofs.scans.Reached.{near_sized, top_reached, top_ect}
 
@@ -77,15 +78,44 @@ some_full rows with near over none =
     set_of None over = over
     set_of (Some i) over = (over.1, over.2)
 
-pub full_said : (rows : List Row) (with : Option ℕ) (l end : ℤ) (o : Option Top) (r : Option ℕ) → ((k : ℕ) → IsNearRow (row_at rows k)) → IsByEst rows → IsBelow (members_of rows with) (length rows) → l ≡ end → r ≡ full_by l o → GivesTop rows (part_has rows (Cut with l)) 0 o
-    → FullAt rows with end r
-full_said rows with l end o r near sorted low same is gives = subst (λ v. FullAt rows with v r) same (full_is rows with l o r near sorted low is gives)
+-- a cut tells of one at an earlier moment
+pub ended_is : (rows : List Row) (with : Option ℕ) (l end : ℤ) (o : Option Top) (known : Option Ended) → ((k : ℕ) → IsNearRow (row_at rows k)) → IsByEst rows → IsBelow (members_of rows with) (length rows) → l ≡ end → known ≡ told_by l o → GivesTop rows (part_has rows (Cut with end)) 0 o
+    → AreEnded rows with known
+ended_is rows with l end None known near sorted low same is gives = subst (AreEnded rows with) (sym is) tt
+ended_is rows with l end (Some b) known near sorted low same is gives = subst (AreEnded rows with) (sym is) (λ x xs set.
+    (top_ect rows (part_has rows (Cut with end)) b (near_sized rows near) sorted (cut_below (times_at rows) (members_of rows with) (length rows) end low) gives).greatest x xs
+    (subst (λ v. IsWithin (part_has rows (Cut with v)) x xs) same set))
 
-pub full_more : (rows : List Row) (with : Option ℕ) (m : ℕ) (l : ℤ) (r : Option ℕ) → l ≡ (row_at rows m).lct → r ≡ None → FullAt rows with l r → ((j : ℕ) → j < m → FullAt rows with (row_at rows j).lct None) → (j : ℕ) → j < m + 1 → FullAt rows with (row_at rows j).lct None
-full_more rows with m l r is none at before j below = elim (cases_eq j m) [
-  | inl same ↦ subst (λ k. FullAt rows with (row_at rows k).lct None) (sym same) (subst (λ v. FullAt rows with v None) is (subst (FullAt rows with l) none at))
-  | inr other ↦ before j (omega (arith, below, other))
+pub told_none : (rows : List Row) (with : Option ℕ) (end : ℤ) (known : Option Ended) → is_told known end ≡ true → AreEnded rows with known → FullAt rows with end None
+told_none rows with end None told all z ect = absurd (true≢false (sym told))
+told_none rows with end (Some c) told all z ect =
+    let both = and_parts (int_le end c.end) (int_le c.value end) told in
+    let set = ect.reached in
+    let later = le_holds end c.end both.0 in
+    let within : IsWithin (part_has rows (Cut with c.end)) set.0 set.1 = record {
+      rises = set.2.rises;
+      inside = λ y here.
+          let on = and_parts (members_of rows with y) (int_le (lct_at (times_at rows) y) end) (set.2.inside y here) in
+          let by = le_holds (lct_at (times_at rows) y) end on.1 in
+          and_from (members_of rows with y) (int_le (lct_at (times_at rows) y) c.end) on.0 (le_true (lct_at (times_at rows) y) c.end (omega (arith, ints, by, later)));
+    } in
+    let up = all set.0 set.1 within in
+    let same = set.3 in
+    let high = le_holds c.value end both.1 in
+    omega (arith, ints, up, same, high)
+
+-- so the cuts of the rows from one on are told, one after the other
+abbrev pub NoneFrom : List Row → Option ℕ → ℕ → Type 0
+NoneFrom rows with m = (j : ℕ) → m ≤ j → j < length rows → FullAt rows with (row_at rows j).lct None
+
+pub one_told : (rows : List Row) (with : Option ℕ) (k m : ℕ) (l : ℤ) → k + 1 ≡ m → l ≡ (row_at rows k).lct → FullAt rows with l None → NoneFrom rows with m → NoneFrom rows with k
+one_told rows with k m l next is none later j from below = elim (cases_eq j k) [
+  | inl same ↦ subst (λ i. FullAt rows with (row_at rows i).lct None) (sym same) (subst (λ v. FullAt rows with v None) is none)
+  | inr other ↦ later j (omega (arith, from, other, next)) below
 ]
+
+pub none_told : (rows : List Row) (with : Option ℕ) → NoneFrom rows with (length rows)
+none_told rows with j from below = absurd (omega (arith, from, below))
 
 pub no_full : (rows : List Row) (with : Option ℕ) (o : Option (ℤ × ℕ)) → ((k : ℕ) → IsNearRow (row_at rows k)) → Overfull rows with → o ≡ None → FullCut rows with o → ⊥
 no_full rows with o near over is cut = some_full rows with near over (subst (FullCut rows with) is cut)

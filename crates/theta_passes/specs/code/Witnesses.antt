@@ -1,11 +1,12 @@
 -- The sets that a finding is shown by, as places.
-use Rattle.std.specs.Prelude.{◌≡◌, ℕ, ◌-◌, ◌<◌, ℤ, ◌≤ℤ◌, Bool, true, ◌&&◌, int_lt, List, length, Option, Some, None, cond}
-use Rattle.task_sets.specs.Times.{Times, IsEct, IsEdgeCut, overload_row, edge_row, detect_row, not_end_row}
+use Rattle.std.specs.Prelude.{◌≡◌, ℕ, ◌-◌, ◌<◌, ℤ, ◌≤ℤ◌, Bool, true, false, ◌&&◌, int_le, int_lt, List, length, Option, Some, None, cond}
+use Rattle.task_sets.specs.Times.{Times, IsWithin, ends_at, IsEct, IsEdgeCut, overload_row, edge_row, detect_row, not_end_row}
 use Rattle.task_sets.specs.laws.Ects.{up_from, keep}
 use Rattle.theta_passes.specs.declared.rows.Row.{Row}
 use Rattle.theta_passes.specs.declared.parts.Part.{Part}
 use Rattle.theta_passes.specs.declared.parts.Part.TheVariants.{Cut}
 use Rattle.theta_passes.specs.declared.parts.Top.{Top}
+use Rattle.theta_passes.specs.declared.witnesses.Ended.{Ended}
 use Rattle.theta_passes.specs.code.Rows.{row_at, is_present, times_at, with_candidate, lct_in}
 use Rattle.theta_passes.specs.code.Parts.{members_with, part_has}
 use Rattle.theta_passes.specs.code.Quiet.{IsEdgeLook, IsLateLook}
@@ -21,6 +22,19 @@ part_from rows part x = keep (part_has rows part) (up_from x (length rows - x))
 abbrev pub full_by : ℤ → Option Top → Option ℕ
 full_by end None = None
 full_by end (Some b) = cond (int_lt end b.value) (Some b.place) None
+
+-- each set of a cut is over by a moment, which may tell of another cut
+abbrev pub told_by : ℤ → Option Top → Option Ended
+told_by end None = None
+told_by end (Some b) = Some (record { end = end; value = b.value })
+
+abbrev pub is_told : Option Ended → ℤ → Bool
+is_told None end = false
+is_told (Some c) end = int_le end c.end && int_le c.value end
+
+abbrev pub AreEnded : List Row → Option ℕ → Option Ended → Type 0
+AreEnded rows with None = Unit {0}
+AreEnded rows with (Some c) = (x : ℕ) (xs : List ℕ) → IsWithin (part_has rows (Cut with c.end)) x xs → ends_at (times_at rows) x xs ≤ℤ c.value
 
 -- a set of the cut at a moment overloads, or the cut completes by then
 abbrev pub FullAt : List Row → Option ℕ → ℤ → Option ℕ → Type 0
