@@ -1,8 +1,9 @@
 //! Whether heights fall along all arcs that a look shows. No arc is collected for it, and an order is
 //! read only where the heights don't suffice by themselves.
-ghost use Rattle.std.specs.Prelude.{◌≡◌, ◌||◌, ◌&&◌, not, int_le, true, false, Some, slice_get};
+ghost use Rattle.std.specs.Prelude.{◌≡◌, ◌<◌, ◌+ℤ◌, ◌-ℤ◌, pos, ◌||◌, ◌&&◌, not, int_le, int_lt, true, false, Some, length, slice_get, IsTrue};
+ghost use Rattle.sched_model.specs.Valid.{is_moment};
 ghost use Rattle.region.specs.Looks.{IsRegionOf};
-ghost use Rattle.region.specs.Cells.{is_there};
+ghost use Rattle.region.specs.Cells.{bounds_of, is_there};
 ghost use Rattle.refute_basic.specs.Standing.{precedes};
 ghost use Rattle.refute_basic.specs.laws.Walks.{AllLose};
 ghost use Rattle.prop_temporal.specs.code.Members.{members_at, light_in};
@@ -146,11 +147,48 @@ fn precedence_falls(model: &Model, look: &Look<'_>, heights: &[i64], u: u32) -> 
     falls(model, look, heights, named(0, u, 0)) && falls(model, look, heights, named(0, u, 1))
 }
 
+fn minus(size: i64) -> i64
+    requires { IsTrue (is_moment size) }
+    ensures { result ≡ pos 0 -ℤ size }
+{
+    0 - size
+}
+
+/// Whether these sizes allow these heights of a start and an end.
+fn fit_sizes(least: i64, greatest: i64, start: i64, end: i64) -> bool
+    requires { IsTrue (is_moment greatest) }
+    ensures { result ≡ (not (int_lt start (least +ℤ end)) && not (int_lt end ((pos 0 -ℤ greatest) +ℤ start))) }
+{
+    if is_late(least, end, start) {
+        return false;
+    }
+    !is_late(minus(greatest), start, end)
+}
+
+/// Whether the sizes of an interval allow these heights of its start and its end, or it isn't present.
+/// Mostly they do, so that its presence is read last.
+fn sizes_fall(look: &Look<'_>, x: Itv, start: i64, end: i64) -> bool
+    requires { x.0 < length look.now.region.bounds }
+    ensures { result ≡ ((not (int_lt start ((bounds_of look.now.region x).pmin +ℤ end)) && not (int_lt end ((pos 0 -ℤ (bounds_of look.now.region x).pmax) +ℤ start))) || not (is_there look.now.region x)) }
+{
+    if fit_sizes(look.pmin(x), look.pmax(x), start, end) {
+        return true;
+    }
+    !is_there(look, x)
+}
+
+/// The same along the arcs of the least and of the greatest size of an interval.
 fn interval_falls(model: &Model, look: &Look<'_>, heights: &[i64], x: u32) -> bool
-    requires { IsRegionOf model.now look.now.region }
+    requires { x < length look.now.region.bounds }
     ensures { result ≡ true → FallsAlong model.now look.now.region (height_in heights.now) (IsOfInterval x) }
 {
-    falls(model, look, heights, named(1, x, 0)) && falls(model, look, heights, named(2, x, 0))
+    let point = 2 * (x as usize);
+    sizes_fall(
+        look,
+        Itv(x),
+        height(heights, point),
+        height(heights, point + 1),
+    )
 }
 
 fn constraint_falls(model: &Model, look: &Look<'_>, heights: &[i64], u: u32) -> bool

@@ -1,5 +1,5 @@
 -- Heights are tested along one name after another.
-use Rattle.std.specs.Prelude.{◌≡◌, ℕ, ◌+◌, ◌*◌, ◌<◌, ◌≤◌, ℤ, pos, ◌+ℤ◌, ◌≤ℤ◌, Bool, true, false, not, ◌&&◌, ◌||◌, List, [], length, get_or, Option, Some, None, is_none, option_and_then, if◌then◌else◌, slice_get, int_le}
+use Rattle.std.specs.Prelude.{◌≡◌, ℕ, ◌+◌, ◌*◌, ◌<◌, ◌≤◌, ℤ, pos, ◌+ℤ◌, ◌-ℤ◌, ◌≤ℤ◌, Bool, true, false, not, ◌&&◌, ◌||◌, List, [], length, get_or, Option, Some, None, is_none, option_and_then, if◌then◌else◌, slice_get, int_le, int_lt}
 use Rattle.std.proofs.Common.{inl, inr, refl, sym, ap, subst, ◌∙◌, arith, take}
 use Rattle.std.proofs.lemmas.Bool.{true≢false}
 use Rattle.std.proofs.lemmas.Int.{ints}
@@ -9,14 +9,15 @@ use Rattle.sched_base.specs.declared.ids.Seq.{Seq}
 use Rattle.sched_base.specs.declared.ids.Mat.{Mat}
 use Rattle.sched_model.specs.declared.types.Constraint.{Constraint}
 use Rattle.sched_model.specs.declared.types.Constraint.TheVariants.{NoOverlap}
+use Rattle.sched_model.specs.declared.types.End.{End}
 use Rattle.sched_model.specs.declared.types.End.TheVariants.{Start, Finish}
 use Rattle.sched_model.specs.Data.{Data, gap}
-use Rattle.region.specs.Cells.{Region, is_there}
+use Rattle.region.specs.Cells.{Region, bounds_of, is_there}
 use Rattle.region.specs.Looks.{IsRegionOf}
-use Rattle.region.specs.laws.Lists.{true_both}
+use Rattle.region.specs.laws.Lists.{both_true, true_both}
 use Rattle.refute_basic.specs.declared.arc_name.ArcName.{ArcName}
 use Rattle.refute_basic.specs.Standing.{precedes, stand}
-use Rattle.refute_basic.specs.Cycle.{itv, edge, along, edge_of}
+use Rattle.refute_basic.specs.Cycle.{point, itv, edge, edge_if, along, edge_of}
 use Rattle.refute_basic.specs.laws.Cycle.{no_edge, chosen}
 use Rattle.refute_basic.specs.laws.Told.{AreTold, told}
 use Rattle.refute_basic.specs.laws.Walks.{AllLose}
@@ -24,8 +25,28 @@ use Rattle.prop_temporal.specs.code.Members.{members_at, light_in}
 use Rattle.prop_temporal.specs.code.Shown.{member_name, OfConstraint, IsOfConstraint, IsOfInterval, IsOfOrder, IsOfOrderFrom, IsOfSide, IsOfSideOf}
 use Rattle.prop_temporal.specs.code.Heights.{Falls, FallsAlong}
 use Rattle.prop_temporal.specs.laws.Named.{ordered, tried_all}
-use Rattle.prop_temporal.specs.laws.Kinds.{side_next, side_among, order_next, order_among}
+use Rattle.prop_temporal.specs.laws.Kinds.{interval_names, side_next, side_among, order_next, order_among}
 use Rattle.base_laws.specs.laws.Numbers.{below_or_last}
+
+-- along those of an interval
+pub falls_sizes : (m : Data) (r : Region) (h : ℕ → ℤ) (x : ℕ) → ((not (int_lt (h (2 * x)) ((bounds_of r (itv x)).pmin +ℤ h (2 * x + 1))) && not (int_lt (h (2 * x + 1)) ((pos 0 -ℤ (bounds_of r (itv x)).pmax) +ℤ h (2 * x)))) || not (is_there r (itv x))) ≡ true → FallsAlong m r h (IsOfInterval x)
+falls_sizes m r h x low i of e shown = elim (interval_names m r i e x of shown) [
+  | inl is ↦ by_size Start Finish (bounds_of r (itv x)).pmin (λ there. on_time (h (2 * x)) ((bounds_of r (itv x)).pmin +ℤ h (2 * x + 1)) (both_true _ _ (fallen there)).0) (ap (edge_of m r) (sym is) ∙ shown)
+  | inr is ↦ by_size Finish Start (pos 0 -ℤ (bounds_of r (itv x)).pmax) (λ there. on_time (h (2 * x + 1)) ((pos 0 -ℤ (bounds_of r (itv x)).pmax) +ℤ h (2 * x)) (both_true _ _ (fallen there)).1) (ap (edge_of m r) (sym is) ∙ shown)
+]
+  where
+    on_time : (t w : ℤ) → not (int_lt t w) ≡ true → w ≤ℤ t
+    on_time t w h = grind (arith, ints)
+
+    left : (a b : Bool) → b ≡ true → (a || not b) ≡ true → a ≡ true
+    left true b there h = refl
+    left false b there h = absurd (true≢false (sym h ∙ ap not there))
+
+    fallen : is_there r (itv x) ≡ true → (not (int_lt (h (2 * x)) ((bounds_of r (itv x)).pmin +ℤ h (2 * x + 1))) && not (int_lt (h (2 * x + 1)) ((pos 0 -ℤ (bounds_of r (itv x)).pmax) +ℤ h (2 * x)))) ≡ true
+    fallen there = left _ (is_there r (itv x)) there low
+
+    by_size : (from to : End) (w : ℤ) → (is_there r (itv x) ≡ true → (w +ℤ h (point to (itv x))) ≤ℤ h (point from (itv x))) → edge_if (is_there r (itv x)) (edge from (itv x) w to (itv x)) ≡ Some e → (e.weight +ℤ h e.head) ≤ℤ h e.tail
+    by_size from to w fall shown = let two = chosen (is_there r (itv x)) (edge from (itv x) w to (itv x)) e shown in rw two.1 (fall two.0)
 
 -- along the one of two members
 not_told : (r : Region) (p : Seq) (x y : Itv) → stand r p x y ≡ true → not (precedes r p x y && is_there r y) ≡ false
