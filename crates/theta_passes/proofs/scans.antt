@@ -1,4 +1,5 @@
 pub mod CutScans
+pub mod Lowest
 pub mod OneMore
 pub mod Reached
 pub mod Scanned

@@ -2,7 +2,7 @@ ghost use Rattle.std.specs.Prelude.{◌≡◌, ℕ, ◌<◌, ◌≤◌, ◌+ℤ�
 ghost use Rattle.std.specs.Int.{int_max};
 ghost use Rattle.theta_passes.specs.code.Rows.{row_at, is_candidate, IsNearRow, IsByEst};
 ghost use Rattle.theta_passes.specs.code.Parts.{part_has, GivesTop};
-ghost use Rattle.theta_passes.specs.code.Late.{LateAt, LateCandidate, LatePass, late_by};
+ghost use Rattle.theta_passes.specs.code.Late.{LateAt, LateCandidate, LatePass, late_by, with_row, is_free, AreLows};
 ghost use Rattle.theta_passes.specs.declared.parts.Part.TheVariants.{Before, Cut};
 ghost use Rattle.theta_passes.specs.code.Edge.{is_pushed, is_over_with, FoundBy, FoundOrNone, IsMember, IsOrder, PassOrNone};
 
@@ -60,6 +60,61 @@ fn is_found(rows: &[Row], i: u32) -> bool
     is_late(rows, i)
 }
 
+/// The two least of the latest starts of those present that were seen, and where the least stands.
+#[derive(Clone, Copy, Debug)]
+pub struct Lows {
+    pub place: usize,
+    pub first: i64,
+    pub second: i64,
+}
+
+fn with_row(lows: Lows, row: Row, k: usize) -> Lows
+    ensures { result ≡ with_row lows row k }
+{
+    if row.presence != Presence::Present {
+        return lows;
+    }
+    if row.lst < lows.first {
+        return Lows {
+            place: k,
+            first: row.lst,
+            second: lows.first,
+        };
+    }
+    if row.lst < lows.second {
+        return Lows {
+            second: row.lst,
+            ..lows
+        };
+    }
+    lows
+}
+
+#[tactic(auto, using(crate::proofs::scans::Lowest::none_low, crate::proofs::scans::Lowest::more_low))]
+fn lows_of(rows: &[Row]) -> Lows
+    ensures { AreLows rows.now (length rows.now) result }
+{
+    let mut lows = Lows {
+        place: 0,
+        first: i64::MAX,
+        second: i64::MAX,
+    };
+    for k in 0..rows.len() {
+        lows = with_row(lows, rows[k], k);
+    }
+    lows
+}
+
+/// Whether nobody else must start before a member can end.
+fn is_free(lows: Lows, row: Row, k: usize) -> bool
+    ensures { result ≡ is_free lows row k }
+{
+    if k == lows.place {
+        return row.reach <= lows.second;
+    }
+    row.reach <= lows.first
+}
+
 /// What `late_pass` finds, without a tree: of few members it is the sooner one.
 #[tactic(auto, using(crate::proofs::scans::Scanned::none_scanned, crate::proofs::scans::Scanned::more_scanned, crate::proofs::scans::Scanned::all_scanned, crate::proofs::scans::Scanned::scan_found))]
 pub fn late_scan(rows: &[Row]) -> Option<u32>
@@ -68,7 +123,11 @@ pub fn late_scan(rows: &[Row]) -> Option<u32>
     requires sorted { IsByEst rows.now }
     ensures { LatePass rows.now result }
 {
+    let lows = lows_of(rows);
     for k in 0..rows.len() {
+        if is_free(lows, rows[k], k) {
+            continue;
+        }
         let i = k as u32;
         if is_found(rows, i) {
             return Some(i);

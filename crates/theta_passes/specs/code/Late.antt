@@ -1,11 +1,12 @@
 -- The pass of NOTEND and DETECT: the members that must start before one can end.
-use Rattle.std.specs.Prelude.{Bool, List, None, Option, Some, false, int_lt, length, nat_eq, neg_ℤ, not, pos, slice_index_or, true, ℕ, ℤ, ◌&&◌, ◌<ℤ◌, ◌<◌, ◌≡◌, ◌≤ℤ◌, ◌≤◌}
+use Rattle.std.specs.Prelude.{Bool, List, None, Option, Some, cond, false, int_le, int_lt, length, nat_eq, neg_ℤ, not, pos, slice_index_or, true, ℕ, ℤ, ◌&&◌, ◌<ℤ◌, ◌<◌, ◌≡◌, ◌≤ℤ◌, ◌≤◌}
 use Rattle.task_sets.specs.Times.{IsEct}
 use Rattle.thetatree.specs.code.Leaves.{Leaves, colour_at}
 use Rattle.thetatree.specs.declared.leaves.Colour.TheVariants.{White}
 use Rattle.theta_passes.specs.code.Rows.{is_candidate, is_present, row_at, says_present, times_at}
 use Rattle.theta_passes.specs.declared.rows.Row.{Row}
 use Rattle.theta_passes.specs.declared.parts.Top.{Top}
+use Rattle.theta_passes.specs.declared.scan.Lows.{Lows}
 
 abbrev pub before_key : List Row → ℕ → ℕ → Bool
 before_key rows i y = is_present rows y && not (nat_eq y i) && int_lt (row_at rows y).lst (row_at rows i).reach
@@ -47,6 +48,18 @@ NoneScanned rows n = (k : ℕ) → k < n → LateCandidate rows k false
 abbrev pub late_by : ℤ → Option Top → Bool
 late_by bar None = false
 late_by bar (Some b) = int_lt bar b.value
+
+-- the two least of the latest starts of those present among the first rows, and where the least stands
+abbrev pub with_row : Lows → Row → ℕ → Lows
+with_row l r k = cond (says_present r.presence) (cond (int_lt r.lst l.first) (record { place = k; first = r.lst; second = l.first }) (cond (int_lt r.lst l.second) (record { place = l.place; first = l.first; second = r.lst }) l)) l
+
+pub record AreLows (rows : List Row) (n : ℕ) (l : Lows) : Type 0 where
+  pub least : (y : ℕ) → y < n → is_present rows y ≡ true → l.first ≤ℤ (row_at rows y).lst
+  pub next : (y : ℕ) → y < n → is_present rows y ≡ true → nat_eq y l.place ≡ false → l.second ≤ℤ (row_at rows y).lst
+
+-- whether nobody else must start before a member can end
+abbrev pub is_free : Lows → Row → ℕ → Bool
+is_free l r k = cond (nat_eq k l.place) (int_le r.reach l.second) (int_le r.reach l.first)
 
 abbrev pub GivesLate : List Row → ℕ → Option ℤ → Type 0
 GivesLate rows i None = (y : ℕ) → before_key rows i y ≡ true → ⊥
