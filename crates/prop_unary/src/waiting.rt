@@ -80,22 +80,30 @@ fn can_noted_wait(region: &Region, p: Seq, members: &[Itv], keys: &mut [Keys]) -
     can_all_wait(region, p, members, keys)
 }
 
-/// The most members that a short sequence has, and that the room here takes.
+/// The most members that a short sequence has, and that any has of which something is said.
 const FEW: usize = 16;
 
 const MANY: usize = 64;
 
-/// Whether all that PAIR finds now of a sequence without overlap and without distances, whose members
-/// these are, can wait. Each two are compared once. Of a longer sequence than the room takes nothing
-/// is said to.
-pub fn can_wait(region: &Region, p: Seq, members: &[Itv]) -> bool {
-    if members.len() <= FEW {
-        let mut keys = [Keys::ABSENT; FEW];
-        return can_noted_wait(region, p, members, &mut keys);
-    }
-    if members.len() > MANY {
-        return false;
-    }
+fn can_few_wait(region: &Region, p: Seq, members: &[Itv]) -> bool
+    requires { length members.now ≤ 16 }
+{
+    let mut keys = [Keys::ABSENT; FEW];
+    can_noted_wait(region, p, members, &mut keys)
+}
+
+fn can_many_wait(region: &Region, p: Seq, members: &[Itv]) -> bool
+    requires { length members.now ≤ 64 }
+{
     let mut keys = [Keys::ABSENT; MANY];
     can_noted_wait(region, p, members, &mut keys)
+}
+
+/// Whether all that PAIR finds now of a sequence without overlap and without distances, whose members
+/// these are, can wait. Each two are compared once. Of a long sequence nothing is said to.
+pub fn can_wait(region: &Region, p: Seq, members: &[Itv]) -> bool {
+    if members.len() <= FEW {
+        return can_few_wait(region, p, members);
+    }
+    members.len() <= MANY && can_many_wait(region, p, members)
 }
