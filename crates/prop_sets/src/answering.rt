@@ -9,7 +9,8 @@ ghost use Rattle.prop_sets.specs.code.Rows.{member_at, side_of};
 ghost use Rattle.prop_sets.specs.code.Busy.{IsBusy, IsNext, IsNextOf, name_at, ids_of};
 
 use crate::passes::{Behind, Cut};
-use findings::{Finding, Likely, ask, ask_likely};
+use crate::reaches::Reaching;
+use findings::{Finding, ask, ask_by};
 use refute_seq::{Few, OnSequence, SeqWitness};
 use region::Region;
 use sched_base::{Itv, NoMemory};
@@ -36,15 +37,15 @@ fn answer(
     Some(Finding { guess, witness: w })
 }
 
-/// The same where one guess on the member is likely the one, so that it is asked about first.
+/// The same where the sets tell how far the guess can likely be moved.
 #[tactic(auto, using(crate::proofs::Answered::never_unrefuted, crate::proofs::Answered::never_quiet))]
-fn answer_likely(
+fn answer_reaching(
     model: &Model,
     region: &Region,
     best: Option<i64>,
     c: u32,
     i: Itv,
-    likely: Likely,
+    far: u64,
     w: SeqWitness,
 ) -> Option<Finding<SeqWitness>>
     requires of { IsRegionOf model.now region.now.region }
@@ -53,16 +54,15 @@ fn answer_likely(
     ensures some { IfSome result (IsFinding refutes model.now region.now.region best) }
     ensures busy { (later : Bool) → looks_after later model.now c w ≡ true → IfSome result (λ f. quiet later model.now c region.now.region best → ⊥) }
 {
-    let guess = ask_likely::<OnSequence>(model, region, best, &w, &[i], &[], likely)?;
+    let test = Reaching {
+        model,
+        region,
+        best,
+        witness: &w,
+        far,
+    };
+    let guess = ask_by(&test, region, &[i], &[])?;
     Some(Finding { guess, witness: w })
-}
-
-/// The guess that a row is made under: that a member starts as early as it can, or ends as late.
-fn guess_on(early: bool, i: Itv) -> Likely {
-    if early {
-        return Likely::StartsLater(i);
-    }
-    Likely::EndsSooner(i)
 }
 
 /// The member at a place.
@@ -147,6 +147,7 @@ pub fn answer_overload(
     Ok(answer(model, region, best, c, i, SeqWitness::Overload { c, s }))
 }
 
+/// What a set gives that a member must come behind, by how far the guess can likely be moved.
 pub fn answer_detect(
     alloc: Global,
     model: &Model,
@@ -156,6 +157,7 @@ pub fn answer_detect(
     back: bool,
     members: &[Itv],
     found: &Behind,
+    far: u64,
 ) -> Result<Option<Finding<SeqWitness>>, NoMemory>
     requires of { IsRegionOf model.now region.now.region }
     requires busy { IsBusy model.now region.now.region best (member_at members.now found.now.place) (witness.Detect c (side_of back) (name_at members.now found.now.place) (ids_of members.now found.now.set.items (length model.now.intervals))) }
@@ -171,10 +173,10 @@ pub fn answer_detect(
         i: i.0,
         s,
     };
-    let likely = guess_on(!back, i);
-    Ok(answer_likely(model, region, best, c, i, likely, w))
+    Ok(answer_reaching(model, region, best, c, i, far, w))
 }
 
+/// What a set gives that a member can't come behind all of.
 pub fn answer_not_end(
     alloc: Global,
     model: &Model,
@@ -184,6 +186,7 @@ pub fn answer_not_end(
     back: bool,
     members: &[Itv],
     found: &Behind,
+    far: u64,
 ) -> Result<Option<Finding<SeqWitness>>, NoMemory>
     requires of { IsRegionOf model.now region.now.region }
     requires busy { IsBusy model.now region.now.region best (member_at members.now found.now.place) (witness.NotEnd c (side_of back) (name_at members.now found.now.place) (ids_of members.now found.now.set.items (length model.now.intervals))) }
@@ -199,10 +202,10 @@ pub fn answer_not_end(
         i: i.0,
         s,
     };
-    let likely = guess_on(back, i);
-    Ok(answer_likely(model, region, best, c, i, likely, w))
+    Ok(answer_reaching(model, region, best, c, i, far, w))
 }
 
+/// What a set gives that a member must come behind all of, by its parts.
 pub fn answer_edge(
     alloc: Global,
     model: &Model,
@@ -212,6 +215,7 @@ pub fn answer_edge(
     back: bool,
     members: &[Itv],
     found: &Cut,
+    far: u64,
 ) -> Result<Option<Finding<SeqWitness>>, NoMemory>
     requires of { IsRegionOf model.now region.now.region }
     requires busy { IsBusy model.now region.now.region best (member_at members.now found.now.place) (witness.Edge c (side_of back) (name_at members.now found.now.place) (ids_of members.now found.now.s.items (length model.now.intervals)) (ids_of members.now found.now.u.items (length model.now.intervals)) (ids_of members.now found.now.v.items (length model.now.intervals))) }
@@ -231,8 +235,7 @@ pub fn answer_edge(
         u,
         v,
     };
-    let likely = guess_on(!back, i);
-    Ok(answer_likely(model, region, best, c, i, likely, w))
+    Ok(answer_reaching(model, region, best, c, i, far, w))
 }
 
 /// The side of a row.

@@ -8,6 +8,7 @@ mod known;
 mod numbers;
 mod orders;
 mod passes;
+mod reaches;
 mod sides;
 mod table;
 

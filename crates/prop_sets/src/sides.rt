@@ -17,6 +17,7 @@ use crate::answering::{answer_detect, answer_edge, answer_not_end, answer_overlo
 use crate::known::Numbers;
 use crate::numbers::rows_of;
 use crate::passes::{find_edge, find_late, find_overload};
+use crate::reaches::{end_reach, start_reach};
 use findings::Finding;
 use refute_seq::SeqWitness;
 use region::Region;
@@ -111,6 +112,7 @@ fn ask_edges(
         return answer_overload(alloc, model, region, best, asked.c, asked.members, &found);
     }
     if let Some(found) = find_edge(alloc, &rows)? {
+        let far = start_reach(&rows, &found.v, found.place);
         return answer_edge(
             alloc,
             model,
@@ -120,6 +122,7 @@ fn ask_edges(
             back,
             asked.members,
             &found,
+            far,
         );
     }
     Ok(None)
@@ -145,6 +148,7 @@ fn ask_detects(
 {
     let rows = rows_for(alloc, model, region, asked, back, false, !back)?;
     if let Some(found) = find_late(alloc, &rows)? {
+        let far = start_reach(&rows, &found.set, found.place);
         return answer_detect(
             alloc,
             model,
@@ -154,6 +158,7 @@ fn ask_detects(
             back,
             asked.members,
             &found,
+            far,
         );
     }
     Ok(None)
@@ -179,6 +184,7 @@ fn ask_not_ends(
 {
     let rows = rows_for(alloc, model, region, asked, back, false, back)?;
     if let Some(found) = find_late(alloc, &rows)? {
+        let far = end_reach(&rows, &found.set, found.place);
         return answer_not_end(
             alloc,
             model,
@@ -188,6 +194,7 @@ fn ask_not_ends(
             back,
             asked.members,
             &found,
+            far,
         );
     }
     Ok(None)

@@ -3,11 +3,11 @@ use Rattle.prop_sets.specs.code.Busy.{ids_of}
 use Rattle.prop_sets.proofs.Answered.{detect_by, itself}
 use Rattle.prop_sets.proofs.answering.answer_detect.Goals as goal
 
-pub answer_likely-requires-clause-busy : goal.answer_likely-requires-clause-busy
-answer_likely-requires-clause-busy c =
+pub answer_reaching-requires-clause-busy : goal.answer_reaching-requires-clause-busy
+answer_reaching-requires-clause-busy c =
     let ids : List ℕ → List ℕ = λ l. ids_of c.args.members.now l (length c.args.model.now.intervals) in
     detect_by _ _ _ _ _ (length c.args.model.now.intervals) _ _ _ c.args.members.now c.args.found.now.set.items _ c.member_at-i.ensures c.side_of.ensures
     (c.in_ok-s.ensures ∙ ap ids c.deref.ensures.value) c.requires.busy
 
 pub returns-clause-busy : goal.returns-clause-busy
-returns-clause-busy c = c.answer_likely.ensures.busy false (itself c.args.c)
+returns-clause-busy c = c.answer_reaching.ensures.busy false (itself c.args.c)
