@@ -96,9 +96,9 @@ impl Sources {
         put(&mut self.into, way.second, way)
     }
 
-    /// The ways that move the points of an interval.
-    fn movers(&self, x: Itv) -> &[Way] {
-        let ways = match self.side {
+    /// The ways that move the points of an interval to this side.
+    fn movers(&self, x: Itv, side: Side) -> &[Way] {
+        let ways = match side {
             Side::Later => at(&self.into, x.0 as usize),
             Side::Earlier => at(&self.out_of, x.0 as usize),
         };
@@ -108,17 +108,29 @@ impl Sources {
         }
     }
 
+    /// Whether others still move the points from which a way moves its own.
+    pub fn are_moving(&self, region: &Region, way: Way) -> bool {
+        strongest(region, self.movers(way.first, Side::Later), Side::Later, 0).is_some()
+            || strongest(
+                region,
+                self.movers(way.second, Side::Earlier),
+                Side::Earlier,
+                0,
+            )
+            .is_some()
+    }
+
     /// A way that moves the point from which this one moves, or moves the same interval by more.
     fn source(&self, region: &Region, way: Way) -> Option<Way> {
         let (mover, moved) = match self.side {
             Side::Later => (way.first, way.second),
             Side::Earlier => (way.second, way.first),
         };
-        if let Some(before) = strongest(region, self.movers(mover), self.side, 0) {
+        if let Some(before) = strongest(region, self.movers(mover, self.side), self.side, 0) {
             return Some(before);
         }
         let push = push_of(region, way, self.side);
-        strongest(region, self.movers(moved), self.side, push)
+        strongest(region, self.movers(moved, self.side), self.side, push)
     }
 
     /// Begins at a goal, or goes on where it is that of the last call.

@@ -17,7 +17,7 @@ use crate::ends::ask_constraint;
 use crate::sources::Sources;
 use crate::touching::touching_of;
 use crate::walks::Walks;
-use crate::ways::{moves_nothing, way_of};
+use crate::ways::{Way, moves_nothing, way_of};
 use findings::Finding;
 use refute_basic::BasicWitness;
 use region::{CellName, Region};
@@ -219,7 +219,8 @@ impl PropTemporal {
     }
 
     /// Whether what it finds now, if it finds anything, can wait until others are quiet: all that it
-    /// finds follows from the least sizes alone.
+    /// finds follows from the least sizes alone. Where others still move the points from which it moves
+    /// its own, it is asked all the same, since it then tells what the first of these find.
     pub fn can_wait(&self, k: u32, model: &Model, region: &Region) -> bool {
         if k == 0 {
             return false;
@@ -227,13 +228,17 @@ impl PropTemporal {
         let Some(way) = way_of(model, k - 1, 0) else {
             return false;
         };
-        if !moves_nothing(region, way) {
+        if !self.is_idle(region, way) {
             return false;
         }
         match way_of(model, k - 1, 1) {
             None => true,
-            Some(back) => moves_nothing(region, back),
+            Some(back) => self.is_idle(region, back),
         }
+    }
+
+    fn is_idle(&self, region: &Region, way: Way) -> bool {
+        moves_nothing(region, way) && !self.sources.are_moving(region, way)
     }
 
     /// The intervals whose presence it watches.
