@@ -36,6 +36,8 @@ def solve(model, pipe):
 
 def measure(name, work):
     model = os.path.join(HERE, "models", name + ".cpo")
+    if not os.path.exists(model):
+        sys.exit(f"there is no model {name}")
     pipe, log = os.path.join(work, "pipe"), os.path.join(work, "log")
     before, after, checking = [], [], []
     os.mkfifo(pipe)
