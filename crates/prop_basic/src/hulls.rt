@@ -95,11 +95,13 @@ impl<'a> GuessTest for HullTest<'a> {
 }
 
 /// The tree of an expression, and the place among its intervals where the next search begins: that
-/// of the last finding, so that those before it aren't asked again for each finding.
+/// of the last finding, so that those before it aren't asked again for each finding. It is calm where
+/// nothing was found last.
 #[derive(Debug, Drop)]
 pub struct Scan {
     tree: HullTree,
     place: usize,
+    calm: bool,
 }
 
 impl std::marker::Model for Scan {
@@ -115,7 +117,16 @@ impl Scan {
         ensures { IfOk result (IsTreeOf e.now) }
     {
         let tree = HullTree::new(alloc, e)?;
-        Ok(Scan { tree, place: 0 })
+        Ok(Scan {
+            tree,
+            place: 0,
+            calm: false,
+        })
+    }
+
+    /// Whether nothing was found when it was asked last.
+    pub fn is_calm(&self) -> bool {
+        self.calm
     }
 
     /// The intervals that the expression names, each once.
@@ -214,7 +225,9 @@ pub fn ask_tree(
     ensures busy { IfSome result (λ guess. AreUnrefuted (misses model.now region.now.region expression.now goal) region.now.region tree.new.intervals [] → ⊥) }
 {
     tree.tree.evaluate(model, region);
-    let found = find(&tree.tree, model, region, expression, goal, tree.place)?;
+    let found = find(&tree.tree, model, region, expression, goal, tree.place);
+    tree.calm = found.is_none();
+    let found = found?;
     tree.place = place_of(tree.tree.intervals(), found);
     Some(found)
 }

@@ -38,6 +38,13 @@ impl std::marker::Model for PropBasic {
     ghost invariant = { λ p. length p.intervals.items + length p.trees.items < 2 ^ 31 };
 }
 
+fn is_calm(tree: &Option<Scan>) -> bool {
+    match tree {
+        None => false,
+        Some(tree) => tree.is_calm(),
+    }
+}
+
 /// The first intervals by their numbers.
 #[tactic(auto, using(crate::proofs::Making::numbered_none, crate::proofs::Making::numbered_more))]
 fn first_intervals(alloc: Global, n: u32) -> Result<Vec<Itv>, NoMemory>
@@ -162,13 +169,22 @@ impl PropBasic {
     }
 
     /// Whether it finds nothing now, or what it finds can wait: the earliest end and the latest start
-    /// that the least size leaves.
+    /// that the least size leaves. The objective and an expression of which nothing was found last
+    /// mostly stay so, and to ask them costs a walk for each guess: they wait.
     pub fn can_wait(&self, k: u32, model: &Model, region: &Region) -> bool {
         let _ = model;
-        if k == 0 || k as usize > self.intervals.len() {
-            return false;
+        let n = self.intervals.len();
+        let i = k as usize;
+        if i == 0 {
+            return is_calm(&self.objective);
         }
-        can_size_wait(region, k - 1)
+        if i <= n {
+            return can_size_wait(region, k - 1);
+        }
+        match self.trees.get(i - 1 - n) {
+            None => false,
+            Some(tree) => is_calm(tree),
+        }
     }
 
     /// The intervals that have a cell which it watches.

@@ -1,5 +1,5 @@
-use Rattle.std.specs.Prelude.{◌≡◌, length, []}
-use Rattle.std.proofs.Common.{drop, subst, take, ◌-◌}
+use Rattle.std.specs.Prelude.{[]}
+use Rattle.std.proofs.Common.{subst}
 use Rattle.std.proofs.lemmas.List.{take_rest}
 use Rattle.findings.specs.code.Reads.{AreUnrefuted}
 use Rattle.prop_basic.proofs.Asked.{none_by, some_by}
