@@ -1,5 +1,5 @@
 //! The numbers of members, by which it is known again that nothing is found of them.
-ghost use Rattle.std.specs.Prelude.{◌≡◌, true, length, Some, IfOk};
+ghost use Rattle.std.specs.Prelude.{◌≡◌, ◌<◌, true, length, set, Some, OnOk};
 ghost use Rattle.region.specs.Looks.{HasMoments};
 ghost use Rattle.prop_sets.specs.code.Rows.{AreMoments};
 ghost use Rattle.prop_sets.specs.code.Known.{numbers_of, AreNumbers};
@@ -36,17 +36,17 @@ fn numbers_of(c: Bounds) -> Numbers
     }
 }
 
-/// Those of each member.
+/// Puts those of each member in the place of others.
 #[tactic(auto, using(crate::proofs::Remembering::no_numbers, crate::proofs::Remembering::more_numbers, crate::proofs::Remembering::all_numbers))]
-pub fn numbers_in(alloc: Global, region: &Region, members: &[Itv]) -> Result<Vec<Numbers>, NoMemory>
-    ensures { IfOk result (λ v. AreNumbers region.now.region members.now (length members.now) v.items) }
+pub fn numbers_in(region: &Region, members: &[Itv], list: &mut Vec<Numbers>) -> Result<(), NoMemory>
+    ensures { OnOk result (AreNumbers region.now.region members.now (length members.now) list.new.items) }
 {
     let look = region.look(None, None);
-    let mut list = Vec::with_capacity(alloc, members.len())?;
+    list.clear();
     for k in 0..members.len() {
         list.push(numbers_of(bounds_at(&look, members[k])))?;
     }
-    Ok(list)
+    Ok(())
 }
 
 fn is_same_presence(a: Presence, b: Presence) -> bool
@@ -91,5 +91,22 @@ pub fn is_remembered(known: &Option<List<Numbers>>, now: &[Numbers]) -> bool
     match known {
         None => false,
         Some(old) => are_same(old.as_slice(), now),
+    }
+}
+
+/// Remembers numbers at a place. The list that was remembered there is what the next numbers are put in.
+pub fn remember(
+    alloc: Global,
+    known: &mut Vec<Option<List<Numbers>>>,
+    i: usize,
+    numbers: &mut Vec<Numbers>,
+)
+    requires { i < length known.old.items }
+    ensures { known.new.items ≡ set known.old.items i (Some numbers.old.items) }
+{
+    let now = std::mem::replace(numbers, Vec::new(alloc));
+    let old = std::mem::replace(&mut known[i], Some(List::from_vec(now)));
+    if let Some(list) = old {
+        *numbers = list.into_vec();
     }
 }

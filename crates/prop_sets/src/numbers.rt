@@ -1,5 +1,5 @@
 //! The numbers of members by which sets are looked for.
-ghost use Rattle.std.specs.Prelude.{◌≡◌, ◌<◌, ◌≤◌, ◌+ℤ◌, ◌-ℤ◌, neg_ℤ, IsTrue, IfOk, length};
+ghost use Rattle.std.specs.Prelude.{◌≡◌, ◌<◌, ◌≤◌, ◌+ℤ◌, ◌-ℤ◌, neg_ℤ, IsTrue, OnOk, length};
 ghost use Rattle.std.specs.Int.{int_max, int_min};
 ghost use Rattle.sched_model.specs.Valid.{is_moment};
 ghost use Rattle.region.specs.Cells.{bounds_of, unknown};
@@ -10,7 +10,6 @@ ghost use Rattle.prop_sets.specs.code.Known.{numbers_at, AreNumbers};
 use crate::known::Numbers;
 use region::{Bounds, Look, Presence, Region};
 use sched_base::{Itv, NoMemory};
-use std::alloc::Global;
 use theta_passes::{Presence as RowPresence, Row};
 
 /// The greater of a moment and a sum of two.
@@ -199,23 +198,23 @@ fn row_of(
     row_from(chosen, back, early, numbers_at(numbers, k))
 }
 
-/// One row for each member, from their numbers.
+/// Puts one row for each member, from their numbers.
 #[tactic(auto, using(crate::proofs::Noted::no_rows, crate::proofs::Noted::more_rows, crate::proofs::Noted::all_rows))]
 pub fn rows_of(
-    alloc: Global,
+    rows: &mut Vec<Row>,
     region: &Region,
     members: &[Itv],
     numbers: &[Numbers],
     chosen: bool,
     back: bool,
     early: bool,
-) -> Result<Vec<Row>, NoMemory>
+) -> Result<(), NoMemory>
     requires { AreNumbers region.now.region members.now (length members.now) numbers.now }
-    ensures { IfOk result (λ v. AreRows (chosen_row chosen (side_of back) early) region.now.region members.now v.items) }
+    ensures { OnOk result (AreRows (chosen_row chosen (side_of back) early) region.now.region members.now rows.new.items) }
 {
-    let mut rows = Vec::with_capacity(alloc, numbers.len())?;
+    rows.clear();
     for k in 0..numbers.len() {
         rows.push(row_of(region, members, numbers, chosen, back, early, k))?;
     }
-    Ok(rows)
+    Ok(())
 }

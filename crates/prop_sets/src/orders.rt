@@ -1,5 +1,5 @@
 //! Members and places in the orders that the passes ask for.
-ghost use Rattle.std.specs.Prelude.{◌≡◌, ℕ, ◌<◌, ◌≤◌, neg_ℤ, length, IfOk};
+ghost use Rattle.std.specs.Prelude.{◌≡◌, ℕ, ◌<◌, ◌≤◌, neg_ℤ, length, OnOk};
 ghost use Rattle.std.specs.List.Sorted.{IsPermutation};
 ghost use Rattle.region.specs.Cells.{bounds_of};
 ghost use Rattle.theta_passes.specs.code.Rows.{row_at};
@@ -100,43 +100,48 @@ fn entry(key: i64, k: usize) -> Keyed
 
 /// The places of an order with their keys, not sorted yet.
 #[tactic(auto, using(crate::proofs::Ordering::none_keyed, crate::proofs::Ordering::one_keyed, crate::proofs::Ordering::one_off))]
-fn keyed_by(alloc: Global, rows: &[Row], by: By) -> Result<Vec<Keyed>, NoMemory>
+fn keyed_by(keyed: &mut Vec<Keyed>, rows: &[Row], by: By) -> Result<(), NoMemory>
     requires few { length rows.now ≤ 500 }
     requires spanned { AreSpanned rows.now }
-    ensures { IfOk result (λ v. AreKeyed (on_by by rows.now) (key_by by rows.now) (length rows.now) v.items) }
+    ensures { OnOk result (AreKeyed (on_by by rows.now) (key_by by rows.now) (length rows.now) keyed.new.items) }
 {
-    let mut keyed = Vec::with_capacity(alloc, rows.len())?;
+    keyed.clear();
     for k in 0..rows.len() {
         if !is_on(by, rows, k) {
             continue;
         }
         keyed.push(entry(key_of(by, rows, k), k))?;
     }
-    Ok(keyed)
+    Ok(())
 }
 
 /// The places alone.
 #[tactic(auto, using(crate::proofs::Ordering::no_places, crate::proofs::Ordering::more_places, crate::proofs::Ordering::all_places))]
-fn places(alloc: Global, keyed: &[Keyed]) -> Result<Vec<u32>, NoMemory>
-    ensures { IfOk result (λ v. ArePlaces keyed.now (length keyed.now) v.items) }
+fn places(order: &mut Vec<u32>, keyed: &[Keyed]) -> Result<(), NoMemory>
+    ensures { OnOk result (ArePlaces keyed.now (length keyed.now) order.new.items) }
 {
-    let mut order = Vec::with_capacity(alloc, keyed.len())?;
+    order.clear();
     for k in 0..keyed.len() {
         order.push(keyed[k].place)?;
     }
-    Ok(order)
+    Ok(())
 }
 
-/// The places of rows in an order.
+/// Puts the places of rows in an order.
 #[tactic(auto, using(crate::proofs::Ordering::in_order))]
-pub fn order_by(alloc: Global, rows: &[Row], by: By) -> Result<Vec<u32>, NoMemory>
+pub fn order_by(
+    keyed: &mut Vec<Keyed>,
+    order: &mut Vec<u32>,
+    rows: &[Row],
+    by: By,
+) -> Result<(), NoMemory>
     requires few { length rows.now ≤ 500 }
     requires spanned { AreSpanned rows.now }
-    ensures { IfOk result (λ v. IsOrderBy by rows.now v.items) }
+    ensures { OnOk result (IsOrderBy by rows.now order.new.items) }
 {
-    let mut keyed = keyed_by(alloc, rows, by)?;
-    sort_all(&mut keyed);
-    places(alloc, &keyed)
+    keyed_by(keyed, rows, by)?;
+    sort_all(keyed);
+    places(order, keyed)
 }
 
 /// The earliest start on a side, of the numbers of an interval.
@@ -165,21 +170,21 @@ fn start_at(region: &Region, members: &[Itv], numbers: &[Numbers], back: bool, k
 /// The members with their earliest starts on a side, not sorted yet.
 #[tactic(auto, using(crate::proofs::Ordering::no_starts, crate::proofs::Ordering::more_starts, crate::proofs::Ordering::all_starts))]
 fn starts(
-    alloc: Global,
+    keyed: &mut Vec<Keyed>,
     region: &Region,
     members: &[Itv],
     numbers: &[Numbers],
     back: bool,
-) -> Result<Vec<Keyed>, NoMemory>
+) -> Result<(), NoMemory>
     requires few { length members.now ≤ 500 }
     requires are { AreNumbers region.now.region members.now (length members.now) numbers.now }
-    ensures { IfOk result (λ v. AreStarts (side_of back) region.now.region members.now (length members.now) v.items) }
+    ensures { OnOk result (AreStarts (side_of back) region.now.region members.now (length members.now) keyed.new.items) }
 {
-    let mut keyed = Vec::with_capacity(alloc, members.len())?;
+    keyed.clear();
     for k in 0..members.len() {
         keyed.push(entry(start_at(region, members, numbers, back, k), k))?;
     }
-    Ok(keyed)
+    Ok(())
 }
 
 /// The member at a place.
@@ -192,28 +197,28 @@ fn member_at(members: &[Itv], k: u32) -> Itv
 
 /// The members at the places.
 #[tactic(auto, using(crate::proofs::Ordering::no_named, crate::proofs::Ordering::more_named, crate::proofs::Ordering::all_named))]
-fn named(alloc: Global, members: &[Itv], keyed: &[Keyed]) -> Result<Vec<Itv>, NoMemory>
+fn named(list: &mut Vec<Itv>, members: &[Itv], keyed: &[Keyed]) -> Result<(), NoMemory>
     requires { (k : ℕ) → k < length keyed.now → (keyed_at keyed.now k).place < length members.now }
-    ensures { IfOk result (λ v. AreNamed members.now keyed.now (length keyed.now) v.items) }
+    ensures { OnOk result (AreNamed members.now keyed.now (length keyed.now) list.new.items) }
 {
-    let mut list = Vec::with_capacity(alloc, keyed.len())?;
+    list.clear();
     for k in 0..keyed.len() {
         list.push(member_at(members, keyed[k].place))?;
     }
-    Ok(list)
+    Ok(())
 }
 
 /// The numbers at the places.
 #[tactic(auto, using(crate::proofs::Ordering::none_numbered, crate::proofs::Ordering::more_numbered, crate::proofs::Ordering::all_numbered))]
-fn numbered(alloc: Global, numbers: &[Numbers], keyed: &[Keyed]) -> Result<Vec<Numbers>, NoMemory>
+fn numbered(list: &mut Vec<Numbers>, numbers: &[Numbers], keyed: &[Keyed]) -> Result<(), NoMemory>
     requires { (k : ℕ) → k < length keyed.now → (keyed_at keyed.now k).place < length numbers.now }
-    ensures { IfOk result (λ v. AreNumbered numbers.now keyed.now (length keyed.now) v.items) }
+    ensures { OnOk result (AreNumbered numbers.now keyed.now (length keyed.now) list.new.items) }
 {
-    let mut list = Vec::with_capacity(alloc, keyed.len())?;
+    list.clear();
     for k in 0..keyed.len() {
         list.push(numbers_at(numbers, keyed[k].place as usize))?;
     }
-    Ok(list)
+    Ok(())
 }
 
 /// Members in an order, and their numbers in the same one.
@@ -223,27 +228,35 @@ pub struct Ordered {
     pub numbers: Vec<Numbers>,
 }
 
-/// The members in the order of their earliest starts on a side.
+impl Ordered {
+    /// None of them.
+    pub fn new(alloc: Global) -> Ordered {
+        Ordered {
+            members: Vec::new(alloc),
+            numbers: Vec::new(alloc),
+        }
+    }
+}
+
+/// Puts the members in the order of their earliest starts on a side.
 #[tactic(auto, using(crate::proofs::Ordering::starts_low, crate::proofs::Ordering::in_start_order, crate::proofs::Ordering::by_start))]
 pub fn by_start(
-    alloc: Global,
+    keyed: &mut Vec<Keyed>,
+    ordered: &mut Ordered,
     region: &Region,
     members: &[Itv],
     numbers: &[Numbers],
     back: bool,
-) -> Result<Ordered, NoMemory>
+) -> Result<(), NoMemory>
     requires few { length members.now ≤ 500 }
     requires are { AreNumbers region.now.region members.now (length members.now) numbers.now }
-    ensures moved { IfOk result (λ o. IsReordered members.now o.members.items) }
-    ensures sorted { IfOk result (λ o. IsByStart (side_of back) region.now.region o.members.items) }
-    ensures numbers { IfOk result (λ o. AreNumbers region.now.region o.members.items (length o.members.items) o.numbers.items) }
+    ensures moved { OnOk result (IsReordered members.now ordered.new.members.items) }
+    ensures sorted { OnOk result (IsByStart (side_of back) region.now.region ordered.new.members.items) }
+    ensures numbers { OnOk result (AreNumbers region.now.region ordered.new.members.items (length ordered.new.members.items) ordered.new.numbers.items) }
 {
-    let mut keyed = starts(alloc, region, members, numbers, back)?;
-    sort_all(&mut keyed);
-    let ordered = named(alloc, members, &keyed)?;
-    let along = numbered(alloc, numbers, &keyed)?;
-    Ok(Ordered {
-        members: ordered,
-        numbers: along,
-    })
+    starts(keyed, region, members, numbers, back)?;
+    sort_all(keyed);
+    named(&mut ordered.members, members, keyed)?;
+    numbered(&mut ordered.numbers, numbers, keyed)?;
+    Ok(())
 }

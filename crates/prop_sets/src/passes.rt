@@ -8,7 +8,7 @@ ghost use Rattle.theta_passes.specs.code.Late.{LatePass, IsLow};
 ghost use Rattle.prop_sets.specs.code.Orders.{AreSpanned};
 ghost use Rattle.prop_sets.specs.code.Busy.{IsOverFound, IsEdgeFound, IsLateFound};
 
-use crate::orders::{By, order_by};
+use crate::orders::{By, Keyed, order_by};
 use sched_base::NoMemory;
 use std::alloc::Global;
 use theta_passes::edge::edge_pass;
@@ -103,7 +103,8 @@ fn over_by_tree(alloc: Global, rows: &[Row]) -> Result<Option<Option<u32>>, NoMe
     requires spanned { AreSpanned rows.now }
     ensures { IfOk result (OverPass rows.now) }
 {
-    let order = order_by(alloc, rows, By::Falling)?;
+    let (mut keyed, mut order) = (Vec::new(alloc), Vec::new(alloc));
+    order_by(&mut keyed, &mut order, rows, By::Falling)?;
     let mut tree = tree_of(alloc, rows)?;
     start_over(&mut tree, rows);
     Ok(over_pass(&mut tree, rows, &order))
@@ -200,7 +201,12 @@ fn cut_member(alloc: Global, rows: &[Row], order: &[u32]) -> Result<Option<u32>,
 
 /// A member that some cut finds, or none finds any.
 #[tactic(auto, using(crate::proofs::Shown::is_cut_order, crate::proofs::Shown::found_within))]
-pub fn find_edge(alloc: Global, rows: &[Row]) -> Result<Option<Cut>, NoMemory>
+pub fn find_edge(
+    alloc: Global,
+    keyed: &mut Vec<Keyed>,
+    order: &mut Vec<u32>,
+    rows: &[Row],
+) -> Result<Option<Cut>, NoMemory>
     requires few { length rows.now ≤ 500 }
     requires near { (k : ℕ) → IsNearRow (row_at rows.now k) }
     requires sized { IsSized (times_at rows.now) }
@@ -210,11 +216,11 @@ pub fn find_edge(alloc: Global, rows: &[Row]) -> Result<Option<Cut>, NoMemory>
     ensures some { IfOk result (λ o. IfSome o (λ c. IsEdgeFound rows.now c.place c.s.items c.u.items c.v.items)) }
     ensures none { IfOk result (λ o. IfNone o (PassOrNone rows.now None)) }
 {
-    let order = order_by(alloc, rows, By::FallingPresent)?;
-    let Some(i) = cut_member(alloc, rows, &order)? else {
+    order_by(keyed, order, rows, By::FallingPresent)?;
+    let Some(i) = cut_member(alloc, rows, order)? else {
         return Ok(None);
     };
-    let found = shown_edge(alloc, rows, &order, i)?;
+    let found = shown_edge(alloc, rows, order, i)?;
     Ok(Some(found))
 }
 
@@ -243,7 +249,8 @@ fn late_by_tree(alloc: Global, rows: &[Row]) -> Result<Option<u32>, NoMemory>
     requires low { IsLow rows.now }
     ensures { IfOk result (LatePass rows.now) }
 {
-    let order = order_by(alloc, rows, By::Rising)?;
+    let (mut keyed, mut order) = (Vec::new(alloc), Vec::new(alloc));
+    order_by(&mut keyed, &mut order, rows, By::Rising)?;
     let mut tree = tree_of(alloc, rows)?;
     start_late(&mut tree, rows);
     Ok(late_pass(&mut tree, rows, &order))

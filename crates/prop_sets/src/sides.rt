@@ -1,5 +1,5 @@
 //! What is found of a sequence on one side.
-ghost use Rattle.std.specs.Prelude.{◌≡◌, ℕ, ◌≤◌, true, false, length, IfOk, IfNone, IfSome};
+ghost use Rattle.std.specs.Prelude.{◌≡◌, ℕ, ◌≤◌, true, false, length, IfOk, OnOk, IfNone, IfSome};
 ghost use Rattle.region.specs.Looks.{IsRegionOf};
 ghost use Rattle.findings.specs.Found.{IsFinding};
 ghost use Rattle.refute_seq.specs.OnSequence.{refutes};
@@ -16,6 +16,7 @@ ghost use Rattle.prop_sets.specs.code.Orders.{AreSpanned, IsByStart};
 use crate::answering::{answer_detect, answer_edge, answer_not_end, answer_overload};
 use crate::known::Numbers;
 use crate::numbers::rows_of;
+use crate::orders::Keyed;
 use crate::passes::{find_edge, find_late, find_overload};
 use crate::reaches::{end_reach, start_reach};
 use findings::Finding;
@@ -36,23 +37,42 @@ pub struct Asked<'a> {
     pub numbers: &'a [Numbers],
 }
 
+/// Memory for what is asked, which each call uses again.
+#[derive(Drop)]
+pub struct Spare {
+    pub rows: Vec<Row>,
+    /// Places that are sorted, and the order of them.
+    pub keyed: Vec<Keyed>,
+    pub order: Vec<u32>,
+}
+
+impl Spare {
+    pub fn new(alloc: Global) -> Spare {
+        Spare {
+            rows: Vec::new(alloc),
+            keyed: Vec::new(alloc),
+            order: Vec::new(alloc),
+        }
+    }
+}
+
 #[tactic(auto, using(crate::proofs::Asking::rowed))]
 fn rows_made(
-    alloc: Global,
+    rows: &mut Vec<Row>,
     model: &Model,
     region: &Region,
     asked: &Asked<'_>,
     back: bool,
     chosen: bool,
     early: bool,
-) -> Result<Vec<Row>, NoMemory>
+) -> Result<(), NoMemory>
     requires is { IsOf model.now asked.now.c asked.now.p region.now.region asked.now.members.now }
     requires numbers { AreNumbers region.now.region asked.now.members.now (length asked.now.members.now) asked.now.numbers.now }
-    ensures { IfOk result (λ v. IsRowed model.now asked.now.c asked.now.p region.now.region asked.now.members.now back chosen early v.items) }
+    ensures { OnOk result (IsRowed model.now asked.now.c asked.now.p region.now.region asked.now.members.now back chosen early rows.new.items) }
 {
     let _ = model;
     rows_of(
-        alloc,
+        rows,
         region,
         asked.members,
         asked.numbers,
@@ -62,31 +82,31 @@ fn rows_made(
     )
 }
 
-/// The rows of the members.
+/// Puts the rows of the members.
 #[tactic(auto, using(crate::proofs::Asking::few_rowed))]
 fn rows_for(
-    alloc: Global,
+    rows: &mut Vec<Row>,
     model: &Model,
     region: &Region,
     asked: &Asked<'_>,
     back: bool,
     chosen: bool,
     early: bool,
-) -> Result<Vec<Row>, NoMemory>
+) -> Result<(), NoMemory>
     requires is { IsOf model.now asked.now.c asked.now.p region.now.region asked.now.members.now }
     requires numbers { AreNumbers region.now.region asked.now.members.now (length asked.now.members.now) asked.now.numbers.now }
     requires few { length asked.now.members.now ≤ 500 }
     requires sorted { IsByStart (side_of back) region.now.region asked.now.members.now }
-    ensures rowed { IfOk result (λ v. IsRowed model.now asked.now.c asked.now.p region.now.region asked.now.members.now back chosen early v.items) }
-    ensures few { IfOk result (λ v. length v.items ≤ 500) }
-    ensures near { IfOk result (λ v. (k : ℕ) → IsNearRow (row_at v.items k)) }
-    ensures sized { IfOk result (λ v. IsSized (times_at v.items)) }
-    ensures sorted { IfOk result (λ v. IsByEst v.items) }
-    ensures spanned { IfOk result (λ v. AreSpanned v.items) }
-    ensures low { IfOk result (λ v. IsLow v.items) }
+    ensures rowed { OnOk result (IsRowed model.now asked.now.c asked.now.p region.now.region asked.now.members.now back chosen early rows.new.items) }
+    ensures few { OnOk result (length rows.new.items ≤ 500) }
+    ensures near { OnOk result ((k : ℕ) → IsNearRow (row_at rows.new.items k)) }
+    ensures sized { OnOk result (IsSized (times_at rows.new.items)) }
+    ensures sorted { OnOk result (IsByEst rows.new.items) }
+    ensures spanned { OnOk result (AreSpanned rows.new.items) }
+    ensures low { OnOk result (IsLow rows.new.items) }
 {
-    let rows = rows_made(alloc, model, region, asked, back, chosen, early)?;
-    Ok(rows)
+    rows_made(rows, model, region, asked, back, chosen, early)?;
+    Ok(())
 }
 
 /// OVERLOAD and EDGE.
@@ -98,6 +118,7 @@ fn ask_edges(
     best: Option<i64>,
     back: bool,
     asked: &Asked<'_>,
+    spare: &mut Spare,
 ) -> Result<Option<Finding<SeqWitness>>, NoMemory>
     requires is { IsOf model.now asked.now.c asked.now.p region.now.region asked.now.members.now }
     requires numbers { AreNumbers region.now.region asked.now.members.now (length asked.now.members.now) asked.now.numbers.now }
@@ -107,12 +128,13 @@ fn ask_edges(
     ensures some { IfOk result (λ o. IfSome o (IsFinding refutes model.now region.now.region best)) }
     ensures busy { IfOk result (λ o. IfSome o (λ f. quiet true model.now asked.now.c region.now.region best → ⊥)) }
 {
-    let rows = rows_for(alloc, model, region, asked, back, true, !back)?;
-    if let Some(found) = find_overload(alloc, &rows)? {
+    let rows = &mut spare.rows;
+    rows_for(rows, model, region, asked, back, true, !back)?;
+    if let Some(found) = find_overload(alloc, rows)? {
         return answer_overload(alloc, model, region, best, asked.c, asked.members, &found);
     }
-    if let Some(found) = find_edge(alloc, &rows)? {
-        let far = start_reach(&rows, &found.v, found.place);
+    if let Some(found) = find_edge(alloc, &mut spare.keyed, &mut spare.order, rows)? {
+        let far = start_reach(rows, &found.v, found.place);
         return answer_edge(
             alloc,
             model,
@@ -137,6 +159,7 @@ fn ask_detects(
     best: Option<i64>,
     back: bool,
     asked: &Asked<'_>,
+    spare: &mut Spare,
 ) -> Result<Option<Finding<SeqWitness>>, NoMemory>
     requires is { IsOf model.now asked.now.c asked.now.p region.now.region asked.now.members.now }
     requires numbers { AreNumbers region.now.region asked.now.members.now (length asked.now.members.now) asked.now.numbers.now }
@@ -146,9 +169,10 @@ fn ask_detects(
     ensures some { IfOk result (λ o. IfSome o (IsFinding refutes model.now region.now.region best)) }
     ensures busy { IfOk result (λ o. IfSome o (λ f. quiet false model.now asked.now.c region.now.region best → ⊥)) }
 {
-    let rows = rows_for(alloc, model, region, asked, back, false, !back)?;
-    if let Some(found) = find_late(alloc, &rows)? {
-        let far = start_reach(&rows, &found.set, found.place);
+    let rows = &mut spare.rows;
+    rows_for(rows, model, region, asked, back, false, !back)?;
+    if let Some(found) = find_late(alloc, rows)? {
+        let far = start_reach(rows, &found.set, found.place);
         return answer_detect(
             alloc,
             model,
@@ -173,6 +197,7 @@ fn ask_not_ends(
     best: Option<i64>,
     back: bool,
     asked: &Asked<'_>,
+    spare: &mut Spare,
 ) -> Result<Option<Finding<SeqWitness>>, NoMemory>
     requires is { IsOf model.now asked.now.c asked.now.p region.now.region asked.now.members.now }
     requires numbers { AreNumbers region.now.region asked.now.members.now (length asked.now.members.now) asked.now.numbers.now }
@@ -182,9 +207,10 @@ fn ask_not_ends(
     ensures some { IfOk result (λ o. IfSome o (IsFinding refutes model.now region.now.region best)) }
     ensures busy { IfOk result (λ o. IfSome o (λ f. quiet true model.now asked.now.c region.now.region best → ⊥)) }
 {
-    let rows = rows_for(alloc, model, region, asked, back, false, back)?;
-    if let Some(found) = find_late(alloc, &rows)? {
-        let far = end_reach(&rows, &found.set, found.place);
+    let rows = &mut spare.rows;
+    rows_for(rows, model, region, asked, back, false, back)?;
+    if let Some(found) = find_late(alloc, rows)? {
+        let far = end_reach(rows, &found.set, found.place);
         return answer_not_end(
             alloc,
             model,
@@ -208,6 +234,7 @@ fn ask_overload(
     region: &Region,
     best: Option<i64>,
     asked: &Asked<'_>,
+    spare: &mut Spare,
 ) -> Result<Option<Finding<SeqWitness>>, NoMemory>
     requires is { IsOf model.now asked.now.c asked.now.p region.now.region asked.now.members.now }
     requires numbers { AreNumbers region.now.region asked.now.members.now (length asked.now.members.now) asked.now.numbers.now }
@@ -217,8 +244,9 @@ fn ask_overload(
     ensures some { IfOk result (λ o. IfSome o (IsFinding refutes model.now region.now.region best)) }
     ensures busy { IfOk result (λ o. IfSome o (λ f. quiet false model.now asked.now.c region.now.region best → ⊥)) }
 {
-    let rows = rows_for(alloc, model, region, asked, false, true, true)?;
-    if let Some(found) = find_overload(alloc, &rows)? {
+    let rows = &mut spare.rows;
+    rows_for(rows, model, region, asked, false, true, true)?;
+    if let Some(found) = find_overload(alloc, rows)? {
         return answer_overload(alloc, model, region, best, asked.c, asked.members, &found);
     }
     Ok(None)
@@ -234,6 +262,7 @@ fn ask_first(
     best: Option<i64>,
     first: &Asked<'_>,
     second: &Asked<'_>,
+    spare: &mut Spare,
 ) -> Result<Option<Finding<SeqWitness>>, NoMemory>
     requires is { IsOf model.now first.now.c first.now.p region.now.region first.now.members.now }
     requires numbers { AreNumbers region.now.region first.now.members.now (length first.now.members.now) first.now.numbers.now }
@@ -249,13 +278,13 @@ fn ask_first(
     ensures some { IfOk result (λ o. IfSome o (IsFinding refutes model.now region.now.region best)) }
     ensures busy { IfOk result (λ o. IfSome o (λ f. quiet false model.now first.now.c region.now.region best → ⊥)) }
 {
-    if let Some(found) = ask_overload(alloc, model, region, best, first)? {
+    if let Some(found) = ask_overload(alloc, model, region, best, first, spare)? {
         return Ok(Some(found));
     }
-    if let Some(found) = ask_detects(alloc, model, region, best, false, first)? {
+    if let Some(found) = ask_detects(alloc, model, region, best, false, first, spare)? {
         return Ok(Some(found));
     }
-    if let Some(found) = ask_detects(alloc, model, region, best, true, second)? {
+    if let Some(found) = ask_detects(alloc, model, region, best, true, second, spare)? {
         return Ok(Some(found));
     }
     Ok(None)
@@ -270,6 +299,7 @@ fn ask_later(
     best: Option<i64>,
     first: &Asked<'_>,
     second: &Asked<'_>,
+    spare: &mut Spare,
 ) -> Result<Option<Finding<SeqWitness>>, NoMemory>
     requires is { IsOf model.now first.now.c first.now.p region.now.region first.now.members.now }
     requires numbers { AreNumbers region.now.region first.now.members.now (length first.now.members.now) first.now.numbers.now }
@@ -285,16 +315,16 @@ fn ask_later(
     ensures some { IfOk result (λ o. IfSome o (IsFinding refutes model.now region.now.region best)) }
     ensures busy { IfOk result (λ o. IfSome o (λ f. quiet true model.now first.now.c region.now.region best → ⊥)) }
 {
-    if let Some(found) = ask_not_ends(alloc, model, region, best, false, first)? {
+    if let Some(found) = ask_not_ends(alloc, model, region, best, false, first, spare)? {
         return Ok(Some(found));
     }
-    if let Some(found) = ask_not_ends(alloc, model, region, best, true, second)? {
+    if let Some(found) = ask_not_ends(alloc, model, region, best, true, second, spare)? {
         return Ok(Some(found));
     }
-    if let Some(found) = ask_edges(alloc, model, region, best, false, first)? {
+    if let Some(found) = ask_edges(alloc, model, region, best, false, first, spare)? {
         return Ok(Some(found));
     }
-    if let Some(found) = ask_edges(alloc, model, region, best, true, second)? {
+    if let Some(found) = ask_edges(alloc, model, region, best, true, second, spare)? {
         return Ok(Some(found));
     }
     Ok(None)
@@ -309,6 +339,7 @@ pub fn ask_sides(
     later: bool,
     first: &Asked<'_>,
     second: &Asked<'_>,
+    spare: &mut Spare,
 ) -> Result<Option<Finding<SeqWitness>>, NoMemory>
     requires is { IsOf model.now first.now.c first.now.p region.now.region first.now.members.now }
     requires numbers { AreNumbers region.now.region first.now.members.now (length first.now.members.now) first.now.numbers.now }
@@ -325,7 +356,7 @@ pub fn ask_sides(
     ensures busy { IfOk result (λ o. IfSome o (λ f. quiet later model.now first.now.c region.now.region best → ⊥)) }
 {
     if later {
-        return ask_later(alloc, model, region, best, first, second);
+        return ask_later(alloc, model, region, best, first, second, spare);
     }
-    ask_first(alloc, model, region, best, first, second)
+    ask_first(alloc, model, region, best, first, second, spare)
 }

@@ -13,9 +13,9 @@ ghost use Rattle.prop_sets.specs.code.Tasks.{size_of, sequence_in, sequence_at, 
 ghost use Rattle.prop_sets.specs.code.Tables.{IsFor};
 ghost use Rattle.prop_sets.specs.code.Known.{IsStill, AreUnknown, AreNumbers};
 
-use crate::known::{Numbers, is_remembered, numbers_in};
-use crate::orders::by_start;
-use crate::sides::{Asked, ask_sides};
+use crate::known::{Numbers, is_remembered, numbers_in, remember};
+use crate::orders::{Ordered, by_start};
+use crate::sides::{Asked, Spare, ask_sides};
 use findings::Finding;
 use refute_seq::{SeqWitness, members_of};
 use region::Region;
@@ -35,6 +35,11 @@ pub struct PropSets {
     members: Vec<List<Itv>>,
     /// Their numbers when nothing was found of them last: nothing is found while they have these.
     known: Vec<Option<List<Numbers>>>,
+    /// Their numbers in this call, and memory that each call uses again.
+    numbers: Vec<Numbers>,
+    first: Ordered,
+    second: Ordered,
+    spare: Spare,
 }
 
 impl std::marker::Model for PropSets {
@@ -122,6 +127,9 @@ fn ask_members(
     c: u32,
     p: Seq,
     numbers: &[Numbers],
+    xs: &mut Ordered,
+    ys: &mut Ordered,
+    spare: &mut Spare,
 ) -> Result<Option<Finding<SeqWitness>>, NoMemory>
     requires of { IsRegionOf model.now region.now.region }
     requires within { c < length model.now.constraints }
@@ -132,8 +140,8 @@ fn ask_members(
     ensures busy { IfOk result (λ o. IfSome o (λ f. quiet later model.now c region.now.region best → ⊥)) }
 {
     let members = few_members(model, p);
-    let xs = by_start(alloc, region, members, numbers, false)?;
-    let ys = by_start(alloc, region, members, numbers, true)?;
+    by_start(&mut spare.keyed, xs, region, members, numbers, false)?;
+    by_start(&mut spare.keyed, ys, region, members, numbers, true)?;
     let first = Asked {
         c,
         p,
@@ -146,7 +154,7 @@ fn ask_members(
         members: &ys.members,
         numbers: &ys.numbers,
     };
-    if let Some(found) = ask_sides(alloc, model, region, best, later, &first, &second)? {
+    if let Some(found) = ask_sides(alloc, model, region, best, later, &first, &second, spare)? {
         return Ok(Some(found));
     }
     Ok(None)
@@ -166,6 +174,10 @@ impl PropSets {
             later,
             members,
             known,
+            numbers: Vec::new(alloc),
+            first: Ordered::new(alloc),
+            second: Ordered::new(alloc),
+            spare: Spare::new(alloc),
         })
     }
 
@@ -199,13 +211,17 @@ impl PropSets {
             return Ok(None);
         };
         let i = k as usize;
-        let now = numbers_in(self.alloc, region, self.members[i].as_slice())?;
-        if is_remembered(&self.known[i], &now) {
+        numbers_in(region, self.members[i].as_slice(), &mut self.numbers)?;
+        if is_remembered(&self.known[i], &self.numbers) {
             return Ok(None);
         }
-        let Some(found) = ask_members(self.alloc, model, region, best, self.later, k, p, &now)?
+        let (xs, ys, spare) = (&mut self.first, &mut self.second, &mut self.spare);
+        let (alloc, later, numbers) = (self.alloc, self.later, &self.numbers);
+        let Some(found) = ask_members(
+            alloc, model, region, best, later, k, p, numbers, xs, ys, spare,
+        )?
         else {
-            self.known[i] = Some(List::from_vec(now));
+            remember(self.alloc, &mut self.known, i, &mut self.numbers);
             return Ok(None);
         };
         Ok(Some(found))

@@ -7,28 +7,28 @@ use Rattle.prop_sets.proofs.orders.by_start.Goals as goal
 
 pub named-requires : goal.named-requires
 named-requires c = subst (λ (ks : List Keyed). (k : ℕ) → k < length ks → (keyed_at ks k).place < length c.args.members.now) (sym c.deref.ensures.value)
-    (starts_low (side_of c.args.back) c.args.region.now.region c.args.members.now c.in_ok-keyed.keyed.items c.sort_all.new.keyed.items c.in_ok-keyed.ensures c.sort_all.ensures.moved)
+    (starts_low (side_of c.args.back) c.args.region.now.region c.args.members.now c.starts.new.keyed.items c.sort_all.new.keyed.items c.in_ok-starts.ensures c.sort_all.ensures.moved)
 
 pub numbered-requires : goal.numbered-requires
 numbered-requires c =
-    let low = starts_low (side_of c.args.back) c.args.region.now.region c.args.members.now c.in_ok-keyed.keyed.items c.sort_all.new.keyed.items c.in_ok-keyed.ensures c.sort_all.ensures.moved in
+    let low = starts_low (side_of c.args.back) c.args.region.now.region c.args.members.now c.starts.new.keyed.items c.sort_all.new.keyed.items c.in_ok-starts.ensures c.sort_all.ensures.moved in
     let size = c.requires.are.size in
     subst (λ (ks : List Keyed). (k : ℕ) → k < length ks → (keyed_at ks k).place < length c.args.numbers.now) (sym c.deref-2.ensures.value) (λ k within. let less = low k within in omega (arith, less, size))
 
 pub returns-clause-moved : goal.returns-clause-moved
 returns-clause-moved c =
-    in_start_order (side_of c.args.back) c.args.region.now.region c.args.members.now c.in_ok-keyed.keyed.items c.sort_all.new.keyed.items c.in_ok-ordered.ordered.items c.in_ok-keyed.ensures c.sort_all.ensures.moved
-    (subst (λ (ks : List Keyed). AreNamed c.args.members.now ks (length ks) c.in_ok-ordered.ordered.items) c.deref.ensures.value c.in_ok-ordered.ensures)
+    in_start_order (side_of c.args.back) c.args.region.now.region c.args.members.now c.starts.new.keyed.items c.sort_all.new.keyed.items c.named.new.list.items c.in_ok-starts.ensures c.sort_all.ensures.moved
+    (subst (λ (ks : List Keyed). AreNamed c.args.members.now ks (length ks) c.named.new.list.items) c.deref.ensures.value c.in_ok-named.ensures)
 
 pub returns-clause-sorted : goal.returns-clause-sorted
 returns-clause-sorted c =
-    by_start (side_of c.args.back) c.args.region.now.region c.args.members.now c.in_ok-keyed.keyed.items c.sort_all.new.keyed.items c.in_ok-ordered.ordered.items c.in_ok-keyed.ensures c.sort_all.ensures.moved c.sort_all.ensures.rises
-    (subst (λ (ks : List Keyed). AreNamed c.args.members.now ks (length ks) c.in_ok-ordered.ordered.items) c.deref.ensures.value c.in_ok-ordered.ensures)
+    by_start (side_of c.args.back) c.args.region.now.region c.args.members.now c.starts.new.keyed.items c.sort_all.new.keyed.items c.named.new.list.items c.in_ok-starts.ensures c.sort_all.ensures.moved c.sort_all.ensures.rises
+    (subst (λ (ks : List Keyed). AreNamed c.args.members.now ks (length ks) c.named.new.list.items) c.deref.ensures.value c.in_ok-named.ensures)
 
 pub returns-clause-numbers : goal.returns-clause-numbers
 returns-clause-numbers c =
-    numbers_along c.args.region.now.region c.args.members.now c.args.numbers.now c.sort_all.new.keyed.items c.in_ok-ordered.ordered.items c.in_ok-along.along.items
-    (starts_low (side_of c.args.back) c.args.region.now.region c.args.members.now c.in_ok-keyed.keyed.items c.sort_all.new.keyed.items c.in_ok-keyed.ensures c.sort_all.ensures.moved)
+    numbers_along c.args.region.now.region c.args.members.now c.args.numbers.now c.sort_all.new.keyed.items c.named.new.list.items c.numbered.new.list.items
+    (starts_low (side_of c.args.back) c.args.region.now.region c.args.members.now c.starts.new.keyed.items c.sort_all.new.keyed.items c.in_ok-starts.ensures c.sort_all.ensures.moved)
     c.requires.are
-    (subst (λ (ks : List Keyed). AreNamed c.args.members.now ks (length ks) c.in_ok-ordered.ordered.items) c.deref.ensures.value c.in_ok-ordered.ensures)
-    (subst (λ (ks : List Keyed). AreNumbered c.args.numbers.now ks (length ks) c.in_ok-along.along.items) c.deref-2.ensures.value c.in_ok-along.ensures)
+    (subst (λ (ks : List Keyed). AreNamed c.args.members.now ks (length ks) c.named.new.list.items) c.deref.ensures.value c.in_ok-named.ensures)
+    (subst (λ (ks : List Keyed). AreNumbered c.args.numbers.now ks (length ks) c.numbered.new.list.items) c.deref-2.ensures.value c.in_ok-numbered.ensures)

@@ -8,7 +8,7 @@ use Rattle.prop_sets.proofs.sides.ask_overload.Goals as goal
 pub answer_overload-requires-clause-busy : goal.answer_overload-requires-clause-busy
 answer_overload-requires-clause-busy c =
     let found = subst (λ o. IfSome o (λ b. IsOverFound c.deref.result.now b.place b.set.items)) c.in-Some.is c.in_ok-found.ensures.some in
-    busy_overload _ _ _ _ _ _ false _ _ _ c.in_ok-rows.ensures.rowed (subst (λ (rs : List Row). IsOverFound rs c.in-Some.found.place c.in-Some.found.set.items) c.deref.ensures.value found)
+    busy_overload _ _ _ _ _ _ false _ _ _ c.in_ok-rows_for.ensures.rowed (subst (λ (rs : List Row). IsOverFound rs c.in-Some.found.place c.in-Some.found.set.items) c.deref.ensures.value found)
 
 pub returns-in-Some-clause-busy : goal.returns-in-Some-clause-busy
 returns-in-Some-clause-busy c = c.answer_overload.ensures.busy false
