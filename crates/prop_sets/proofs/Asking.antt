@@ -96,9 +96,9 @@ late_is false = refl
 hit : (m : Data) (c : ℕ) (p : Seq) (r : Region) (xs : List Itv) (side : ℕ) (chosen early : Bool) (rows : List Row) (k : ℕ) → IsOf m c p r xs → AreRows (chosen_row chosen side early) r xs rows → is_candidate rows k ≡ true → IsHit m c p r xs side chosen early rows k
 hit m c p r xs side chosen early rows k of are one = record { of = of; noted = noted m c p r xs side chosen early rows of are; candidate = one }
 
-pub busy_overload : (m : Data) (c : ℕ) (p : Seq) (r : Region) (best : Option ℤ) (xs : List Itv) (back : Bool) (rows : List Row) (k : ℕ) (s : List ℕ) → IsRowed m c p r xs back true (not back) rows → IsOverFound rows k s
+pub busy_overload : (m : Data) (c : ℕ) (p : Seq) (r : Region) (best : Option ℤ) (xs : List Itv) (back chosen early : Bool) (rows : List Row) (k : ℕ) (s : List ℕ) → IsRowed m c p r xs back chosen early rows → IsOverFound rows k s
     → IsBusy m r best (member_at xs k) (Overload c (ids_of xs s (length m.intervals)))
-busy_overload m c p r best xs back rows k s h found = overload_busy m c p r best xs (side_of back) true (not back) rows k s (hit m c p r xs (side_of back) true (not back) rows k h.of h.are found.candidate) found.there found.row
+busy_overload m c p r best xs back chosen early rows k s h found = overload_busy m c p r best xs (side_of back) chosen early rows k s (hit m c p r xs (side_of back) chosen early rows k h.of h.are found.candidate) found.there found.row
 
 pub busy_edge : (m : Data) (c : ℕ) (p : Seq) (r : Region) (best : Option ℤ) (xs : List Itv) (back : Bool) (rows : List Row) (k : ℕ) (s u v : List ℕ) → IsRowed m c p r xs back true (not back) rows → IsEdgeFound rows k s u v
     → IsBusy m r best (member_at xs k) (Edge c (side_of back) (name_at xs k) (ids_of xs s (length m.intervals)) (ids_of xs u (length m.intervals)) (ids_of xs v (length m.intervals)))
@@ -118,7 +118,7 @@ busy_not_end m c p r best xs back rows k s h found =
     not_end_busy m c p r best xs (side_of back) rows k s (two back)
     (hit m c p r xs (side_of back) false (asks_late (side_of back)) rows k h.of (subst (λ e. AreRows (chosen_row false (side_of back) e) r xs rows) (late_is back) h.are) found.candidate) found.behind
 
-pub no_full : (m : Data) (c : ℕ) (p : Seq) (r : Region) (xs : List Itv) (rows : List Row) → IsRowed m c p r xs false true true rows → NoOverloads rows → NoFull 0 r xs
+pub no_full : (m : Data) (c : ℕ) (p : Seq) (r : Region) (xs : List Itv) (rows : List Row) → IsRowed m c p r xs false false true rows → NoOverloads rows → NoFull 0 r xs
 no_full m c p r xs rows rowed none = record { rows = rows; are = record { size = rowed.are.size; each = rowed.are.each }; overloads = none }
 
 pub no_edge : (m : Data) (c : ℕ) (p : Seq) (r : Region) (xs : List Itv) (back : Bool) (rows : List Row) → IsRowed m c p r xs back true (not back) rows → NoOverloads rows → PassOrNone rows None → NoEdge (side_of back) r xs

@@ -5,6 +5,7 @@ mod Shown
 mod Ordering
 mod Answered
 mod Asking
+mod Turning
 mod Making
 mod Remembering
 mod Watching

@@ -1,5 +1,5 @@
 //! What is found of a sequence on one side.
-ghost use Rattle.std.specs.Prelude.{◌≡◌, ℕ, ◌≤◌, true, false, length, IfOk, OnOk, IfNone, IfSome};
+ghost use Rattle.std.specs.Prelude.{◌≡◌, ℕ, ◌≤◌, not, true, false, length, IfOk, OnOk, IfNone, IfSome};
 ghost use Rattle.region.specs.Looks.{IsRegionOf};
 ghost use Rattle.findings.specs.Found.{IsFinding};
 ghost use Rattle.refute_seq.specs.OnSequence.{refutes};
@@ -9,6 +9,7 @@ ghost use Rattle.prop_sets.specs.code.Sides.{NoFull, NoEdge, NoDetect, NoNotEnd,
 ghost use Rattle.task_sets.specs.Times.{IsSized};
 ghost use Rattle.theta_passes.specs.code.Rows.{row_at, times_at, IsNearRow, IsByEst};
 ghost use Rattle.theta_passes.specs.code.Late.{IsLow};
+ghost use Rattle.theta_passes.specs.code.Over.{NoOverloads};
 ghost use Rattle.prop_sets.specs.code.Known.{AreNumbers};
 ghost use Rattle.prop_sets.specs.code.Given.{IsOf, IsRowed};
 ghost use Rattle.prop_sets.specs.code.Orders.{AreSpanned, IsByStart};
@@ -109,31 +110,32 @@ fn rows_for(
     Ok(())
 }
 
-/// OVERLOAD and EDGE.
-#[tactic(auto, using(crate::proofs::Asking::busy_overload, crate::proofs::Asking::busy_edge, crate::proofs::Asking::no_edge))]
-fn ask_edges(
+/// EDGE, by rows of which no set overloads.
+#[tactic(auto, using(crate::proofs::Asking::busy_edge, crate::proofs::Asking::no_edge))]
+fn edge_of(
     alloc: Global,
     model: &Model,
     region: &Region,
     best: Option<i64>,
     back: bool,
     asked: &Asked<'_>,
-    spare: &mut Spare,
+    rows: &[Row],
+    keyed: &mut Vec<Keyed>,
+    order: &mut Vec<u32>,
 ) -> Result<Option<Finding<SeqWitness>>, NoMemory>
     requires is { IsOf model.now asked.now.c asked.now.p region.now.region asked.now.members.now }
-    requires numbers { AreNumbers region.now.region asked.now.members.now (length asked.now.members.now) asked.now.numbers.now }
-    requires few { length asked.now.members.now ≤ 500 }
-    requires sorted { IsByStart (side_of back) region.now.region asked.now.members.now }
+    requires rowed { IsRowed model.now asked.now.c asked.now.p region.now.region asked.now.members.now back true (not back) rows.now }
+    requires few { length rows.now ≤ 500 }
+    requires near { (k : ℕ) → IsNearRow (row_at rows.now k) }
+    requires sized { IsSized (times_at rows.now) }
+    requires sorted { IsByEst rows.now }
+    requires spanned { AreSpanned rows.now }
+    requires overloads { NoOverloads rows.now }
     ensures none { IfOk result (λ o. IfNone o (NoEdge (side_of back) region.now.region asked.now.members.now)) }
     ensures some { IfOk result (λ o. IfSome o (IsFinding refutes model.now region.now.region best)) }
     ensures busy { IfOk result (λ o. IfSome o (λ f. quiet true model.now asked.now.c region.now.region best → ⊥)) }
 {
-    let rows = &mut spare.rows;
-    rows_for(rows, model, region, asked, back, true, !back)?;
-    if let Some(found) = find_overload(alloc, rows)? {
-        return answer_overload(alloc, model, region, best, asked.c, asked.members, &found);
-    }
-    if let Some(found) = find_edge(alloc, &mut spare.keyed, &mut spare.order, rows)? {
+    if let Some(found) = find_edge(alloc, keyed, order, rows)? {
         let far = start_reach(rows, &found.v, found.place);
         return answer_edge(
             alloc,
@@ -150,8 +152,130 @@ fn ask_edges(
     Ok(None)
 }
 
-/// DETECT.
+/// OVERLOAD and then EDGE on the first side, by the same rows.
+#[tactic(auto, using(crate::proofs::Asking::busy_overload))]
+fn ask_full_edges(
+    alloc: Global,
+    model: &Model,
+    region: &Region,
+    best: Option<i64>,
+    asked: &Asked<'_>,
+    spare: &mut Spare,
+) -> Result<Option<Finding<SeqWitness>>, NoMemory>
+    requires is { IsOf model.now asked.now.c asked.now.p region.now.region asked.now.members.now }
+    requires numbers { AreNumbers region.now.region asked.now.members.now (length asked.now.members.now) asked.now.numbers.now }
+    requires few { length asked.now.members.now ≤ 500 }
+    requires sorted { IsByStart 0 region.now.region asked.now.members.now }
+    ensures none { IfOk result (λ o. IfNone o (NoEdge 0 region.now.region asked.now.members.now)) }
+    ensures some { IfOk result (λ o. IfSome o (IsFinding refutes model.now region.now.region best)) }
+    ensures busy { IfOk result (λ o. IfSome o (λ f. quiet true model.now asked.now.c region.now.region best → ⊥)) }
+{
+    rows_for(&mut spare.rows, model, region, asked, false, true, true)?;
+    let rows = spare.rows.as_slice();
+    if let Some(found) = find_overload(alloc, rows)? {
+        return answer_overload(alloc, model, region, best, asked.c, asked.members, &found);
+    }
+    let (keyed, order) = (&mut spare.keyed, &mut spare.order);
+    edge_of(alloc, model, region, best, false, asked, rows, keyed, order)
+}
+
+/// EDGE on the other side, where nothing is found on the first: no set overloads on one side alone.
+fn ask_edges(
+    alloc: Global,
+    model: &Model,
+    region: &Region,
+    best: Option<i64>,
+    first: &Asked<'_>,
+    second: &Asked<'_>,
+    spare: &mut Spare,
+) -> Result<Option<Finding<SeqWitness>>, NoMemory>
+    requires is { IsOf model.now first.now.c first.now.p region.now.region first.now.members.now }
+    requires also { IsOf model.now second.now.c second.now.p region.now.region second.now.members.now }
+    requires numbers { AreNumbers region.now.region second.now.members.now (length second.now.members.now) second.now.numbers.now }
+    requires few { length second.now.members.now ≤ 500 }
+    requires same { first.now.c ≡ second.now.c }
+    requires sorted { IsByStart 1 region.now.region second.now.members.now }
+    requires before { NoEdge 0 region.now.region first.now.members.now }
+    ensures none { IfOk result (λ o. IfNone o (NoEdge 1 region.now.region second.now.members.now)) }
+    ensures some { IfOk result (λ o. IfSome o (IsFinding refutes model.now region.now.region best)) }
+    ensures busy { IfOk result (λ o. IfSome o (λ f. quiet true model.now second.now.c region.now.region best → ⊥)) }
+{
+    rows_for(&mut spare.rows, model, region, second, true, true, false)?;
+    let (rows, keyed, order) = (spare.rows.as_slice(), &mut spare.keyed, &mut spare.order);
+    edge_of(alloc, model, region, best, true, second, rows, keyed, order)
+}
+
+/// DETECT, by the rows.
 #[tactic(auto, using(crate::proofs::Asking::busy_detect, crate::proofs::Asking::no_detect))]
+fn detect_of(
+    alloc: Global,
+    model: &Model,
+    region: &Region,
+    best: Option<i64>,
+    back: bool,
+    asked: &Asked<'_>,
+    rows: &[Row],
+) -> Result<Option<Finding<SeqWitness>>, NoMemory>
+    requires is { IsOf model.now asked.now.c asked.now.p region.now.region asked.now.members.now }
+    requires rowed { IsRowed model.now asked.now.c asked.now.p region.now.region asked.now.members.now back false (not back) rows.now }
+    requires few { length rows.now ≤ 500 }
+    requires near { (k : ℕ) → IsNearRow (row_at rows.now k) }
+    requires sized { IsSized (times_at rows.now) }
+    requires sorted { IsByEst rows.now }
+    requires spanned { AreSpanned rows.now }
+    requires low { IsLow rows.now }
+    ensures none { IfOk result (λ o. IfNone o (NoDetect (side_of back) region.now.region asked.now.members.now)) }
+    ensures some { IfOk result (λ o. IfSome o (IsFinding refutes model.now region.now.region best)) }
+    ensures busy { IfOk result (λ o. IfSome o (λ f. quiet false model.now asked.now.c region.now.region best → ⊥)) }
+{
+    if let Some(found) = find_late(alloc, rows)? {
+        let far = start_reach(rows, &found.set, found.place);
+        return answer_detect(
+            alloc,
+            model,
+            region,
+            best,
+            asked.c,
+            back,
+            asked.members,
+            &found,
+            far,
+        );
+    }
+    Ok(None)
+}
+
+/// OVERLOAD and then DETECT on the first side, by the same rows: what OVERLOAD reads is the same under
+/// the guess that DETECT asks about.
+#[tactic(auto, using(crate::proofs::Asking::busy_overload, crate::proofs::Asking::no_full, crate::proofs::Asking::first_quiet))]
+fn ask_full_detects(
+    alloc: Global,
+    model: &Model,
+    region: &Region,
+    best: Option<i64>,
+    asked: &Asked<'_>,
+    spare: &mut Spare,
+) -> Result<Option<Finding<SeqWitness>>, NoMemory>
+    requires is { IsOf model.now asked.now.c asked.now.p region.now.region asked.now.members.now }
+    requires numbers { AreNumbers region.now.region asked.now.members.now (length asked.now.members.now) asked.now.numbers.now }
+    requires few { length asked.now.members.now ≤ 500 }
+    requires sorted { IsByStart 0 region.now.region asked.now.members.now }
+    ensures none { IfOk result (λ o. IfNone o (IsSideQuiet false 0 region.now.region asked.now.members.now)) }
+    ensures some { IfOk result (λ o. IfSome o (IsFinding refutes model.now region.now.region best)) }
+    ensures busy { IfOk result (λ o. IfSome o (λ f. quiet false model.now asked.now.c region.now.region best → ⊥)) }
+{
+    rows_for(&mut spare.rows, model, region, asked, false, false, true)?;
+    let rows = spare.rows.as_slice();
+    if let Some(found) = find_overload(alloc, rows)? {
+        return answer_overload(alloc, model, region, best, asked.c, asked.members, &found);
+    }
+    if let Some(found) = detect_of(alloc, model, region, best, false, asked, rows)? {
+        return Ok(Some(found));
+    }
+    Ok(None)
+}
+
+/// DETECT on a side.
 fn ask_detects(
     alloc: Global,
     model: &Model,
@@ -169,23 +293,8 @@ fn ask_detects(
     ensures some { IfOk result (λ o. IfSome o (IsFinding refutes model.now region.now.region best)) }
     ensures busy { IfOk result (λ o. IfSome o (λ f. quiet false model.now asked.now.c region.now.region best → ⊥)) }
 {
-    let rows = &mut spare.rows;
-    rows_for(rows, model, region, asked, back, false, !back)?;
-    if let Some(found) = find_late(alloc, rows)? {
-        let far = start_reach(rows, &found.set, found.place);
-        return answer_detect(
-            alloc,
-            model,
-            region,
-            best,
-            asked.c,
-            back,
-            asked.members,
-            &found,
-            far,
-        );
-    }
-    Ok(None)
+    rows_for(&mut spare.rows, model, region, asked, back, false, !back)?;
+    detect_of(alloc, model, region, best, back, asked, &spare.rows)
 }
 
 /// NOTEND.
@@ -226,35 +335,8 @@ fn ask_not_ends(
     Ok(None)
 }
 
-/// OVERLOAD alone, which is asked first of all.
-#[tactic(auto, using(crate::proofs::Asking::busy_overload, crate::proofs::Asking::no_full))]
-fn ask_overload(
-    alloc: Global,
-    model: &Model,
-    region: &Region,
-    best: Option<i64>,
-    asked: &Asked<'_>,
-    spare: &mut Spare,
-) -> Result<Option<Finding<SeqWitness>>, NoMemory>
-    requires is { IsOf model.now asked.now.c asked.now.p region.now.region asked.now.members.now }
-    requires numbers { AreNumbers region.now.region asked.now.members.now (length asked.now.members.now) asked.now.numbers.now }
-    requires few { length asked.now.members.now ≤ 500 }
-    requires sorted { IsByStart 0 region.now.region asked.now.members.now }
-    ensures none { IfOk result (λ o. IfNone o (NoFull 0 region.now.region asked.now.members.now)) }
-    ensures some { IfOk result (λ o. IfSome o (IsFinding refutes model.now region.now.region best)) }
-    ensures busy { IfOk result (λ o. IfSome o (λ f. quiet false model.now asked.now.c region.now.region best → ⊥)) }
-{
-    let rows = &mut spare.rows;
-    rows_for(rows, model, region, asked, false, true, true)?;
-    if let Some(found) = find_overload(alloc, rows)? {
-        return answer_overload(alloc, model, region, best, asked.c, asked.members, &found);
-    }
-    Ok(None)
-}
-
 /// What is found of a constraint in the first round, by its members in the order of their earliest
 /// starts, and in that of their latest completions: first OVERLOAD, then DETECT.
-#[tactic(auto, using(crate::proofs::Asking::first_quiet))]
 fn ask_first(
     alloc: Global,
     model: &Model,
@@ -278,10 +360,7 @@ fn ask_first(
     ensures some { IfOk result (λ o. IfSome o (IsFinding refutes model.now region.now.region best)) }
     ensures busy { IfOk result (λ o. IfSome o (λ f. quiet false model.now first.now.c region.now.region best → ⊥)) }
 {
-    if let Some(found) = ask_overload(alloc, model, region, best, first, spare)? {
-        return Ok(Some(found));
-    }
-    if let Some(found) = ask_detects(alloc, model, region, best, false, first, spare)? {
+    if let Some(found) = ask_full_detects(alloc, model, region, best, first, spare)? {
         return Ok(Some(found));
     }
     if let Some(found) = ask_detects(alloc, model, region, best, true, second, spare)? {
@@ -321,10 +400,10 @@ fn ask_later(
     if let Some(found) = ask_not_ends(alloc, model, region, best, true, second, spare)? {
         return Ok(Some(found));
     }
-    if let Some(found) = ask_edges(alloc, model, region, best, false, first, spare)? {
+    if let Some(found) = ask_full_edges(alloc, model, region, best, first, spare)? {
         return Ok(Some(found));
     }
-    if let Some(found) = ask_edges(alloc, model, region, best, true, second, spare)? {
+    if let Some(found) = ask_edges(alloc, model, region, best, first, second, spare)? {
         return Ok(Some(found));
     }
     Ok(None)

@@ -11,7 +11,7 @@ use Rattle.prop_sets.specs.code.Rows.{asks_early, asks_late, plain_row, asked_ro
 -- no set overloads, also with one member more
 pub record NoFull (side : ℕ) (r : Region) (xs : List Itv) : Type 0 where
   pub rows : List Row
-  pub are : AreRows (asked_row side (asks_early side)) r xs rows
+  pub are : AreRows (plain_row side (asks_early side)) r xs rows
   pub overloads : NoOverloads rows
 
 -- and no cut finds one for EDGE

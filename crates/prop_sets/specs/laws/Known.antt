@@ -52,7 +52,7 @@ rows_again r q ms xs chosen side early rows same order are = record {
 
 full_again : (r q : Region) (ms xs : List Itv) (side : ℕ) → SameNumbers r q ms → IsReordered ms xs → NoFull side r xs → NoFull side q xs
 full_again r q ms xs side same order h =
-    let are = rows_again r q ms xs true side (asks_early side) h.rows same order (record { size = h.are.size; each = h.are.each }) in
+    let are = rows_again r q ms xs false side (asks_early side) h.rows same order (record { size = h.are.size; each = h.are.each }) in
     record { rows = h.rows; are = record { size = are.size; each = are.each }; overloads = h.overloads }
 
 edge_again : (r q : Region) (ms xs : List Itv) (side : ℕ) → SameNumbers r q ms → IsReordered ms xs → NoEdge side r xs → NoEdge side q xs

@@ -39,6 +39,7 @@ use Rattle.prop_sets.specs.code.Sides.{NoFull, NoEdge, NoDetect, NoNotEnd, IsSid
 use Rattle.prop_sets.specs.laws.Under.{IsSeen, narrow, seen_plain, seen_topic, seen_asked, starts_told, ends_told}
 use Rattle.prop_sets.specs.code.Reordered.{IsReordered}
 use Rattle.theta_passes.specs.declared.rows.Row.{Row}
+use Rattle.theta_passes.specs.code.Over.{NoOverloads}
 use Rattle.prop_sets.specs.laws.Members.{has_same, those_apart, overload_those, edge_those, detect_those}
 use Rattle.prop_sets.specs.laws.BySequence.{overload_in, edge_in, not_end_in, detect_in, overload_by, edge_by, not_end_by, detect_by}
 use Rattle.prop_sets.specs.laws.Placed.{IsNoted}
@@ -99,50 +100,70 @@ in_those m p zs members i here = has_same (members_of m p) zs members i ∙ here
 noted : (later : Bool) (m : Data) (c : ℕ) (p : Seq) (r : Region) (side : ℕ) (chosen early : Bool) (zs : List Itv) (rows : List Row) → IsCalm later m c p r → IsReordered (members_of m p) zs → AreRows (chosen_row chosen side early) r zs rows → IsNoted side chosen early r zs rows
 noted later m c p r side chosen early zs rows calm members are = record { are = are; narrow = λ x. narrow m r x calm.valid calm.of; apart = those_apart m p zs calm.valid members }
 
--- OVERLOAD is asked for in both rounds
-full : (later : Bool) (r : Region) (xs : List Itv) → IsSideQuiet later 0 r xs → NoFull 0 r xs
-full false r xs h = h.0
-full true r xs h = let told = h.0 in record { rows = told.rows; are = told.are; overloads = told.overloads }
+-- OVERLOAD is asked for in both rounds, of rows of one kind or the other
+pub record HasRoom (r : Region) (xs : List Itv) : Type 0 where
+  pub chosen : Bool
+  pub rows : List Row
+  pub are : AreRows (chosen_row chosen 0 true) r xs rows
+  pub overloads : NoOverloads rows
 
-overload_member : (later : Bool) (m : Data) (c : ℕ) (p : Seq) (r q : Region) (s : List ℕ) (i : Itv) → IsCalm later m c p r → has (members_of m p) i ≡ true → IsSeen r q i true → overload_row (times_of q) (is_task m q p) s ≡ true → ⊥
-overload_member later m c p r q s i calm here h is =
-    let told = full later r calm.xs calm.first in
-    let xs = calm.xs in
-    overload_none 0 true true r q i xs told.rows s (noted later m c p r 0 true true xs told.rows calm calm.first_members (record { size = told.are.size; each = told.are.each })) told.overloads (in_those m p xs calm.first_members i here) h
-    (overload_those m p q xs (turned 0 (times_of q)) s calm.first_members ∙ overload_row_turned 0 (times_of q) (is_task m q p) s ∙ is)
+pub room_by_edge : (r : Region) (xs : List Itv) → NoEdge 0 r xs → HasRoom r xs
+room_by_edge r xs told = record { chosen = true; rows = told.rows; are = record { size = told.are.size; each = told.are.each }; overloads = told.overloads }
+
+room : (later : Bool) (r : Region) (xs : List Itv) → IsSideQuiet later 0 r xs → HasRoom r xs
+room false r xs h = let told = h.0 in record { chosen = false; rows = told.rows; are = record { size = told.are.size; each = told.are.each }; overloads = told.overloads }
+room true r xs h = room_by_edge r xs h.0
+
+pub record IsEased (m : Data) (c : ℕ) (p : Seq) (r : Region) : Type 0 where
+  pub valid : IsValid m
+  pub of : IsRegionOf m r
+  pub sequence : sequence_at m c ≡ Some p
+  pub xs : List Itv
+  pub members : IsReordered (members_of m p) xs
+  pub room : HasRoom r xs
+
+eased : (later : Bool) (m : Data) (c : ℕ) (p : Seq) (r : Region) → IsCalm later m c p r → IsEased m c p r
+eased later m c p r calm = record { valid = calm.valid; of = calm.of; sequence = calm.sequence; xs = calm.xs; members = calm.first_members; room = room later r calm.xs calm.first }
+
+overload_member : (m : Data) (c : ℕ) (p : Seq) (r q : Region) (s : List ℕ) (i : Itv) → IsEased m c p r → has (members_of m p) i ≡ true → IsSeen r q i true → overload_row (times_of q) (is_task m q p) s ≡ true → ⊥
+overload_member m c p r q s i eased here h is =
+    let room = eased.room in
+    let xs = eased.xs in
+    overload_none 0 room.chosen true r q i xs room.rows s (record { are = room.are; narrow = λ x. narrow m r x eased.valid eased.of; apart = those_apart m p xs eased.valid eased.members }) room.overloads (in_those m p xs eased.members i here) h
+    (overload_those m p q xs (turned 0 (times_of q)) s eased.members ∙ overload_row_turned 0 (times_of q) (is_task m q p) s ∙ is)
 
 listed_member : (s : List ℕ) (z : Itv) → list_any (λ n. nat_eq z.0 n) s ≡ true → holds s z.0 ≡ true
 listed_member s z h = any_weaker (λ n. nat_eq z.0 n) (λ n. nat_eq n z.0) (λ n e. turned_number z.0 n e) s h
 
 -- OVERLOAD: a guess that a member of the set is present
-overload_under : (later : Bool) (m : Data) (c : ℕ) (p : Seq) (r : Region) (x : ℕ) (xs : List ℕ) (t : Topic) → IsCalm later m c p r → asks_member (x ∷ xs) t ≡ true → admits_topic r t ≡ true → overload_row (times_of (assumed t r)) (is_task m (assumed t r) p) (x ∷ xs) ≡ true → ⊥
-overload_under later m c p r x xs (One z Present) calm listed free is =
+overload_under : (m : Data) (c : ℕ) (p : Seq) (r : Region) (x : ℕ) (xs : List ℕ) (t : Topic) → IsEased m c p r → asks_member (x ∷ xs) t ≡ true → admits_topic r t ≡ true → overload_row (times_of (assumed t r)) (is_task m (assumed t r) p) (x ∷ xs) ≡ true → ⊥
+overload_under m c p r x xs (One z Present) eased listed free is =
     let q = assumed (One z Present) r in
     let set = task_set_of (is_task m q p) x xs (both (is_task_set (is_task m q p) (x ∷ xs)) _ is).0 in
     let two = task_of m q p z.0 (set.inside z.0 (listed_member (x ∷ xs) z listed)) in
-    overload_member later m c p r q (x ∷ xs) z calm two.0 (seen_topic true r z (One z Present) free (inl refl)) is
-overload_under later m c p r x xs (One z Absent) calm listed free is = cc
-overload_under later m c p r x xs (One z (StartLe t)) calm listed free is = cc
-overload_under later m c p r x xs (One z (StartGe t)) calm listed free is = cc
-overload_under later m c p r x xs (One z (EndLe t)) calm listed free is = cc
-overload_under later m c p r x xs (One z (EndGe t)) calm listed free is = cc
-overload_under later m c p r x xs (Two u v w) calm listed free is = cc
+    overload_member m c p r q (x ∷ xs) z eased two.0 (seen_topic true r z (One z Present) free (inl refl)) is
+overload_under m c p r x xs (One z Absent) eased listed free is = cc
+overload_under m c p r x xs (One z (StartLe t)) eased listed free is = cc
+overload_under m c p r x xs (One z (StartGe t)) eased listed free is = cc
+overload_under m c p r x xs (One z (EndLe t)) eased listed free is = cc
+overload_under m c p r x xs (One z (EndGe t)) eased listed free is = cc
+overload_under m c p r x xs (Two u v w) eased listed free is = cc
 
-overload_asked : (later : Bool) (m : Data) (c : ℕ) (p : Seq) (r : Region) (s : List ℕ) (guess : Option Guess) → IsCalm later m c p r → is_asked (lists m (Overload c s)) r guess ≡ true → overload_row (times_of (looked_at guess r)) (is_task m (looked_at guess r) p) s ≡ true → ⊥
-overload_asked later m c p r [] guess calm asked is = no_task_set (is_task m (looked_at guess r) p) (both (is_task_set (is_task m (looked_at guess r) p) []) (is_overload []) is).0
-overload_asked later m c p r (x ∷ xs) None calm asked is =
+overload_asked : (m : Data) (c : ℕ) (p : Seq) (r : Region) (s : List ℕ) (guess : Option Guess) → IsEased m c p r → is_asked (lists m (Overload c s)) r guess ≡ true → overload_row (times_of (looked_at guess r)) (is_task m (looked_at guess r) p) s ≡ true → ⊥
+overload_asked m c p r [] guess eased asked is = no_task_set (is_task m (looked_at guess r) p) (both (is_task_set (is_task m (looked_at guess r) p) []) (is_overload []) is).0
+overload_asked m c p r (x ∷ xs) None eased asked is =
     let set = task_set_of (is_task m r p) x xs (both (is_task_set (is_task m r p) (x ∷ xs)) _ is).0 in
     let two = task_of m r p x (set.inside x (has_first x xs)) in
-    overload_member later m c p r r (x ∷ xs) (record { 0 = x }) calm two.0 (seen_plain true r (record { 0 = x }) two.1) is
-overload_asked later m c p r (x ∷ xs) (Some g) calm asked is =
+    overload_member m c p r r (x ∷ xs) (record { 0 = x }) eased two.0 (seen_plain true r (record { 0 = x }) two.1) is
+overload_asked m c p r (x ∷ xs) (Some g) eased asked is =
     let two = both_true (lists m (Overload c (x ∷ xs)) g) (is_open_end r g) asked in
-    overload_under later m c p r x xs (topic g) calm two.0 (both_true (admits r g) (is_end r (topic g)) two.1).0 is
+    overload_under m c p r x xs (topic g) eased two.0 (both_true (admits r g) (is_end r (topic g)) two.1).0 is
 
-overload_silent : (later : Bool) (m : Data) (c : ℕ) (p : Seq) (r : Region) (best : Option ℤ) (s : List ℕ) → IsCalm later m c p r → IsSilent m r best (Overload c s)
-overload_silent later m c p r best s calm guess asked = unless (refutes m (seen_at r best guess) (Overload c s)) (λ h.
+pub overload_silent : (m : Data) (c : ℕ) (p : Seq) (r : Region) (best : Option ℤ) (s : List ℕ) → IsEased m c p r → IsSilent m r best (Overload c s)
+overload_silent m c p r best s eased guess asked = unless (refutes m (seen_at r best guess) (Overload c s)) (λ h.
     let q = looked_at guess r in
     let row = row_true (Overload c s) (passes (overload_of m q s) (slice_get m.constraints c)) h in
-    overload_asked later m c p r s guess calm asked (in_sequence (overload_in m q s) (sequence_at m c) p calm.sequence (sym (overload_by m q s (slice_get m.constraints c)) ∙ row)))
+    overload_asked m c p r s guess eased asked (in_sequence (overload_in m q s) (sequence_at m c) p eased.sequence (sym (overload_by m q s (slice_get m.constraints c)) ∙ row)))
 
 edge_silent : (m : Data) (c : ℕ) (p : Seq) (r : Region) (best : Option ℤ) (side i : ℕ) (s u v : List ℕ) → IsCalm true m c p r → IsSilent m r best (Edge c side i s u v)
 edge_silent m c p r best side i s u v calm guess asked = unless (refutes m (seen_at r best guess) (Edge c side i s u v)) (λ h.
@@ -202,7 +223,7 @@ sets_quiet later m c p r best valid of sequence xs ys one_order other_order firs
     silent : (w : SeqWitness) → looks_after later m c w ≡ true → IsSilent m r best w
     silent (Pair d a b k) mine = cc
     silent (Triple q x y z) mine = cc
-    silent (Overload d s) mine = at_number (λ n. IsSilent m r best (Overload n s)) c d mine (overload_silent later m c p r best s calm)
+    silent (Overload d s) mine = at_number (λ n. IsSilent m r best (Overload n s)) c d mine (overload_silent m c p r best s (eased later m c p r calm))
     silent (Edge d side i s u v) mine =
         let two = both_true later (nat_eq c d) mine in
         at_number (λ n. IsSilent m r best (Edge n side i s u v)) c d two.1 (edge_silent m c p r best side i s u v (subst (λ t. IsCalm t m c p r) two.0 calm))
