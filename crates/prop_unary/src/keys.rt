@@ -19,8 +19,6 @@ pub struct Front {
     pub present_ect: i64,
     /// The greatest earliest completion that a guess at the end of a cell makes.
     pub highest_end: i64,
-    /// The latest end.
-    pub emax: i64,
 }
 
 /// What is compared of the second.
@@ -32,8 +30,6 @@ pub struct Back {
     pub present_lst: i64,
     /// The least latest start that a guess at the end of a cell makes.
     pub lowest_start: i64,
-    /// The earliest start.
-    pub smin: i64,
 }
 
 /// What is compared of a member.
@@ -50,18 +46,16 @@ impl Keys {
             ect: i64::MIN,
             present_ect: i64::MIN,
             highest_end: i64::MIN,
-            emax: i64::MIN,
         },
         back: Back {
             lst: i64::MAX,
             present_lst: i64::MAX,
             lowest_start: i64::MAX,
-            smin: i64::MAX,
         },
     };
 }
 
-fn front_of(ends: Ends, emax: i64) -> Front
+fn front_of(ends: Ends) -> Front
     ensures { IsFront ends result }
 {
     match ends.presence {
@@ -70,18 +64,16 @@ fn front_of(ends: Ends, emax: i64) -> Front
             ect: ends.ect,
             present_ect: ends.ect,
             highest_end: ends.highest_end,
-            emax,
         },
         Presence::Maybe => Front {
             ect: ends.ect,
             present_ect: i64::MIN,
             highest_end: ends.highest_end,
-            emax,
         },
     }
 }
 
-fn back_of(ends: Ends, smin: i64) -> Back
+fn back_of(ends: Ends) -> Back
     ensures { IsBack ends result }
 {
     match ends.presence {
@@ -90,23 +82,12 @@ fn back_of(ends: Ends, smin: i64) -> Back
             lst: ends.lst,
             present_lst: ends.lst,
             lowest_start: ends.lowest_start,
-            smin,
         },
         Presence::Maybe => Back {
             lst: ends.lst,
             present_lst: i64::MAX,
             lowest_start: ends.lowest_start,
-            smin,
         },
-    }
-}
-
-fn keys_of(ends: Ends, smin: i64, emax: i64) -> Keys
-    ensures { IsKeyed ends result }
-{
-    Keys {
-        front: front_of(ends, emax),
-        back: back_of(ends, smin),
     }
 }
 
@@ -114,10 +95,10 @@ fn keys_at(look: &Look<'_>, x: Itv) -> Keys
     ensures { IsKeyed (ends_of (bounds_of look.now.region x)) result }
 {
     let ends = ends_at(look, x);
-    if x.0 as usize >= look.len() {
-        return keys_of(ends, ends.ect, ends.lst);
+    Keys {
+        front: front_of(ends),
+        back: back_of(ends),
     }
-    keys_of(ends, look.smin(x), look.emax(x))
 }
 
 /// Puts the numbers of the members at their places.

@@ -19,7 +19,7 @@ use crate::keys::Keys;
 use crate::members::sequence_at;
 use crate::pairs::ask_pairs;
 use crate::places::Places;
-use crate::waiting::can_wait;
+use crate::waiting::Waiting;
 use findings::Finding;
 use refute_seq::{SeqWitness, members_of};
 use region::Region;
@@ -42,6 +42,8 @@ pub struct PropUnary {
     rows: Vec<Places>,
     /// The place of the member with which each begins.
     starts: Vec<usize>,
+    /// What was read of each constraint when it was asked whether it can wait. Nothing hangs on it.
+    waiting: Vec<Waiting>,
 }
 
 /// The most members that a sequence may have.
@@ -101,6 +103,27 @@ fn sequence_of_each(alloc: Global, model: &Model, n: u32) -> Result<Vec<List<Seq
     Ok(lists)
 }
 
+/// How many members of a constraint are compared where it is asked whether it can wait: none but of one
+/// without overlap and without distances.
+fn compared(model: &Model, constraint: &Constraint) -> usize {
+    match constraint {
+        Constraint::NoOverlap {
+            p,
+            matrix: None,
+            ..
+        } => members_of(model, *p).len(),
+        _ => 0,
+    }
+}
+
+fn waiting_of_each(alloc: Global, model: &Model) -> Result<Vec<Waiting>, NoMemory> {
+    let mut waiting = Vec::new(alloc);
+    for c in model.constraints() {
+        waiting.push(Waiting::new(alloc, compared(model, c))?)?;
+    }
+    Ok(waiting)
+}
+
 /// The members of a sequence, of which a valid model has few.
 fn few_members(model: &Model, p: Seq) -> &[Itv]
     ensures members { result.now ≡ members_of model.now p }
@@ -144,7 +167,7 @@ fn ask_constraint(
 
 impl PropUnary {
     /// The propagators of a model. Only this call asks for memory, as much as the sequences have
-    /// members, twice and once more for each constraint without overlap.
+    /// members, a few times for each constraint without overlap.
     pub fn new(alloc: Global, model: &Model) -> Result<PropUnary, NoMemory>
         ensures { IfOk result (λ p. IsFor p model.now) }
     {
@@ -159,6 +182,7 @@ impl PropUnary {
             keys: vec![in alloc; Keys::ABSENT; MOST]?,
             rows: vec![in alloc; Places::none(); MOST]?,
             starts: vec![in alloc; 0; n as usize]?,
+            waiting: waiting_of_each(alloc, model)?,
         })
     }
 
@@ -201,15 +225,22 @@ impl PropUnary {
     }
 
     /// Whether what it finds now, if it finds anything, can wait until others are quiet. It says so only
-    /// of a constraint without distances. Nothing hangs on it.
-    pub fn can_wait(&self, k: u32, model: &Model, region: &Region) -> bool {
-        if k >= self.constraints {
+    /// of a constraint without distances. It compares those alone that aren't as they were when it was
+    /// asked last. Nothing hangs on it.
+    pub fn can_wait(&mut self, k: u32, model: &Model, region: &Region) -> bool
+        ensures kept { (m : Data) → IsFor self.old m → IsFor self.new m }
+    {
+        if k >= self.constraints || k as usize >= self.waiting.len() {
             return false;
         }
         match at(model.constraints(), k as usize) {
-            Some(Constraint::NoOverlap { p, matrix, .. }) => {
-                matrix.is_none() && can_wait(region, *p, few_members(model, *p))
-            }
+            Some(
+                Constraint::NoOverlap {
+                    p,
+                    matrix: None,
+                    ..
+                },
+            ) => self.waiting[k as usize].can_wait(region, *p, members_of(model, *p)),
             _ => false,
         }
     }

@@ -1,109 +1,274 @@
 //! Whether what PAIR finds of a sequence can wait until others are quiet: it is then an order of two,
 //! or a bound that the size of an interval alone gives too.
-ghost use Rattle.std.specs.Prelude.{◌≤◌, length};
+ghost use Rattle.std.specs.Prelude.{◌≡◌, ◌<◌, ◌≤◌, length};
 
-use crate::keys::{Back, Front, Keys, note_keys};
-use crate::silence::Task;
-use region::{OrderCell, Region};
-use sched_base::{Itv, Seq};
+use region::{Look, OrderCell, Presence, Region};
+use sched_base::{Itv, NoMemory, Seq};
+use std::alloc::Global;
+
+/// What is known of a member that may change.
+#[derive(Clone, Copy, Debug, PartialEq, Eq)]
+struct Cells {
+    presence: Presence,
+    smin: i64,
+    smax: i64,
+    emin: i64,
+    emax: i64,
+}
+
+/// What is compared of a member, in moments. Where one who is absent, or isn't known to be present, isn't
+/// asked for a number, it is one that is never too late, or too soon, for another.
+#[derive(Clone, Copy, Debug, PartialEq, Eq)]
+struct Window {
+    /// The earliest completion.
+    ect: i64,
+    /// The same where the member is present.
+    present_ect: i64,
+    /// The latest end.
+    emax: i64,
+    /// The latest start.
+    lst: i64,
+    /// The same where the member is present.
+    present_lst: i64,
+    /// The earliest start.
+    smin: i64,
+}
+
+impl Window {
+    /// That of a member that is absent.
+    const ABSENT: Window = Window {
+        ect: i64::MIN,
+        present_ect: i64::MIN,
+        emax: i64::MIN,
+        lst: i64::MAX,
+        present_lst: i64::MAX,
+        smin: i64::MAX,
+    };
+}
+
+/// A member as it was read last.
+#[derive(Clone, Copy, Debug)]
+struct Noted {
+    cells: Cells,
+    window: Window,
+}
+
+impl Noted {
+    /// An absent one.
+    const ABSENT: Noted = Noted {
+        cells: Cells {
+            presence: Presence::Absent,
+            smin: 0,
+            smax: 0,
+            emin: 0,
+            emax: 0,
+        },
+        window: Window::ABSENT,
+    };
+}
+
+fn cells_at(look: &Look<'_>, x: Itv) -> Cells
+    requires { x.0 < length look.now.region.bounds }
+{
+    Cells {
+        presence: look.presence(x),
+        smin: look.smin(x),
+        smax: look.smax(x),
+        emin: look.emin(x),
+        emax: look.emax(x),
+    }
+}
+
+fn window_at(look: &Look<'_>, x: Itv, cells: Cells) -> Window
+    requires { x.0 < length look.now.region.bounds }
+{
+    if cells.presence == Presence::Absent {
+        return Window::ABSENT;
+    }
+    let (ect, lst) = (look.ect(x), look.lst(x));
+    let is_there = cells.presence == Presence::Present;
+    Window {
+        ect,
+        present_ect: if is_there { ect } else { i64::MIN },
+        emax: cells.emax,
+        lst,
+        present_lst: if is_there { lst } else { i64::MAX },
+        smin: cells.smin,
+    }
+}
 
 /// Whether two don't fit as they are if the first stands before the second: the first pushes the second
 /// to a later start, or the second the first to a sooner end, or both can't be.
-fn is_pushed(c: Front, d: Back) -> bool {
+fn is_pushed(c: Window, d: Window) -> bool {
     c.present_ect > d.smin || c.emax > d.present_lst || c.ect > d.lst
 }
 
+/// Whether two fit as they are in neither order.
+fn are_tight(c: Window, d: Window) -> bool {
+    is_pushed(c, d) && is_pushed(d, c)
+}
+
 /// Whether two that are there fit in neither order.
-fn do_clash(c: Keys, d: Keys) -> bool {
-    c.front.present_ect > d.back.present_lst && d.front.present_ect > c.back.present_lst
+fn do_clash(c: Window, d: Window) -> bool {
+    c.present_ect > d.present_lst && d.present_ect > c.present_lst
 }
 
-/// Where two fit as they are in one order, it is mostly the one that is told. So their order is read
-/// only where they fit in none.
-fn can_two_wait(region: &Region, p: Seq, first: Task, second: Task) -> bool {
-    let (c, d) = (first.keys, second.keys);
-    if !is_pushed(c.front, d.back) || !is_pushed(d.front, c.back) {
-        return true;
-    }
-    if do_clash(c, d) {
-        return false;
-    }
-    let order = region
-        .look(None, None)
-        .order(p, first.member, second.member);
-    order == OrderCell::Unknown
-}
-
-/// What is found of a member and those from a place on.
-fn can_row_wait(
-    region: &Region,
-    p: Seq,
-    first: Task,
-    members: &[Itv],
-    keys: &[Keys],
-    from: usize,
-) -> bool
-    requires { length members.now ≤ length keys.now }
+fn has_bit(word: u64, b: usize) -> bool
+    requires { b < 64 }
 {
-    for k in from..members.len() {
-        let second = Task {
-            member: members[k],
-            keys: keys[k],
-        };
-        if !can_two_wait(region, p, first, second) {
-            return false;
-        }
-    }
-    true
+    (word >> b) & 1 == 1
 }
 
-fn can_all_wait(region: &Region, p: Seq, members: &[Itv], keys: &[Keys]) -> bool
-    requires { length members.now ≤ length keys.now }
+/// A word where this bit is on or off.
+fn with_bit(word: u64, b: usize, is_on: bool) -> u64
+    requires { b < 64 }
 {
-    for k in 0..members.len() {
-        let first = Task {
-            member: members[k],
-            keys: keys[k],
-        };
-        if !can_row_wait(region, p, first, members, keys, k + 1) {
-            return false;
-        }
-    }
-    true
+    let bit = 1 << b;
+    if is_on { word | bit } else { word & !bit }
 }
 
-/// The same, with room for the numbers of the members.
-fn can_noted_wait(region: &Region, p: Seq, members: &[Itv], keys: &mut [Keys]) -> bool
-    requires { length members.now ≤ length keys.old }
-{
-    note_keys(&region.look(None, None), members, keys);
-    can_all_wait(region, p, members, keys)
+/// The members of a sequence as they were read last, and for each, as a set of places, those with whom it
+/// fits in neither order as they are. The most are compared but where one of the two is read anew.
+#[derive(Debug, Drop)]
+pub struct Waiting {
+    noted: Vec<Noted>,
+    tight: Vec<u64>,
 }
 
-/// The most members that a short sequence has, and that any has of which something is said.
-const FEW: usize = 16;
-
+/// The most members that a sequence has of which something is said.
 const MANY: usize = 64;
 
-fn can_few_wait(region: &Region, p: Seq, members: &[Itv]) -> bool
-    requires { length members.now ≤ 16 }
-{
-    let mut keys = [Keys::ABSENT; FEW];
-    can_noted_wait(region, p, members, &mut keys)
-}
-
-fn can_many_wait(region: &Region, p: Seq, members: &[Itv]) -> bool
-    requires { length members.now ≤ 64 }
-{
-    let mut keys = [Keys::ABSENT; MANY];
-    can_noted_wait(region, p, members, &mut keys)
-}
-
-/// Whether all that PAIR finds now of a sequence without overlap and without distances, whose members
-/// these are, can wait. Each two are compared once. Of a long sequence nothing is said to.
-pub fn can_wait(region: &Region, p: Seq, members: &[Itv]) -> bool {
-    if members.len() <= FEW {
-        return can_few_wait(region, p, members);
+impl Waiting {
+    /// Room for as many members, where they aren't too many.
+    pub fn new(alloc: Global, members: usize) -> Result<Waiting, NoMemory> {
+        let room = if members > MANY { 0 } else { members };
+        Ok(Waiting {
+            noted: vec![in alloc; Noted::ABSENT; room]?,
+            tight: vec![in alloc; 0; room]?,
+        })
     }
-    members.len() <= MANY && can_many_wait(region, p, members)
+
+    /// Whether all that PAIR finds now of a sequence without overlap and without distances, whose members
+    /// these are, can wait. Of a long sequence nothing is said to.
+    pub fn can_wait(&mut self, region: &Region, p: Seq, members: &[Itv]) -> bool {
+        let n = members.len();
+        if n > MANY || n > self.noted.len() || n > self.tight.len() {
+            return false;
+        }
+        let look = region.look(None, None);
+        let moved = note_members(&look, members, &mut self.noted);
+        compare_moved(moved, n, &self.noted, &mut self.tight);
+        can_all_wait(&look, p, members, &self.noted, &self.tight)
+    }
+}
+
+/// Reads a member. Whether something else is known of it than before.
+fn note_member(look: &Look<'_>, x: Itv, noted: &mut Noted) -> bool {
+    if x.0 as usize >= look.len() {
+        return false;
+    }
+    let cells = cells_at(look, x);
+    if cells == noted.cells {
+        return false;
+    }
+    *noted = Noted {
+        cells,
+        window: window_at(look, x, cells),
+    };
+    true
+}
+
+/// Reads each member. The places of those of which something else is known than before.
+fn note_members(look: &Look<'_>, members: &[Itv], noted: &mut [Noted]) -> u64
+    requires room { length members.now ≤ length noted.old }
+    requires few { length members.now ≤ 64 }
+    ensures { length noted.new ≡ length noted.old }
+{
+    let mut moved = 0;
+    for k in 0..members.len() {
+        if note_member(look, members[k], &mut noted[k]) {
+            moved |= 1 << k;
+        }
+    }
+    moved
+}
+
+/// Compares the member at a place with each.
+fn compare_with_all(at: usize, n: usize, noted: &[Noted], tight: &mut [u64])
+    requires here { at < n }
+    requires room { n ≤ length noted.now }
+    requires rows { n ≤ length tight.old }
+    requires few { n ≤ 64 }
+    ensures { length tight.new ≡ length tight.old }
+{
+    let window = noted[at].window;
+    let mut row = 0;
+    for k in 0..n {
+        let is_tight = k != at && are_tight(window, noted[k].window);
+        tight[k] = with_bit(tight[k], at, is_tight);
+        row = with_bit(row, k, is_tight);
+    }
+    tight[at] = row;
+}
+
+/// Compares those at these places with each.
+fn compare_moved(moved: u64, n: usize, noted: &[Noted], tight: &mut [u64])
+    requires room { n ≤ length noted.now }
+    requires rows { n ≤ length tight.old }
+    requires few { n ≤ 64 }
+    ensures { length tight.new ≡ length tight.old }
+{
+    for k in 0..n {
+        if has_bit(moved, k) {
+            compare_with_all(k, n, noted, tight);
+        }
+    }
+}
+
+/// Two that fit as they are in neither order. Where they do in one, it is mostly the one that is told. So
+/// the order of no others is read.
+fn can_two_wait(look: &Look<'_>, p: Seq, a: Itv, b: Itv, c: Window, d: Window) -> bool {
+    !do_clash(c, d) && look.order(p, a, b) == OrderCell::Unknown
+}
+
+/// What is found of the member at a place and those at these.
+fn can_row_wait(
+    look: &Look<'_>,
+    p: Seq,
+    at: usize,
+    members: &[Itv],
+    noted: &[Noted],
+    others: u64,
+) -> bool
+    requires here { at < length members.now }
+    requires room { length members.now ≤ length noted.now }
+{
+    let (a, c) = (members[at], noted[at].window);
+    let mut others = others;
+    for _ in 0..members.len() {
+        let k = others.trailing_zeros() as usize;
+        if k >= members.len() {
+            return true;
+        }
+        if !can_two_wait(look, p, a, members[k], c, noted[k].window) {
+            return false;
+        }
+        others &= others.wrapping_sub(1);
+    }
+    true
+}
+
+fn can_all_wait(look: &Look<'_>, p: Seq, members: &[Itv], noted: &[Noted], tight: &[u64]) -> bool
+    requires room { length members.now ≤ length noted.now }
+    requires rows { length members.now ≤ length tight.now }
+    requires few { length members.now ≤ 64 }
+{
+    for k in 0..members.len() {
+        // Each two once.
+        let behind = tight[k] & (u64::MAX << k);
+        if behind != 0 && !can_row_wait(look, p, k, members, noted, behind) {
+            return false;
+        }
+    }
+    true
 }
