@@ -43,6 +43,15 @@ silent_same m r best d o a b is same told = silent_itself m r best d a b is (ap 
 pub silent_other : (m : Data) (r : Region) (best : Option ℤ) (d : Disjunctive) (o : OrderCell) (a b : Itv) → (order_in (cells_of r d.p) a b ≡ o → ⊥) → AreSilentWhere m r best d o a b
 silent_other m r best d o a b other told = absurd (other told)
 
+pub silent_told : (m : Data) (r : Region) (best : Option ℤ) (d : Disjunctive) (a b : Itv) → AreSilent m r best d a b → AreSilentWhere m r best d Forward a b
+silent_told m r best d a b silent told = silent
+
+pub open_told : (m : Data) (r : Region) (best : Option ℤ) (d : Disjunctive) (a b : Itv) → order_in (cells_of r d.p) a b ≡ Forward → AreSilentWhere m r best d Unknown a b
+open_told m r best d a b told unknown = absurd (apart (sym told ∙ unknown))
+  where
+    apart : Forward ≡ Unknown → ⊥
+    apart h = cc
+
 pub silent_tested : (m : Data) (r : Region) (best : Option ℤ) (d : Disjunctive) (o : OrderCell) (a b : Itv) → IsDisjunctive m d → (a.0 ≡ b.0 → ⊥) → is_silent_two o (bounds_of r a) (bounds_of r b) (reach m d.p d.matrix a b) ≡ true → AreSilentWhere m r best d o a b
 silent_tested m r best d o a b is apart test told =
     silent_pair m r best d a b is (different a.0 b.0 apart) (subst (λ u. is_silent_two u (bounds_of r a) (bounds_of r b) (reach m d.p d.matrix a b) ≡ true) (sym told) test)

@@ -41,16 +41,30 @@ between_more P xs from n before here k past below = elim (cases_eq k n) [
   | inr other ↦ (let apart : k ≢ n = other in before k past (omega (arith, apart, below)))
 ]
 
+-- a place on its own, and those before and behind it
+is_below : (i n : ℕ) → nat_lt i n ≡ true → i < n
+is_below i n h = grind (arith, nat_tests)
+
+is_past : (i n : ℕ) → nat_lt i n ≡ false → n ≤ i
+is_past i n h = grind (arith, nat_tests)
+
+pub between_on : (P : Itv → Type 0) (xs : List Itv) (k n : ℕ) → EachBetween P xs 0 k → P (member_at xs k) → EachBetween P xs (k + 1) n → EachBetween P xs 0 n
+between_on P xs k n before here later i past below = elim (cases_eq i k) [
+  | inl e ↦ subst (λ (j : ℕ). P (member_at xs j)) (sym e) here
+  | inr other ↦ decided other (nat_lt i k) refl
+]
+  where
+    decided : i ≢ k → (t : Bool) → nat_lt i k ≡ t → P (member_at xs i)
+    decided apart true e = before i past (is_below i k e)
+    decided apart false e = let from = is_past i k e in later i (omega (arith, apart, from)) below
+
+pub each_between : (P : Itv → Type 0) (xs : List Itv) (n : ℕ) → length xs ≤ n → EachBetween P xs 0 n → EachOf P xs
+each_between P xs n all each = each_placed P xs (λ k below. each k (omega arith) (omega (arith, below, all)))
+
 -- and from one place round to it
 pub all_round : (P : Itv → Type 0) (xs : List Itv) (start n : ℕ) → length xs ≤ n → EachBetween P xs start n → EachBetween P xs 0 start → EachOf P xs
 all_round P xs start n size later sooner = each_placed P xs (λ k below. decided k below (nat_lt k start) refl)
   where
-    is_below : (k : ℕ) → nat_lt k start ≡ true → k < start
-    is_below k h = grind (arith, nat_tests)
-
-    is_past : (k : ℕ) → nat_lt k start ≡ false → start ≤ k
-    is_past k h = grind (arith, nat_tests)
-
     decided : (k : ℕ) → k < length xs → (t : Bool) → nat_lt k start ≡ t → P (member_at xs k)
-    decided k below true e = sooner k (omega arith) (is_below k e)
-    decided k below false e = later k (is_past k e) (omega (arith, below, size))
+    decided k below true e = sooner k (omega arith) (is_below k start e)
+    decided k below false e = later k (is_past k start e) (omega (arith, below, size))

@@ -1,7 +1,8 @@
 //! What PAIR of a sequence without overlap finds.
-ghost use Rattle.std.specs.Prelude.{◌≡◌, ◌≤◌, ◌∷◌, [], false, length, IfNone, IfSome};
+ghost use Rattle.std.specs.Prelude.{◌≡◌, ◌<◌, ◌≤◌, ◌∷◌, [], ℤ, Option, true, false, length, is_none, IfNone, IfSome};
 ghost use Rattle.region.specs.declared.types.OrderCell.TheVariants as order;
-ghost use Rattle.region.specs.Cells.{bounds_of};
+ghost use Rattle.region.specs.Cells.{bounds_of, cells_of};
+ghost use Rattle.region.specs.Orders.{order_in};
 ghost use Rattle.sched_model.specs.Data.{members_of};
 ghost use Rattle.region.specs.Looks.{IsRegionOf};
 ghost use Rattle.findings.specs.Found.{IsFinding};
@@ -9,13 +10,14 @@ ghost use Rattle.findings.specs.code.Numbers.{ends_of};
 ghost use Rattle.refute_seq.specs.declared.witness.SeqWitness.TheVariants as witness;
 ghost use Rattle.refute_seq.specs.OnSequence.{refutes};
 ghost use Rattle.prop_unary.specs.code.Tasks.{IsSilent, quiet};
-ghost use Rattle.prop_unary.specs.code.Silence.{IsDisjunctive, AreSilent, AreSilentWhere, SilentRow, IsKeyed, AreKeyed};
+ghost use Rattle.prop_unary.specs.code.Silence.{IsDisjunctive, AreSilent, AreSilentWhere, SilentRow, IsKeyed, AreKeyed, reach};
 ghost use Rattle.prop_unary.specs.code.Circles.{EachOf, EachBetween};
+ghost use Rattle.prop_unary.specs.code.Rows.{member_at};
 
 use crate::disjunctive::Disjunctive;
 use crate::keys::{Keys, note_keys};
 use crate::likely::likely_told;
-use crate::silence::{Task, are_surely_silent, is_surely_silent};
+use crate::silence::{Task, are_surely_silent, distance, is_surely_silent, no_reach};
 use findings::{Finding, Likely, Pair, ask_likely};
 use refute_seq::{OnSequence, SeqWitness};
 use region::{OrderCell, Region};
@@ -115,54 +117,152 @@ fn ask_two(
     ask_both(model, region, best, d, a, b, likely)
 }
 
-/// The same of two of which the first is told to stand before the second. Where none is told to, it is
-/// noted that their order is open, if their numbers leave something to find of it.
-fn ask_told(
+/// Whether the first of two is told to stand before the second, where this is the greatest distance that
+/// may bind them. Where none is told to, it is noted that their order is open, if their numbers leave
+/// something to find of it.
+fn is_told(
     model: &Model,
     region: &Region,
-    best: Option<i64>,
     d: &Disjunctive,
     first: Task,
     second: Task,
+    n: i64,
     is_open: &mut bool,
-) -> Option<Finding<SeqWitness>>
+) -> bool
     requires of { IsRegionOf model.now region.now.region }
     requires is { IsDisjunctive model.now d.now }
     requires first { IsKeyed (ends_of (bounds_of region.now.region first.member)) first.keys }
     requires second { IsKeyed (ends_of (bounds_of region.now.region second.member)) second.keys }
-    ensures none { IfNone result (AreSilentWhere model.now region.now.region best d.now order.Forward first.member second.member) }
-    ensures free { is_open.new ≡ false → (is_open.old ≡ false) × AreSilentWhere model.now region.now.region best d.now order.Unknown first.member second.member }
-    ensures some { IfSome result (IsFinding refutes model.now region.now.region best) }
-    ensures busy { IfSome result (λ f. quiet model.now d.now.c region.now.region best → ⊥) }
+    requires distance { n ≡ reach model.now d.now.p d.now.matrix first.member second.member }
+    ensures told { result ≡ true → order_in (cells_of region.now.region d.now.p) first.member second.member ≡ order.Forward }
+    ensures other { (best : Option ℤ) → result ≡ false → AreSilentWhere model.now region.now.region best d.now order.Forward first.member second.member }
+    ensures free { (best : Option ℤ) → is_open.new ≡ false → (is_open.old ≡ false) × AreSilentWhere model.now region.now.region best d.now order.Unknown first.member second.member }
 {
-    let (p, matrix) = (d.p, d.matrix);
     let (a, b) = (first.member, second.member);
     if a.0 == b.0 {
-        return None;
+        return false;
     }
-    match region.look(None, None).order(p, a, b) {
-        OrderCell::Backward => None,
+    match region.look(None, None).order(d.p, a, b) {
+        OrderCell::Backward => false,
         OrderCell::Unknown => {
-            let open = OrderCell::Unknown;
-            if is_surely_silent(model, region, p, matrix, open, first, second) {
-                return None;
+            if is_surely_silent(model, region, d, OrderCell::Unknown, first, second, n) {
+                return false;
             }
             *is_open = true;
-            None
+            false
         }
-        OrderCell::Forward => {
-            let pair = Pair {
-                sequence: p,
-                first: a,
-                second: b,
-            };
-            ask_both(model, region, best, d, a, b, likely_told(region, pair))
-        }
+        OrderCell::Forward => true,
     }
 }
 
-/// What is found of a member and others that it is told to stand before. Mostly the numbers of two show
-/// at once that nothing is, also where their order is open.
+/// The same of the first member from a place on of which it is so, if the numbers of the two leave
+/// something to find: its place, and where there is none, how many members there are. Mostly the numbers
+/// of two show at once that nothing is found, also where their order is open.
+fn next_told(
+    model: &Model,
+    region: &Region,
+    d: &Disjunctive,
+    first: Task,
+    members: &[Itv],
+    keys: &[Keys],
+    from: usize,
+    is_open: &mut bool,
+) -> usize
+    requires of { IsRegionOf model.now region.now.region }
+    requires is { IsDisjunctive model.now d.now }
+    requires first { IsKeyed (ends_of (bounds_of region.now.region first.member)) first.keys }
+    requires room { length members.now ≤ length keys.now }
+    requires keys { AreKeyed region.now.region members.now keys.now }
+    requires within { from ≤ length members.now }
+    ensures past { from ≤ result }
+    ensures within { result ≤ length members.now }
+    ensures at { result < length members.now → order_in (cells_of region.now.region d.now.p) first.member (member_at members.now result) ≡ order.Forward }
+    ensures told { (best : Option ℤ) → EachBetween (AreSilentWhere model.now region.now.region best d.now order.Forward first.member) members.now from result }
+    ensures free { (best : Option ℤ) → is_open.new ≡ false → (is_open.old ≡ false) × EachBetween (AreSilentWhere model.now region.now.region best d.now order.Unknown first.member) members.now from result }
+{
+    if d.matrix.is_none() {
+        return next_near(model, region, d, first, members, keys, from, is_open);
+    }
+    for k in from..members.len() {
+        let second = Task {
+            member: members[k],
+            keys: keys[k],
+        };
+        let n = distance(model, region, d, first.member, second.member);
+        if are_surely_silent(model, region, d, first, second, n) {
+            continue;
+        }
+        if is_told(model, region, d, first, second, n, is_open) {
+            return k;
+        }
+    }
+    members.len()
+}
+
+/// The same where the sequence keeps no distances.
+fn next_near(
+    model: &Model,
+    region: &Region,
+    d: &Disjunctive,
+    first: Task,
+    members: &[Itv],
+    keys: &[Keys],
+    from: usize,
+    is_open: &mut bool,
+) -> usize
+    requires of { IsRegionOf model.now region.now.region }
+    requires is { IsDisjunctive model.now d.now }
+    requires first { IsKeyed (ends_of (bounds_of region.now.region first.member)) first.keys }
+    requires near { is_none d.now.matrix ≡ true }
+    requires room { length members.now ≤ length keys.now }
+    requires keys { AreKeyed region.now.region members.now keys.now }
+    requires within { from ≤ length members.now }
+    ensures past { from ≤ result }
+    ensures within { result ≤ length members.now }
+    ensures at { result < length members.now → order_in (cells_of region.now.region d.now.p) first.member (member_at members.now result) ≡ order.Forward }
+    ensures told { (best : Option ℤ) → EachBetween (AreSilentWhere model.now region.now.region best d.now order.Forward first.member) members.now from result }
+    ensures free { (best : Option ℤ) → is_open.new ≡ false → (is_open.old ≡ false) × EachBetween (AreSilentWhere model.now region.now.region best d.now order.Unknown first.member) members.now from result }
+{
+    for k in from..members.len() {
+        let second = Task {
+            member: members[k],
+            keys: keys[k],
+        };
+        let n = no_reach(model, d, first.member, second.member);
+        if are_surely_silent(model, region, d, first, second, n) {
+            continue;
+        }
+        if is_told(model, region, d, first, second, n, is_open) {
+            return k;
+        }
+    }
+    members.len()
+}
+
+/// What is found of two of which the first is told to stand before the second.
+fn ask_forward(
+    model: &Model,
+    region: &Region,
+    best: Option<i64>,
+    d: &Disjunctive,
+    a: Itv,
+    b: Itv,
+) -> Option<Finding<SeqWitness>>
+    requires of { IsRegionOf model.now region.now.region }
+    requires is { IsDisjunctive model.now d.now }
+    ensures none { IfNone result (AreSilent model.now region.now.region best d.now a b) }
+    ensures some { IfSome result (IsFinding refutes model.now region.now.region best) }
+    ensures busy { IfSome result (λ f. quiet model.now d.now.c region.now.region best → ⊥) }
+{
+    let pair = Pair {
+        sequence: d.p,
+        first: a,
+        second: b,
+    };
+    ask_both(model, region, best, d, a, b, likely_told(region, pair))
+}
+
+/// What is found of a member and others that it is told to stand before.
 fn ask_told_row(
     model: &Model,
     region: &Region,
@@ -183,18 +283,12 @@ fn ask_told_row(
     ensures some { IfSome result (IsFinding refutes model.now region.now.region best) }
     ensures busy { IfSome result (λ f. quiet model.now d.now.c region.now.region best → ⊥) }
 {
-    let (p, matrix) = (d.p, d.matrix);
-    for k in 0..members.len() {
-        let second = Task {
-            member: members[k],
-            keys: keys[k],
-        };
-        if are_surely_silent(model, region, p, matrix, first, second) {
-            continue;
-        }
-        if let Some(found) = ask_told(model, region, best, d, first, second, is_open) {
+    let mut k = next_told(model, region, d, first, members, keys, 0, is_open);
+    while k < members.len() {
+        if let Some(found) = ask_forward(model, region, best, d, first.member, members[k]) {
             return Some(found);
         }
+        k = next_told(model, region, d, first, members, keys, k + 1, is_open);
     }
     None
 }
@@ -219,13 +313,13 @@ fn ask_row(
     ensures some { IfSome result (IsFinding refutes model.now region.now.region best) }
     ensures busy { IfSome result (λ f. quiet model.now d.now.c region.now.region best → ⊥) }
 {
-    let (p, matrix) = (d.p, d.matrix);
     for k in 0..members.len() {
         let second = Task {
             member: members[k],
             keys: keys[k],
         };
-        if is_surely_silent(model, region, p, matrix, order, first, second) {
+        let n = distance(model, region, d, first.member, second.member);
+        if is_surely_silent(model, region, d, order, first, second, n) {
             continue;
         }
         if let Some(found) = ask_two(model, region, best, d, order, first.member, second.member) {

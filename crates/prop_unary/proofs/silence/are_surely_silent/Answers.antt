@@ -1,17 +1,10 @@
-use Rattle.std.proofs.Common.{◌≡◌, true, pos, rules}
-use Rattle.std.specs.Option.{is_none}
+use Rattle.std.proofs.Common.{rules}
 use Rattle.region.specs.Cells.{bounds_of}
 use Rattle.prop_unary.specs.code.Silence.{reach}
-use Rattle.prop_unary.proofs.Noted.{orders_within, no_reach}
+use Rattle.prop_unary.proofs.Noted.{orders_within}
 use Rattle.prop_unary.proofs.silence.are_surely_silent.Goals as goal
-
-pub returns-then-is_none : goal.returns-then-is_none
-returns-then-is_none c = λ told.
-    let none : is_none c.args.matrix ≡ true = search rules in
-    orders_within (bounds_of c.args.region.now.region c.args.first.member) (bounds_of c.args.region.now.region c.args.second.member) c.args.first.keys.front c.args.second.keys.back (pos 0) (reach c.args.model.now c.args.p c.args.matrix c.args.first.member c.args.second.member) c.are_silent_orders.result
-    (no_reach c.args.model.now c.args.p c.args.matrix c.args.first.member c.args.second.member none) c.requires.first.0 c.requires.second.1 (search rules) told
 
 pub returns : goal.returns
 returns c = λ told.
-    orders_within (bounds_of c.args.region.now.region c.args.first.member) (bounds_of c.args.region.now.region c.args.second.member) c.args.first.keys.front c.args.second.keys.back c.reach-n.result (reach c.args.model.now c.args.p c.args.matrix c.args.first.member c.args.second.member) c.are_silent_orders-2.result
-    c.reach-n.ensures c.requires.first.0 c.requires.second.1 (search rules) told
+    orders_within (bounds_of c.args.region.now.region c.args.first.member) (bounds_of c.args.region.now.region c.args.second.member) c.args.first.keys.front c.args.second.keys.back c.args.n (reach c.args.model.now c.args.d.now.p c.args.d.now.matrix c.args.first.member c.args.second.member) c.are_silent_orders.result
+    c.requires.distance c.requires.first.0 c.requires.second.1 (search rules) told
