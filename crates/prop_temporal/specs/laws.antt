@@ -7,6 +7,7 @@ pub mod Quieting
 pub mod Elsewhere
 pub mod Own
 pub mod Falling
+pub mod Pairs
 pub mod Touching
 pub mod Ready
 pub mod Owners

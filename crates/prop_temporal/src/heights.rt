@@ -11,6 +11,13 @@ pub fn is_late(weight: i64, head: i64, tail: i64) -> bool
     i128::from(tail) < i128::from(weight) + i128::from(head)
 }
 
+/// Whether the tail stands more than the weight above the head.
+pub fn is_beyond(weight: i64, head: i64, tail: i64) -> bool
+    ensures { result ≡ int_lt (weight +ℤ head) tail }
+{
+    i128::from(weight) + i128::from(head) < i128::from(tail)
+}
+
 pub fn height(heights: &[i64], p: usize) -> i64
     ensures { result ≡ height_in heights.now p }
 {

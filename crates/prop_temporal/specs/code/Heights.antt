@@ -1,13 +1,17 @@
 -- Heights of points, as they are kept and with the two points of one interval set.
-use Rattle.std.specs.Prelude.{◌≡◌, ◌⊎◌, ℕ, ◌+◌, ◌*◌, ◌<◌, ℤ, pos, ◌+ℤ◌, ◌≤ℤ◌, Bool, true, List, [], length, get_or, Some, slice_get, nat_eq, if◌then◌else◌}
+use Rattle.std.specs.Prelude.{◌≡◌, ◌⊎◌, ℕ, ◌+◌, ◌*◌, ◌<◌, ℤ, pos, ◌+ℤ◌, ◌≤ℤ◌, Bool, true, false, not, ◌&&◌, ◌||◌, List, [], length, get_or, Option, Some, slice_get, nat_eq, int_lt, if◌then◌else◌}
 use Rattle.std.specs.List.{list_any}
 use Rattle.sched_base.specs.declared.ids.Itv.{Itv}
+use Rattle.sched_model.specs.declared.types.Constraint.{Constraint}
+use Rattle.sched_model.specs.declared.types.Constraint.TheVariants.{Temporal}
 use Rattle.sched_model.specs.Data.{Data, has}
-use Rattle.region.specs.Cells.{Region}
+use Rattle.region.specs.declared.types.OrderCell.{OrderCell}
+use Rattle.region.specs.declared.types.OrderCell.TheVariants.{Unknown, Forward, Backward}
+use Rattle.region.specs.Cells.{Region, is_there}
 use Rattle.cycles.specs.code.Walks.{arc_at}
 use Rattle.refute_basic.specs.declared.edge.Arc.{Arc as Edge}
 use Rattle.refute_basic.specs.declared.arc_name.ArcName.{ArcName}
-use Rattle.refute_basic.specs.Cycle.{edge_of}
+use Rattle.refute_basic.specs.Cycle.{point, edge_of}
 use Rattle.prop_temporal.specs.code.Members.{touched_by}
 use Rattle.refute_basic.specs.laws.Walks.{AllLose}
 use Rattle.prop_temporal.specs.code.Shown.{OfConstraint, OfOne}
@@ -43,6 +47,18 @@ pub record OwnKeep (m : Data) (r : Region) (x : ℕ) (cs : List ℕ) (hs : List 
 -- along the arc of this name, if the region shows it, the height falls by its weight at least
 abbrev pub Falls : Data → Region → (ℕ → ℤ) → ArcName → Type 0
 Falls m r h i = (e : Edge) → edge_of m r i ≡ Some e → (e.weight +ℤ h e.head) ≤ℤ h e.tail
+
+-- along the arcs of a precedence the height falls whoever is present, or one of its intervals isn't; another constraint has none
+abbrev pub keeps_precedence : Region → (ℕ → ℤ) → Option Constraint → Bool
+keeps_precedence r h (Some (Temporal from to equal a b z)) =
+    (not (int_lt (h (point from a)) (z +ℤ h (point to b))) && (not equal || not (int_lt (z +ℤ h (point to b)) (h (point from a))))) || not (is_there r a && is_there r b)
+keeps_precedence r h _ = true
+
+-- an order is told along whose arc the height doesn't fall: forth or back it does, if these are true
+abbrev pub breaks : OrderCell → Bool → Bool → Bool
+breaks Unknown forth back = false
+breaks Forward forth back = not forth
+breaks Backward forth back = not back
 
 -- along each arc of a kind
 abbrev pub FallsAlong : Data → Region → (ℕ → ℤ) → (ArcName → Type 0) → Type 0

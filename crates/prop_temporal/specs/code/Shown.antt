@@ -93,6 +93,19 @@ IsOfSide behind u x i = (i.kind ≡ 3) × (i.x ≡ u) × (this_of behind i ≡ x
 abbrev pub IsOfSideOf : Bool → ℕ → ℕ → List Itv → ArcName → Type 0
 IsOfSideOf behind u x ys i = (i.kind ≡ 3) × (i.x ≡ u) × (this_of behind i ≡ x) × (has ys (itv (other_of behind i)) ≡ true)
 
+-- of two members, whichever stands first, those of one with these, and those of which one at least is among the first ones
+pub record IsOfPairs (u x : ℕ) (ys : List Itv) (i : ArcName) : Type 0 where
+  pub kind : i.kind ≡ 3
+  pub of : i.x ≡ u
+  pub ends : ((i.y ≡ x) × (has ys (itv i.z) ≡ true)) ⊎ ((i.z ≡ x) × (has ys (itv i.y) ≡ true))
+
+pub record IsOfPairsFrom (u : ℕ) (firsts all : List Itv) (i : ArcName) : Type 0 where
+  pub kind : i.kind ≡ 3
+  pub of : i.x ≡ u
+  pub first : has all (itv i.y) ≡ true
+  pub second : has all (itv i.z) ≡ true
+  pub either : (has firsts (itv i.y) ≡ true) ⊎ (has firsts (itv i.z) ≡ true)
+
 -- of a constraint those of a precedence, and those of one member
 abbrev pub OfOne : ℕ → ArcName → Type 0
 OfOne x i = (i.kind ≡ 0) ⊎ ((i.kind ≡ 3) × ((i.y ≡ x) ⊎ (i.z ≡ x)))

@@ -1,7 +1,0 @@
-use Rattle.std.proofs.Common.{false, take}
-use Rattle.prop_temporal.specs.code.Shown.{IsOfSideOf}
-use Rattle.prop_temporal.specs.code.Heights.{FallsAlong, height_in}
-use Rattle.prop_temporal.proofs.calm.side_falls_lightly.Given as goal
-
-abbrev pub invariant-loop-y : goal.invariant-loop-y
-invariant-loop-y l = FallsAlong l.model l.look.region (height_in l.heights) (IsOfSideOf false l.u l.x.0 (take l.y-index l.members))
