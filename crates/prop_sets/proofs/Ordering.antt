@@ -23,7 +23,7 @@ use Rattle.prop_sets.specs.code.Known as known
 use Rattle.std.specs.List.Sorted.{IsPermutation}
 use Rattle.prop_sets.specs.code.Reordered.{IsReordered}
 use Rattle.prop_sets.specs.laws.Reordering.{reordered}
-use Rattle.prop_sets.specs.code.Orders.{AreRising, AreKeyed, ArePlaces, AreStarts, AreNamed, AreNumbered, IsByStart, IsOrderBy, on_by, key_by, keyed_at, no_place}
+use Rattle.prop_sets.specs.code.Orders.{AreRising, AreKeyed, ArePlaces, AreStarts, AreNamed, ArePlacedNumbers, IsByStart, IsOrderBy, on_by, key_by, keyed_at, no_place}
 
 -- no key is below one before it, for each that is next to another
 pub rising_from_sort : (ks : List Keyed) → ((k : ℕ) (d : Keyed) → 0 ≤ k → k + 1 < length ks → is_lt (int_cmp (get_or ks (k + 1) d).key (get_or ks k d).key) ≡ false) → AreRising ks
@@ -162,21 +162,6 @@ more_named xs ks n ys x is h = record {
 pub all_named : (xs : List Itv) (ks : List Keyed) (k n : ℕ) (ys : List Itv) → k ≡ n → AreNamed xs ks k ys → AreNamed xs ks n ys
 all_named xs ks k n ys same h = subst (λ i. AreNamed xs ks i ys) same h
 
-pub none_numbered : (ns : List Numbers) (ks : List Keyed) → AreNumbered ns ks 0 []
-none_numbered ns ks = record { size = refl; each = λ i low. absurd (omega (arith, low)) }
-
-pub more_numbered : (ns : List Numbers) (ks : List Keyed) (n : ℕ) (zs : List Numbers) (x : Numbers) → x ≡ numbers_at ns (keyed_at ks n).place → AreNumbered ns ks n zs → AreNumbered ns ks (n + 1) (zs ++ x ∷ [])
-more_numbered ns ks n zs x is h = record {
-  size = length_push zs x ∙ ap (λ k. k + 1) h.size;
-  each = λ i low. elim (below_or_last i n low) [
-    | inl less ↦ (let size = h.size in get_or_append_left zs (x ∷ []) known.no_numbers i (omega (arith, less, size)) ∙ h.each i less)
-    | inr last ↦ newest i zs x known.no_numbers (last ∙ sym h.size) ∙ is ∙ ap (λ k. numbers_at ns (keyed_at ks k).place) (sym last)
-  ];
-}
-
-pub all_numbered : (ns : List Numbers) (ks : List Keyed) (k n : ℕ) (zs : List Numbers) → k ≡ n → AreNumbered ns ks k zs → AreNumbered ns ks n zs
-all_numbered ns ks k n zs same h = subst (λ i. AreNumbered ns ks i zs) same h
-
 -- the earliest start is told by the numbers
 starts_as : (side : ℕ) (c : Bounds) → (times_from side (known.numbers_of c)).est ≡ (seen side c).est
 starts_as zero c = refl
@@ -196,20 +181,20 @@ starts_low side r xs old ks starts sorted k low =
     let within = moved.low k low in
     subst (λ (q : Keyed). q.place < length xs) (sym (start_at side r xs old ks starts moved k low)) (omega (arith, within, size))
 
--- the numbers of members that are named by places, in their order
-pub numbers_along : (r : Region) (xs : List Itv) (ns : List Numbers) (ks : List Keyed) (ys : List Itv) (zs : List Numbers) → ((k : ℕ) → k < length ks → (keyed_at ks k).place < length xs) → AreNumbers r xs (length xs) ns → AreNamed xs ks (length ks) ys → AreNumbered ns ks (length ks) zs
-    → AreNumbers r ys (length ys) zs
-numbers_along r xs ns ks ys zs low are named numbered =
+-- the numbers of members that are named by places
+pub numbers_along : (r : Region) (xs : List Itv) (ns : List Numbers) (ks : List Keyed) (ys : List Itv) → ((k : ℕ) → k < length ks → (keyed_at ks k).place < length xs) → AreNumbers r xs (length xs) ns → AreNamed xs ks (length ks) ys → ArePlacedNumbers r ys ks ns
+numbers_along r xs ns ks ys below are named =
     let many = named.size in
-    let as_many = numbered.size in
+    let size = are.size in
     record {
-      size = as_many ∙ sym many;
+      size = sym many;
+      low = λ k less. let within = below k (omega (arith, less, many)) in omega (arith, within, size);
       each = λ k less.
           let within : k < length ks = omega (arith, less, many) in
-          numbered.each k within ∙ are.each (keyed_at ks k).place (low k within) ∙ ap (λ x. known.numbers_of (bounds_of r x)) (sym (named.each k within));
+          are.each (keyed_at ks k).place (below k within) ∙ ap (λ x. known.numbers_of (bounds_of r x)) (sym (named.each k within));
       moments = λ k less.
           let within : k < length ks = omega (arith, less, many) in
-          subst AreMoments (sym (numbered.each k within)) (are.moments (keyed_at ks k).place (low k within));
+          are.moments (keyed_at ks k).place (below k within);
     }
 
 pub in_start_order : (side : ℕ) (r : Region) (xs : List Itv) (old ks : List Keyed) (ys : List Itv) → AreStarts side r xs (length xs) old → IsPermutation old ks → AreNamed xs ks (length ks) ys → IsReordered xs ys

@@ -5,9 +5,11 @@ ghost use Rattle.sched_model.specs.Valid.{is_moment};
 ghost use Rattle.region.specs.Cells.{bounds_of, unknown};
 ghost use Rattle.region.specs.Looks.{HasMoments, is_shifted, ect_in, lst_in};
 ghost use Rattle.prop_sets.specs.code.Rows.{asked_numbers, row_presence, row_by, row_from, chosen_row, side_of, member_at, AreMoments, AreRows};
-ghost use Rattle.prop_sets.specs.code.Known.{numbers_at, AreNumbers};
+ghost use Rattle.prop_sets.specs.code.Known.{numbers_at};
+ghost use Rattle.prop_sets.specs.code.Orders.{ArePlacedNumbers};
 
 use crate::known::Numbers;
+use crate::orders::Keyed;
 use region::{Bounds, Look, Presence, Region};
 use sched_base::{Itv, NoMemory};
 use theta_passes::{Presence as RowPresence, Row};
@@ -179,23 +181,29 @@ pub fn bounds_at(look: &Look<'_>, x: Itv) -> Bounds
     look.bounds(x)
 }
 
-/// The row of the member at a place, whose numbers are given.
+/// The row of a member, whose numbers stand at its place.
 fn row_of(
     region: &Region,
     members: &[Itv],
+    places: &[Keyed],
     numbers: &[Numbers],
     chosen: bool,
     back: bool,
     early: bool,
     k: usize,
 ) -> Row
-    requires are { AreNumbers region.now.region members.now (length members.now) numbers.now }
-    requires within { k < length numbers.now }
+    requires are { ArePlacedNumbers region.now.region members.now places.now numbers.now }
+    requires within { k < length places.now }
     ensures { result ≡ chosen_row chosen (side_of back) early (bounds_of region.now.region (member_at members.now k)) }
 {
     let _ = region;
     let _ = members;
-    row_from(chosen, back, early, numbers_at(numbers, k))
+    row_from(
+        chosen,
+        back,
+        early,
+        numbers_at(numbers, places[k].place as usize),
+    )
 }
 
 /// Puts one row for each member, from their numbers.
@@ -204,17 +212,18 @@ pub fn rows_of(
     rows: &mut Vec<Row>,
     region: &Region,
     members: &[Itv],
+    places: &[Keyed],
     numbers: &[Numbers],
     chosen: bool,
     back: bool,
     early: bool,
 ) -> Result<(), NoMemory>
-    requires { AreNumbers region.now.region members.now (length members.now) numbers.now }
+    requires { ArePlacedNumbers region.now.region members.now places.now numbers.now }
     ensures { OnOk result (AreRows (chosen_row chosen (side_of back) early) region.now.region members.now rows.new.items) }
 {
     rows.clear();
-    for k in 0..numbers.len() {
-        rows.push(row_of(region, members, numbers, chosen, back, early, k))?;
+    for k in 0..places.len() {
+        rows.push(row_of(region, members, places, numbers, chosen, back, early, k))?;
     }
     Ok(())
 }

@@ -6,7 +6,7 @@ ghost use Rattle.theta_passes.specs.code.Rows.{row_at};
 ghost use Rattle.prop_sets.specs.code.Rows.{seen, side_of, member_at, times_from, AreMoments};
 ghost use Rattle.prop_sets.specs.code.Known.{AreNumbers};
 ghost use Rattle.prop_sets.specs.code.Reordered.{IsReordered};
-ghost use Rattle.prop_sets.specs.code.Orders.{AreRising, AreKeyed, ArePlaces, AreStarts, AreNamed, AreNumbered, AreSpanned, IsByStart, IsOrderBy, on_by, key_by, keyed_at};
+ghost use Rattle.prop_sets.specs.code.Orders.{AreRising, AreKeyed, ArePlaces, AreStarts, AreNamed, ArePlacedNumbers, AreSpanned, IsByStart, IsOrderBy, on_by, key_by, keyed_at};
 ghost use Rattle.prop_sets.specs.laws.Under.{IsMoment};
 
 use crate::known::Numbers;
@@ -208,24 +208,11 @@ fn named(list: &mut Vec<Itv>, members: &[Itv], keyed: &[Keyed]) -> Result<(), No
     Ok(())
 }
 
-/// The numbers at the places.
-#[tactic(auto, using(crate::proofs::Ordering::none_numbered, crate::proofs::Ordering::more_numbered, crate::proofs::Ordering::all_numbered))]
-fn numbered(list: &mut Vec<Numbers>, numbers: &[Numbers], keyed: &[Keyed]) -> Result<(), NoMemory>
-    requires { (k : ℕ) → k < length keyed.now → (keyed_at keyed.now k).place < length numbers.now }
-    ensures { OnOk result (AreNumbered numbers.now keyed.now (length keyed.now) list.new.items) }
-{
-    list.clear();
-    for k in 0..keyed.len() {
-        list.push(numbers_at(numbers, keyed[k].place as usize))?;
-    }
-    Ok(())
-}
-
-/// Members in an order, and their numbers in the same one.
+/// Members in an order, and the places at which their numbers stand.
 #[derive(Debug, Drop)]
 pub struct Ordered {
     pub members: Vec<Itv>,
-    pub numbers: Vec<Numbers>,
+    pub places: Vec<Keyed>,
 }
 
 impl Ordered {
@@ -233,7 +220,7 @@ impl Ordered {
     pub fn new(alloc: Global) -> Ordered {
         Ordered {
             members: Vec::new(alloc),
-            numbers: Vec::new(alloc),
+            places: Vec::new(alloc),
         }
     }
 }
@@ -241,7 +228,6 @@ impl Ordered {
 /// Puts the members in the order of their earliest starts on a side.
 #[tactic(auto, using(crate::proofs::Ordering::starts_low, crate::proofs::Ordering::in_start_order, crate::proofs::Ordering::by_start))]
 pub fn by_start(
-    keyed: &mut Vec<Keyed>,
     ordered: &mut Ordered,
     region: &Region,
     members: &[Itv],
@@ -252,11 +238,10 @@ pub fn by_start(
     requires are { AreNumbers region.now.region members.now (length members.now) numbers.now }
     ensures moved { OnOk result (IsReordered members.now ordered.new.members.items) }
     ensures sorted { OnOk result (IsByStart (side_of back) region.now.region ordered.new.members.items) }
-    ensures numbers { OnOk result (AreNumbers region.now.region ordered.new.members.items (length ordered.new.members.items) ordered.new.numbers.items) }
+    ensures numbers { OnOk result (ArePlacedNumbers region.now.region ordered.new.members.items ordered.new.places.items numbers.now) }
 {
-    starts(keyed, region, members, numbers, back)?;
-    sort_all(keyed);
-    named(&mut ordered.members, members, keyed)?;
-    numbered(&mut ordered.numbers, numbers, keyed)?;
+    starts(&mut ordered.places, region, members, numbers, back)?;
+    sort_all(&mut ordered.places);
+    named(&mut ordered.members, members, &ordered.places)?;
     Ok(())
 }

@@ -10,9 +10,8 @@ ghost use Rattle.task_sets.specs.Times.{IsSized};
 ghost use Rattle.theta_passes.specs.code.Rows.{row_at, times_at, IsNearRow, IsByEst};
 ghost use Rattle.theta_passes.specs.code.Late.{IsLow};
 ghost use Rattle.theta_passes.specs.code.Over.{NoOverloads};
-ghost use Rattle.prop_sets.specs.code.Known.{AreNumbers};
 ghost use Rattle.prop_sets.specs.code.Given.{IsOf, IsRowed};
-ghost use Rattle.prop_sets.specs.code.Orders.{AreSpanned, IsByStart};
+ghost use Rattle.prop_sets.specs.code.Orders.{ArePlacedNumbers, AreSpanned, IsByStart};
 
 use crate::answering::{answer_detect, answer_edge, answer_not_end, answer_overload};
 use crate::known::Numbers;
@@ -29,12 +28,13 @@ use std::alloc::Global;
 use theta_passes::Row;
 
 /// A constraint without overlap: its number, its sequence and the members of this, in an order that
-/// the call names, with their numbers in the same order.
+/// the call names, with the places at which their numbers stand.
 #[derive(Clone, Copy)]
 pub struct Asked<'a> {
     pub c: u32,
     pub p: Seq,
     pub members: &'a [Itv],
+    pub places: &'a [Keyed],
     pub numbers: &'a [Numbers],
 }
 
@@ -68,7 +68,7 @@ fn rows_made(
     early: bool,
 ) -> Result<(), NoMemory>
     requires is { IsOf model.now asked.now.c asked.now.p region.now.region asked.now.members.now }
-    requires numbers { AreNumbers region.now.region asked.now.members.now (length asked.now.members.now) asked.now.numbers.now }
+    requires numbers { ArePlacedNumbers region.now.region asked.now.members.now asked.now.places.now asked.now.numbers.now }
     ensures { OnOk result (IsRowed model.now asked.now.c asked.now.p region.now.region asked.now.members.now back chosen early rows.new.items) }
 {
     let _ = model;
@@ -76,6 +76,7 @@ fn rows_made(
         rows,
         region,
         asked.members,
+        asked.places,
         asked.numbers,
         chosen,
         back,
@@ -95,7 +96,7 @@ fn rows_for(
     early: bool,
 ) -> Result<(), NoMemory>
     requires is { IsOf model.now asked.now.c asked.now.p region.now.region asked.now.members.now }
-    requires numbers { AreNumbers region.now.region asked.now.members.now (length asked.now.members.now) asked.now.numbers.now }
+    requires numbers { ArePlacedNumbers region.now.region asked.now.members.now asked.now.places.now asked.now.numbers.now }
     requires few { length asked.now.members.now ≤ 500 }
     requires sorted { IsByStart (side_of back) region.now.region asked.now.members.now }
     ensures rowed { OnOk result (IsRowed model.now asked.now.c asked.now.p region.now.region asked.now.members.now back chosen early rows.new.items) }
@@ -163,7 +164,7 @@ fn ask_full_edges(
     spare: &mut Spare,
 ) -> Result<Option<Finding<SeqWitness>>, NoMemory>
     requires is { IsOf model.now asked.now.c asked.now.p region.now.region asked.now.members.now }
-    requires numbers { AreNumbers region.now.region asked.now.members.now (length asked.now.members.now) asked.now.numbers.now }
+    requires numbers { ArePlacedNumbers region.now.region asked.now.members.now asked.now.places.now asked.now.numbers.now }
     requires few { length asked.now.members.now ≤ 500 }
     requires sorted { IsByStart 0 region.now.region asked.now.members.now }
     ensures none { IfOk result (λ o. IfNone o (NoEdge 0 region.now.region asked.now.members.now)) }
@@ -191,7 +192,7 @@ fn ask_edges(
 ) -> Result<Option<Finding<SeqWitness>>, NoMemory>
     requires is { IsOf model.now first.now.c first.now.p region.now.region first.now.members.now }
     requires also { IsOf model.now second.now.c second.now.p region.now.region second.now.members.now }
-    requires numbers { AreNumbers region.now.region second.now.members.now (length second.now.members.now) second.now.numbers.now }
+    requires numbers { ArePlacedNumbers region.now.region second.now.members.now second.now.places.now second.now.numbers.now }
     requires few { length second.now.members.now ≤ 500 }
     requires same { first.now.c ≡ second.now.c }
     requires sorted { IsByStart 1 region.now.region second.now.members.now }
@@ -257,7 +258,7 @@ fn ask_full_detects(
     spare: &mut Spare,
 ) -> Result<Option<Finding<SeqWitness>>, NoMemory>
     requires is { IsOf model.now asked.now.c asked.now.p region.now.region asked.now.members.now }
-    requires numbers { AreNumbers region.now.region asked.now.members.now (length asked.now.members.now) asked.now.numbers.now }
+    requires numbers { ArePlacedNumbers region.now.region asked.now.members.now asked.now.places.now asked.now.numbers.now }
     requires few { length asked.now.members.now ≤ 500 }
     requires sorted { IsByStart 0 region.now.region asked.now.members.now }
     ensures none { IfOk result (λ o. IfNone o (IsSideQuiet false 0 region.now.region asked.now.members.now)) }
@@ -286,7 +287,7 @@ fn ask_detects(
     spare: &mut Spare,
 ) -> Result<Option<Finding<SeqWitness>>, NoMemory>
     requires is { IsOf model.now asked.now.c asked.now.p region.now.region asked.now.members.now }
-    requires numbers { AreNumbers region.now.region asked.now.members.now (length asked.now.members.now) asked.now.numbers.now }
+    requires numbers { ArePlacedNumbers region.now.region asked.now.members.now asked.now.places.now asked.now.numbers.now }
     requires few { length asked.now.members.now ≤ 500 }
     requires sorted { IsByStart (side_of back) region.now.region asked.now.members.now }
     ensures none { IfOk result (λ o. IfNone o (NoDetect (side_of back) region.now.region asked.now.members.now)) }
@@ -309,7 +310,7 @@ fn ask_not_ends(
     spare: &mut Spare,
 ) -> Result<Option<Finding<SeqWitness>>, NoMemory>
     requires is { IsOf model.now asked.now.c asked.now.p region.now.region asked.now.members.now }
-    requires numbers { AreNumbers region.now.region asked.now.members.now (length asked.now.members.now) asked.now.numbers.now }
+    requires numbers { ArePlacedNumbers region.now.region asked.now.members.now asked.now.places.now asked.now.numbers.now }
     requires few { length asked.now.members.now ≤ 500 }
     requires sorted { IsByStart (side_of back) region.now.region asked.now.members.now }
     ensures none { IfOk result (λ o. IfNone o (NoNotEnd (side_of back) region.now.region asked.now.members.now)) }
@@ -347,9 +348,9 @@ fn ask_first(
     spare: &mut Spare,
 ) -> Result<Option<Finding<SeqWitness>>, NoMemory>
     requires is { IsOf model.now first.now.c first.now.p region.now.region first.now.members.now }
-    requires numbers { AreNumbers region.now.region first.now.members.now (length first.now.members.now) first.now.numbers.now }
+    requires numbers { ArePlacedNumbers region.now.region first.now.members.now first.now.places.now first.now.numbers.now }
     requires also { IsOf model.now second.now.c second.now.p region.now.region second.now.members.now }
-    requires numbers_too { AreNumbers region.now.region second.now.members.now (length second.now.members.now) second.now.numbers.now }
+    requires numbers_too { ArePlacedNumbers region.now.region second.now.members.now second.now.places.now second.now.numbers.now }
     requires same { first.now.c ≡ second.now.c }
     requires few { length first.now.members.now ≤ 500 }
     requires few_too { length second.now.members.now ≤ 500 }
@@ -381,9 +382,9 @@ fn ask_later(
     spare: &mut Spare,
 ) -> Result<Option<Finding<SeqWitness>>, NoMemory>
     requires is { IsOf model.now first.now.c first.now.p region.now.region first.now.members.now }
-    requires numbers { AreNumbers region.now.region first.now.members.now (length first.now.members.now) first.now.numbers.now }
+    requires numbers { ArePlacedNumbers region.now.region first.now.members.now first.now.places.now first.now.numbers.now }
     requires also { IsOf model.now second.now.c second.now.p region.now.region second.now.members.now }
-    requires numbers_too { AreNumbers region.now.region second.now.members.now (length second.now.members.now) second.now.numbers.now }
+    requires numbers_too { ArePlacedNumbers region.now.region second.now.members.now second.now.places.now second.now.numbers.now }
     requires same { first.now.c ≡ second.now.c }
     requires few { length first.now.members.now ≤ 500 }
     requires few_too { length second.now.members.now ≤ 500 }
@@ -421,9 +422,9 @@ pub fn ask_sides(
     spare: &mut Spare,
 ) -> Result<Option<Finding<SeqWitness>>, NoMemory>
     requires is { IsOf model.now first.now.c first.now.p region.now.region first.now.members.now }
-    requires numbers { AreNumbers region.now.region first.now.members.now (length first.now.members.now) first.now.numbers.now }
+    requires numbers { ArePlacedNumbers region.now.region first.now.members.now first.now.places.now first.now.numbers.now }
     requires also { IsOf model.now second.now.c second.now.p region.now.region second.now.members.now }
-    requires numbers_too { AreNumbers region.now.region second.now.members.now (length second.now.members.now) second.now.numbers.now }
+    requires numbers_too { ArePlacedNumbers region.now.region second.now.members.now second.now.places.now second.now.numbers.now }
     requires same { first.now.c ≡ second.now.c }
     requires few { length first.now.members.now ≤ 500 }
     requires few_too { length second.now.members.now ≤ 500 }

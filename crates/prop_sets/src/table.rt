@@ -140,19 +140,21 @@ fn ask_members(
     ensures busy { IfOk result (λ o. IfSome o (λ f. quiet later model.now c region.now.region best → ⊥)) }
 {
     let members = few_members(model, p);
-    by_start(&mut spare.keyed, xs, region, members, numbers, false)?;
-    by_start(&mut spare.keyed, ys, region, members, numbers, true)?;
+    by_start(xs, region, members, numbers, false)?;
+    by_start(ys, region, members, numbers, true)?;
     let first = Asked {
         c,
         p,
         members: &xs.members,
-        numbers: &xs.numbers,
+        places: &xs.places,
+        numbers,
     };
     let second = Asked {
         c,
         p,
         members: &ys.members,
-        numbers: &ys.numbers,
+        places: &ys.places,
+        numbers,
     };
     if let Some(found) = ask_sides(alloc, model, region, best, later, &first, &second, spare)? {
         return Ok(Some(found));

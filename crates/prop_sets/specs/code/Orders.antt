@@ -8,8 +8,8 @@ use Rattle.prop_sets.specs.declared.known.Numbers.{Numbers}
 use Rattle.prop_sets.specs.declared.orders.Keyed.{Keyed}
 use Rattle.prop_sets.specs.declared.orders.By.{By}
 use Rattle.prop_sets.specs.declared.orders.By.TheVariants as by
-use Rattle.prop_sets.specs.code.Rows.{seen, member_at}
-use Rattle.prop_sets.specs.code.Known.{numbers_at}
+use Rattle.prop_sets.specs.code.Rows.{seen, member_at, AreMoments}
+use Rattle.prop_sets.specs.code.Known.{numbers_at, numbers_of}
 use Rattle.prop_sets.specs.laws.Under.{IsMoment}
 
 abbrev pub no_place : Keyed
@@ -38,10 +38,12 @@ pub record AreNamed (xs : List Itv) (ks : List Keyed) (n : ℕ) (ys : List Itv) 
   pub size : length ys ≡ n
   pub each : (i : ℕ) → i < n → member_at ys i ≡ member_at xs (keyed_at ks i).place
 
--- and their numbers
-pub record AreNumbered (ns : List Numbers) (ks : List Keyed) (n : ℕ) (zs : List Numbers) : Type 0 where
-  pub size : length zs ≡ n
-  pub each : (i : ℕ) → i < n → numbers_at zs i ≡ numbers_at ns (keyed_at ks i).place
+-- numbers, in which those of members stand at the places
+pub record ArePlacedNumbers (r : Region) (xs : List Itv) (ks : List Keyed) (ns : List Numbers) : Type 0 where
+  pub size : length ks ≡ length xs
+  pub low : (i : ℕ) → i < length xs → (keyed_at ks i).place < length ns
+  pub each : (i : ℕ) → i < length xs → numbers_at ns (keyed_at ks i).place ≡ numbers_of (bounds_of r (member_at xs i))
+  pub moments : (i : ℕ) → i < length xs → AreMoments (numbers_at ns (keyed_at ks i).place)
 
 -- who is in an order, and by what it rises
 abbrev pub on_by : By → List Row → ℕ → Bool

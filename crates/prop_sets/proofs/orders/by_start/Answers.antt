@@ -1,19 +1,13 @@
 use Rattle.std.proofs.Common.{List, ℕ, ◌<◌, arith, subst, length, sym}
 use Rattle.prop_sets.specs.declared.orders.Keyed.{Keyed}
 use Rattle.prop_sets.specs.code.Rows.{side_of}
-use Rattle.prop_sets.specs.code.Orders.{AreNamed, AreNumbered, keyed_at}
+use Rattle.prop_sets.specs.code.Orders.{AreNamed, keyed_at}
 use Rattle.prop_sets.proofs.Ordering.{starts_low, in_start_order, by_start, numbers_along}
 use Rattle.prop_sets.proofs.orders.by_start.Goals as goal
 
 pub named-requires : goal.named-requires
 named-requires c = subst (λ (ks : List Keyed). (k : ℕ) → k < length ks → (keyed_at ks k).place < length c.args.members.now) (sym c.deref.ensures.value)
     (starts_low (side_of c.args.back) c.args.region.now.region c.args.members.now c.starts.new.keyed.items c.sort_all.new.keyed.items c.in_ok-starts.ensures c.sort_all.ensures.moved)
-
-pub numbered-requires : goal.numbered-requires
-numbered-requires c =
-    let low = starts_low (side_of c.args.back) c.args.region.now.region c.args.members.now c.starts.new.keyed.items c.sort_all.new.keyed.items c.in_ok-starts.ensures c.sort_all.ensures.moved in
-    let size = c.requires.are.size in
-    subst (λ (ks : List Keyed). (k : ℕ) → k < length ks → (keyed_at ks k).place < length c.args.numbers.now) (sym c.deref-2.ensures.value) (λ k within. let less = low k within in omega (arith, less, size))
 
 pub returns-clause-moved : goal.returns-clause-moved
 returns-clause-moved c =
@@ -27,8 +21,7 @@ returns-clause-sorted c =
 
 pub returns-clause-numbers : goal.returns-clause-numbers
 returns-clause-numbers c =
-    numbers_along c.args.region.now.region c.args.members.now c.args.numbers.now c.sort_all.new.keyed.items c.named.new.list.items c.numbered.new.list.items
+    numbers_along c.args.region.now.region c.args.members.now c.args.numbers.now c.sort_all.new.keyed.items c.named.new.list.items
     (starts_low (side_of c.args.back) c.args.region.now.region c.args.members.now c.starts.new.keyed.items c.sort_all.new.keyed.items c.in_ok-starts.ensures c.sort_all.ensures.moved)
     c.requires.are
     (subst (λ (ks : List Keyed). AreNamed c.args.members.now ks (length ks) c.named.new.list.items) c.deref.ensures.value c.in_ok-named.ensures)
-    (subst (λ (ks : List Keyed). AreNumbered c.args.numbers.now ks (length ks) c.numbered.new.list.items) c.deref-2.ensures.value c.in_ok-numbered.ensures)
