@@ -113,18 +113,17 @@ fn do_clash(c: Window, d: Window) -> bool {
     c.present_ect > d.present_lst && d.present_ect > c.present_lst
 }
 
-fn has_bit(word: u64, b: usize) -> bool
-    requires { b < 64 }
+/// The place of the first bit of a set of places below a number.
+fn first_place(word: u64, n: usize) -> usize
+    requires { 0 < n }
+    ensures { result < n }
 {
-    (word >> b) & 1 == 1
+    (word.trailing_zeros() as usize).min(n - 1)
 }
 
-/// A word where this bit is on or off.
-fn with_bit(word: u64, b: usize, is_on: bool) -> u64
-    requires { b < 64 }
-{
-    let bit = 1 << b;
-    if is_on { word | bit } else { word & !bit }
+/// The set without its first place.
+fn without_first(word: u64) -> u64 {
+    word & word.wrapping_sub(1)
 }
 
 /// The members of a sequence as they were read last, and for each, as a set of places, those with whom it
@@ -152,6 +151,9 @@ impl Waiting {
     /// these are, can wait. Of a long sequence nothing is said to.
     pub fn can_wait(&mut self, region: &Region, p: Seq, members: &[Itv]) -> bool {
         let n = members.len();
+        if n == 0 {
+            return true;
+        }
         if n > MANY || n > self.noted.len() || n > self.tight.len() {
             return false;
         }
@@ -193,7 +195,24 @@ fn note_members(look: &Look<'_>, members: &[Itv], noted: &mut [Noted]) -> u64
     moved
 }
 
-/// Compares the member at a place with each.
+/// With whom the member at a place fits in neither order as they are.
+fn row_of(at: usize, n: usize, noted: &[Noted]) -> u64
+    requires here { at < n }
+    requires room { n ≤ length noted.now }
+    requires few { n ≤ 64 }
+{
+    let window = noted[at].window;
+    let mut row = 0;
+    for k in 0..n {
+        if k != at && are_tight(window, noted[k].window) {
+            row |= 1 << k;
+        }
+    }
+    row
+}
+
+/// Compares the member at a place with each. Where something else is found than before, it is noted of
+/// the other too.
 fn compare_with_all(at: usize, n: usize, noted: &[Noted], tight: &mut [u64])
     requires here { at < n }
     requires room { n ≤ length noted.now }
@@ -201,34 +220,35 @@ fn compare_with_all(at: usize, n: usize, noted: &[Noted], tight: &mut [u64])
     requires few { n ≤ 64 }
     ensures { length tight.new ≡ length tight.old }
 {
-    let window = noted[at].window;
-    let mut row = 0;
-    for k in 0..n {
-        let is_tight = k != at && are_tight(window, noted[k].window);
-        tight[k] = with_bit(tight[k], at, is_tight);
-        row = with_bit(row, k, is_tight);
+    let row = row_of(at, n, noted);
+    let mut changed = row ^ tight[at];
+    for _ in 0..changed.count_ones() {
+        let k = first_place(changed, n);
+        tight[k] ^= 1 << at;
+        changed = without_first(changed);
     }
     tight[at] = row;
 }
 
 /// Compares those at these places with each.
 fn compare_moved(moved: u64, n: usize, noted: &[Noted], tight: &mut [u64])
+    requires some { 0 < n }
     requires room { n ≤ length noted.now }
     requires rows { n ≤ length tight.old }
     requires few { n ≤ 64 }
     ensures { length tight.new ≡ length tight.old }
 {
-    for k in 0..n {
-        if has_bit(moved, k) {
-            compare_with_all(k, n, noted, tight);
-        }
+    let mut moved = moved;
+    for _ in 0..moved.count_ones() {
+        compare_with_all(first_place(moved, n), n, noted, tight);
+        moved = without_first(moved);
     }
 }
 
 /// Two that fit as they are in neither order. Where they do in one, it is mostly the one that is told. So
 /// the order of no others is read.
 fn can_two_wait(look: &Look<'_>, p: Seq, a: Itv, b: Itv, c: Window, d: Window) -> bool {
-    !do_clash(c, d) && look.order(p, a, b) == OrderCell::Unknown
+    look.order(p, a, b) == OrderCell::Unknown && !do_clash(c, d)
 }
 
 /// What is found of the member at a place and those at these.
@@ -245,15 +265,12 @@ fn can_row_wait(
 {
     let (a, c) = (members[at], noted[at].window);
     let mut others = others;
-    for _ in 0..members.len() {
-        let k = others.trailing_zeros() as usize;
-        if k >= members.len() {
-            return true;
-        }
+    for _ in 0..others.count_ones() {
+        let k = first_place(others, members.len());
         if !can_two_wait(look, p, a, members[k], c, noted[k].window) {
             return false;
         }
-        others &= others.wrapping_sub(1);
+        others = without_first(others);
     }
     true
 }
