@@ -28,13 +28,13 @@ asleep n quiet a b o t first some is here calm = subst (IsCalmed n quiet a) (sym
     turn : first_turn a.levels ≡ Some t
     turn = sym first ∙ some
 
-pub later : (n last : ℕ) (quiet : ℕ → Type 0) (a c : Waking) (o : Option Turn) (t : Turn) → o ≡ first_turn a.levels → o ≡ Some t → length a.levels ≡ last + 1 → t.level < last
-    → c ≡ record a { levels = woken_on t.k last (without_on_all t.k a.levels) } → IsCalm n quiet a → IsCalmed n quiet a c
-later n last quiet a c o t first some count less is calm = subst (IsCalmed n quiet a) (sym is) (record {
+pub later : (n late : ℕ) (quiet : ℕ → Type 0) (a c : Waking) (o : Option Turn) (t : Turn) → o ≡ first_turn a.levels → o ≡ Some t → late < length a.levels → t.level < late
+    → c ≡ record a { levels = woken_on t.k late (without_on_all t.k a.levels) } → IsCalm n quiet a → IsCalmed n quiet a c
+later n late quiet a c o t first some within less is calm = subst (IsCalmed n quiet a) (sym is) (record {
   below = refl;
-  count = count_on t.k last (without_on_all t.k a.levels) ∙ count_without t.k a.levels;
-  calm = calm_later t.k n last quiet a (omega (arith, count)) calm;
-  lighter = let two = weight_without a.levels t turn in let more = weight_on t.k last (without_on_all t.k a.levels) (omega (arith, count, count_without t.k a.levels)) in omega (arith, two.0, two.1, more, count, less, count_without t.k a.levels);
+  count = count_on t.k late (without_on_all t.k a.levels) ∙ count_without t.k a.levels;
+  calm = calm_later t.k n late quiet a within calm;
+  lighter = let two = weight_without a.levels t turn in let more = weight_on t.k late (without_on_all t.k a.levels) (omega (arith, within, count_without t.k a.levels)) in omega (arith, two.0, two.1, more, within, less, count_without t.k a.levels);
 })
   where
     turn : first_turn a.levels ≡ Some t

@@ -65,12 +65,12 @@ impl<A: Propagator, B: Propagator> Propagator for Both<A, B> {
         self.second.next(k - n, model, region, best)
     }
 
-    fn can_wait(&self, k: u32, model: &Model, region: &Region) -> bool {
+    fn can_wait(&mut self, k: u32, model: &Model, region: &Region) -> bool {
         let n = self.split;
         if k < n {
             return self.first.can_wait(k, model, region);
         }
-        self.second.can_wait(k.saturating_sub(n), model, region)
+        self.second.can_wait(k - n, model, region)
     }
 
     fn watched_presences(&self, k: u32) -> &[Itv] {

@@ -30,8 +30,9 @@ use sched_model::Model;
 use std::alloc::Global;
 use wake_levels::WakeLevels;
 
-/// How many levels there are. What is late waits on the last.
-const LEVELS: usize = 3;
+/// How many levels there are. What is late waits on the last but one, so that on the last whoever
+/// costs most is asked when nothing else is left to find.
+const LEVELS: usize = 4;
 
 /// A run puts at most so many lines for each cell of its region.
 const LINES_A_CELL: u128 = 16;

@@ -50,8 +50,10 @@ pub trait Propagator: Drop {
         ensures busy { IfOk result (λ o. IfSome o (λ f. quiet model.now k region.now.region best → ⊥)) };
 
     /// Whether it finds nothing now, or what it finds can wait until others are quiet, as is told by a
-    /// few comparisons. Nothing hangs on it.
-    fn can_wait(&self, k: u32, model: &Model, region: &Region) -> bool;
+    /// few comparisons. It may note what it compared. Nothing hangs on the answer.
+    fn can_wait(&mut self, k: u32, model: &Model, region: &Region) -> bool
+        requires of { is_of self.old model.now }
+        ensures kept { is_of self.new model.now };
 
     /// The intervals whose presence it watches, and perhaps others.
     fn watched_presences(&self, k: u32) -> &[Itv]

@@ -15,22 +15,25 @@ use sched_base::NoMemory;
 use sched_model::Model;
 use wake_levels::{Turn, WakeLevels};
 
-/// Puts whoever has its turn off to the last level.
-fn put_off(levels: &mut WakeLevels, turn: Turn, last: usize)
+/// The level on which it is asked again who can wait, or found what is late.
+const LATE: usize = 2;
+
+/// Puts whoever has its turn off to a later level.
+fn put_off(levels: &mut WakeLevels, turn: Turn, late: usize)
     requires below { turn.k < levels.old.below }
     requires turn { first_turn levels.old.levels ≡ Some turn }
-    requires count { length levels.old.levels ≡ last + 1 }
-    requires less { turn.level < last }
-    ensures { levels.new ≡ record levels.old { levels = woken_on turn.k last (without_on_all turn.k levels.old.levels) } }
+    requires within { late < length levels.old.levels }
+    requires less { turn.level < late }
+    ensures { levels.new ≡ record levels.old { levels = woken_on turn.k late (without_on_all turn.k levels.old.levels) } }
 {
     levels.unwake(turn.k);
-    levels.wake(turn.k, last);
+    levels.wake(turn.k, late);
 }
 
 /// Asks those that are awake, the most urgent first, until one finds something; nothing once none is
 /// awake. Whoever finds nothing is put to sleep on every level; who can wait, or finds what is late, on
-/// all but the last, where it is asked again. Whoever found what is answered stays the first of its
-/// level.
+/// all but the level `LATE`, where it is asked again, as on each behind it. Whoever found what is
+/// answered stays the first of its level.
 pub fn find<P: Propagator>(
     propagators: &mut P,
     levels: &mut WakeLevels,
@@ -48,21 +51,21 @@ pub fn find<P: Propagator>(
     ensures asleep { IfOk result (λ o. IfNone o ((k : ℕ) → is_awake levels.new k ≡ false)) }
     ensures some { IfOk result (λ o. IfSome o (λ f. IsFinding refutes_plain model.now region.now.region best f)) }
 {
-    let last = levels.levels() - 1;
+    let late = LATE.min(levels.levels() - 1);
     'awake: loop {
         let Some(turn) = levels.first() else {
             return Ok(None);
         };
-        if turn.level < last && propagators.can_wait(turn.k, model, region) {
-            put_off(levels, turn, last);
+        if turn.level < late && propagators.can_wait(turn.k, model, region) {
+            put_off(levels, turn, late);
             continue;
         }
         let Some(f) = propagators.next(turn.k, model, region, best)? else {
             levels.unwake(turn.k);
             continue;
         };
-        if turn.level < last && is_late(region, &f) {
-            put_off(levels, turn, last);
+        if turn.level < late && is_late(region, &f) {
+            put_off(levels, turn, late);
             continue;
         }
         return Ok(Some(f));

@@ -1,4 +1,4 @@
-use Rattle.std.proofs.Common.{refl, ◌∙◌, ◌-◌}
+use Rattle.std.proofs.Common.{refl, sym, subst, ◌∙◌, ◌<◌}
 use Rattle.engine.proofs.Turning.{asleep, later, quiet_all, asleep_all}
 use Rattle.engine.proofs.turns.find.Goals as goal
 
@@ -21,38 +21,38 @@ awake-preserved-in_default-2 g c =
     record {
       of = c.next.ensures.kept;
       below = now.below ∙ c.awake.invariant.below;
-      count = now.count ∙ c.awake.invariant.count;
+      within = subst (λ n. c.min-late.result < n) (sym now.count) c.awake.invariant.within;
       calm = now.calm;
     }
 
 pub awake-smaller-then-can_wait : goal.awake-smaller-then-can_wait
 awake-smaller-then-can_wait g c =
-    (later (g.P.Propagator.size c.args.model.now) (c.levels-last.result - 1) (λ k. g.P.Propagator.quiet c.args.model.now k c.args.region.now.region c.args.best) c.awake.levels c.put_off.new.levels _ c.in-Some.turn
-    c.in-Some.ensures.turn refl c.awake.invariant.count c.if-turn-last.true c.put_off.ensures c.awake.invariant.calm).lighter
+    (later (g.P.Propagator.size c.args.model.now) c.min-late.result (λ k. g.P.Propagator.quiet c.args.model.now k c.args.region.now.region c.args.best) c.awake.levels c.put_off.new.levels _ c.in-Some.turn
+    c.in-Some.ensures.turn refl c.awake.invariant.within c.if-turn-late.true c.put_off.ensures c.awake.invariant.calm).lighter
 
 pub awake-preserved-then-can_wait : goal.awake-preserved-then-can_wait
 awake-preserved-then-can_wait g c =
-    let now = later (g.P.Propagator.size c.args.model.now) (c.levels-last.result - 1) (λ k. g.P.Propagator.quiet c.args.model.now k c.args.region.now.region c.args.best) c.awake.levels c.put_off.new.levels _ c.in-Some.turn
-    c.in-Some.ensures.turn refl c.awake.invariant.count c.if-turn-last.true c.put_off.ensures c.awake.invariant.calm in
+    let now = later (g.P.Propagator.size c.args.model.now) c.min-late.result (λ k. g.P.Propagator.quiet c.args.model.now k c.args.region.now.region c.args.best) c.awake.levels c.put_off.new.levels _ c.in-Some.turn
+    c.in-Some.ensures.turn refl c.awake.invariant.within c.if-turn-late.true c.put_off.ensures c.awake.invariant.calm in
     record {
-      of = c.awake.invariant.of;
+      of = c.can_wait.ensures.kept;
       below = now.below ∙ c.awake.invariant.below;
-      count = now.count ∙ c.awake.invariant.count;
+      within = subst (λ n. c.min-late.result < n) (sym now.count) c.awake.invariant.within;
       calm = now.calm;
     }
 
 pub awake-smaller : goal.awake-smaller
 awake-smaller g c =
-    (later (g.P.Propagator.size c.args.model.now) (c.levels-last.result - 1) (λ k. g.P.Propagator.quiet c.args.model.now k c.args.region.now.region c.args.best) c.awake.levels c.put_off-then-is_late.new.levels _ c.in-Some.turn
-    c.in-Some.ensures.turn refl c.awake.invariant.count c.if-turn-last-2.true c.put_off-then-is_late.ensures c.awake.invariant.calm).lighter
+    (later (g.P.Propagator.size c.args.model.now) c.min-late.result (λ k. g.P.Propagator.quiet c.args.model.now k c.args.region.now.region c.args.best) c.awake.levels c.put_off-then-is_late.new.levels _ c.in-Some.turn
+    c.in-Some.ensures.turn refl c.awake.invariant.within c.if-turn-late-2.true c.put_off-then-is_late.ensures c.awake.invariant.calm).lighter
 
 pub awake-preserved : goal.awake-preserved
 awake-preserved g c =
-    let now = later (g.P.Propagator.size c.args.model.now) (c.levels-last.result - 1) (λ k. g.P.Propagator.quiet c.args.model.now k c.args.region.now.region c.args.best) c.awake.levels c.put_off-then-is_late.new.levels _ c.in-Some.turn
-    c.in-Some.ensures.turn refl c.awake.invariant.count c.if-turn-last-2.true c.put_off-then-is_late.ensures c.awake.invariant.calm in
+    let now = later (g.P.Propagator.size c.args.model.now) c.min-late.result (λ k. g.P.Propagator.quiet c.args.model.now k c.args.region.now.region c.args.best) c.awake.levels c.put_off-then-is_late.new.levels _ c.in-Some.turn
+    c.in-Some.ensures.turn refl c.awake.invariant.within c.if-turn-late-2.true c.put_off-then-is_late.ensures c.awake.invariant.calm in
     record {
       of = c.next.ensures.kept;
       below = now.below ∙ c.awake.invariant.below;
-      count = now.count ∙ c.awake.invariant.count;
+      within = subst (λ n. c.min-late.result < n) (sym now.count) c.awake.invariant.within;
       calm = now.calm;
     }
