@@ -45,7 +45,7 @@ impl Propagator for FromBasic {
         }))
     }
 
-    fn can_wait(&self, k: u32, model: &Model, region: &Region) -> bool {
+    fn can_wait(&mut self, k: u32, model: &Model, region: &Region) -> bool {
         self.0.can_wait(k, model, region)
     }
 

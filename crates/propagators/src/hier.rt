@@ -46,7 +46,7 @@ impl Propagator for FromHier {
         }))
     }
 
-    fn can_wait(&self, _: u32, _: &Model, _: &Region) -> bool {
+    fn can_wait(&mut self, _: u32, _: &Model, _: &Region) -> bool {
         false
     }
 

@@ -47,7 +47,7 @@ impl Propagator for FromSets {
         }))
     }
 
-    fn can_wait(&self, _: u32, _: &Model, _: &Region) -> bool {
+    fn can_wait(&mut self, _: u32, _: &Model, _: &Region) -> bool {
         false
     }
 
@@ -118,7 +118,7 @@ impl Propagator for FromLaterSets {
         }))
     }
 
-    fn can_wait(&self, _: u32, _: &Model, _: &Region) -> bool {
+    fn can_wait(&mut self, _: u32, _: &Model, _: &Region) -> bool {
         false
     }
 
