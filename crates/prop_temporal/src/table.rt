@@ -295,8 +295,8 @@ impl PropTemporal {
 
     /// The level on which it is woken. Precedences that close to a walk too long push each other's
     /// bounds for as many lines as there are moments. So walks are looked for among the first, but
-    /// among the last where moments are few, since it takes all orders that are known.
+    /// last of all where moments are few, since it takes all orders that are known.
     pub fn level(&self, k: u32) -> u8 {
-        if k == 0 && self.narrow { 2 } else { 0 }
+        if k == 0 && self.narrow { u8::MAX } else { 0 }
     }
 }
