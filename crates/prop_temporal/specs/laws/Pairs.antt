@@ -1,5 +1,5 @@
 -- Heights are tested along the arcs of each two members at once, of one member with those that are listed behind it.
-use Rattle.std.specs.Prelude.{◌≡◌, ◌⊎◌, ℕ, suc, ◌+◌, ◌<◌, ◌≤◌, ℤ, ◌+ℤ◌, ◌≤ℤ◌, Bool, true, false, List, [], length, get_or, slice_get, nat_eq}
+use Rattle.std.specs.Prelude.{◌≡◌, ◌⊎◌, ℕ, suc, ◌+◌, ◌<◌, ◌≤◌, ℤ, ◌+ℤ◌, ◌≤ℤ◌, true, false, List, [], length, get_or, slice_get, nat_eq}
 use Rattle.std.specs.List.{list_any}
 use Rattle.std.proofs.Common.{inl, inr, sym, ap, subst, ◌∙◌, arith, take, drop}
 use Rattle.std.proofs.lemmas.Bool.{true≢false}
@@ -12,8 +12,6 @@ use Rattle.region.specs.Cells.{Region, is_there}
 use Rattle.region.specs.Looks.{IsRegionOf}
 use Rattle.region.specs.laws.OneSequence.{has_cases}
 use Rattle.findings.specs.laws.Members.{any_more}
-use Rattle.refute_basic.specs.declared.edge.Arc.{Arc as Edge}
-use Rattle.refute_basic.specs.declared.arc_name.ArcName.{ArcName}
 use Rattle.refute_basic.specs.Cycle.{itv, edge_of}
 use Rattle.prop_temporal.specs.code.Members.{members_at}
 use Rattle.prop_temporal.specs.code.Shown.{member_name, IsOfOrder, IsOfPairs, IsOfPairsFrom}
