@@ -280,12 +280,12 @@ impl PropUnary {
         false
     }
 
-    /// The level on which it is woken: a sequence on the last, since it looks at three members at a
-    /// time.
+    /// The level on which it is woken: a sequence beside what is late, since it looks at three members
+    /// at a time.
     pub fn level(&self, k: u32) -> u8 {
         if k < self.constraints {
             return 0;
         }
-        u8::MAX
+        2
     }
 }
