@@ -20,7 +20,7 @@ const MOST_NODES: u64 = 20_000;
 const IDLE_NODES: u64 = 2_000;
 
 /// So many refuted regions end the shortest run.
-const REFUTED: u64 = 500;
+const REFUTED: u64 = 150;
 
 /// How many nodes have brought no better schedule, behind some more.
 fn idle_after(idle: u64, spent: u64, before: Option<i64>, best: Option<i64>) -> u64 {
