@@ -5,7 +5,7 @@ ghost use Rattle.findings.specs.Found.{IsFinding};
 ghost use Rattle.refute_seq.specs.OnSequence.{refutes};
 ghost use Rattle.prop_sets.specs.code.Tasks.{quiet};
 ghost use Rattle.prop_sets.specs.code.Rows.{side_of};
-ghost use Rattle.prop_sets.specs.code.Sides.{NoFull, NoEdge, NoDetect, NoNotEnd, IsSideQuiet};
+ghost use Rattle.prop_sets.specs.code.Sides.{NoFull, NoEdge, NoDetect, NoNotEnd, IsSideQuiet, IsBegun};
 ghost use Rattle.task_sets.specs.Times.{IsSized};
 ghost use Rattle.theta_passes.specs.code.Rows.{row_at, times_at, IsNearRow, IsByEst};
 ghost use Rattle.theta_passes.specs.code.Late.{IsLow};
@@ -336,8 +336,32 @@ fn ask_not_ends(
     Ok(None)
 }
 
-/// What is found of a constraint in the first round, by its members in the order of their earliest
-/// starts, and in that of their latest completions: first OVERLOAD, then DETECT.
+/// What is found of a constraint before its members are put in the other side's order, by their order
+/// on the first side: in the first round OVERLOAD and DETECT, in the later one NOTEND.
+pub fn ask_side(
+    alloc: Global,
+    model: &Model,
+    region: &Region,
+    best: Option<i64>,
+    later: bool,
+    first: &Asked<'_>,
+    spare: &mut Spare,
+) -> Result<Option<Finding<SeqWitness>>, NoMemory>
+    requires is { IsOf model.now first.now.c first.now.p region.now.region first.now.members.now }
+    requires numbers { ArePlacedNumbers region.now.region first.now.members.now first.now.places.now first.now.numbers.now }
+    requires few { length first.now.members.now ≤ 500 }
+    requires sorted { IsByStart 0 region.now.region first.now.members.now }
+    ensures none { IfOk result (λ o. IfNone o (IsBegun later region.now.region first.now.members.now)) }
+    ensures some { IfOk result (λ o. IfSome o (IsFinding refutes model.now region.now.region best)) }
+    ensures busy { IfOk result (λ o. IfSome o (λ f. quiet later model.now first.now.c region.now.region best → ⊥)) }
+{
+    if later {
+        return ask_not_ends(alloc, model, region, best, false, first, spare);
+    }
+    ask_full_detects(alloc, model, region, best, first, spare)
+}
+
+/// What is found of it then in the first round: DETECT on the other side.
 fn ask_first(
     alloc: Global,
     model: &Model,
@@ -356,21 +380,19 @@ fn ask_first(
     requires few_too { length second.now.members.now ≤ 500 }
     requires sorted { IsByStart 0 region.now.region first.now.members.now }
     requires turned { IsByStart 1 region.now.region second.now.members.now }
+    requires before { IsBegun false region.now.region first.now.members.now }
     ensures none { IfOk result (λ o. IfNone o (IsSideQuiet false 0 region.now.region first.now.members.now)) }
     ensures none_turned { IfOk result (λ o. IfNone o (IsSideQuiet false 1 region.now.region second.now.members.now)) }
     ensures some { IfOk result (λ o. IfSome o (IsFinding refutes model.now region.now.region best)) }
     ensures busy { IfOk result (λ o. IfSome o (λ f. quiet false model.now first.now.c region.now.region best → ⊥)) }
 {
-    if let Some(found) = ask_full_detects(alloc, model, region, best, first, spare)? {
-        return Ok(Some(found));
-    }
     if let Some(found) = ask_detects(alloc, model, region, best, true, second, spare)? {
         return Ok(Some(found));
     }
     Ok(None)
 }
 
-/// What is found of it in the later round: first NOTEND, then EDGE.
+/// What is found of it then in the later round: first NOTEND on the other side, then EDGE.
 #[tactic(auto, using(crate::proofs::Asking::later_quiet))]
 fn ask_later(
     alloc: Global,
@@ -390,14 +412,12 @@ fn ask_later(
     requires few_too { length second.now.members.now ≤ 500 }
     requires sorted { IsByStart 0 region.now.region first.now.members.now }
     requires turned { IsByStart 1 region.now.region second.now.members.now }
+    requires before { IsBegun true region.now.region first.now.members.now }
     ensures none { IfOk result (λ o. IfNone o (IsSideQuiet true 0 region.now.region first.now.members.now)) }
     ensures none_turned { IfOk result (λ o. IfNone o (IsSideQuiet true 1 region.now.region second.now.members.now)) }
     ensures some { IfOk result (λ o. IfSome o (IsFinding refutes model.now region.now.region best)) }
     ensures busy { IfOk result (λ o. IfSome o (λ f. quiet true model.now first.now.c region.now.region best → ⊥)) }
 {
-    if let Some(found) = ask_not_ends(alloc, model, region, best, false, first, spare)? {
-        return Ok(Some(found));
-    }
     if let Some(found) = ask_not_ends(alloc, model, region, best, true, second, spare)? {
         return Ok(Some(found));
     }
@@ -410,8 +430,9 @@ fn ask_later(
     Ok(None)
 }
 
-/// What is found of it in one of the rounds.
-pub fn ask_sides(
+/// What is found of it then in one of the rounds, by the members in the order of their earliest
+/// starts, and in that of their latest completions.
+pub fn ask_rest(
     alloc: Global,
     model: &Model,
     region: &Region,
@@ -430,6 +451,7 @@ pub fn ask_sides(
     requires few_too { length second.now.members.now ≤ 500 }
     requires sorted { IsByStart 0 region.now.region first.now.members.now }
     requires turned { IsByStart 1 region.now.region second.now.members.now }
+    requires before { IsBegun later region.now.region first.now.members.now }
     ensures none { IfOk result (λ o. IfNone o (IsSideQuiet later 0 region.now.region first.now.members.now)) }
     ensures none_turned { IfOk result (λ o. IfNone o (IsSideQuiet later 1 region.now.region second.now.members.now)) }
     ensures some { IfOk result (λ o. IfSome o (IsFinding refutes model.now region.now.region best)) }

@@ -15,7 +15,7 @@ ghost use Rattle.prop_sets.specs.code.Known.{IsStill, AreUnknown, AreNumbers};
 
 use crate::known::{Numbers, is_remembered, numbers_in, remember};
 use crate::orders::{Ordered, by_start};
-use crate::sides::{Asked, Spare, ask_sides};
+use crate::sides::{Asked, Spare, ask_rest, ask_side};
 use findings::Finding;
 use refute_seq::{SeqWitness, members_of};
 use region::Region;
@@ -141,7 +141,6 @@ fn ask_members(
 {
     let members = few_members(model, p);
     by_start(xs, region, members, numbers, false)?;
-    by_start(ys, region, members, numbers, true)?;
     let first = Asked {
         c,
         p,
@@ -149,6 +148,10 @@ fn ask_members(
         places: &xs.places,
         numbers,
     };
+    if let Some(found) = ask_side(alloc, model, region, best, later, &first, spare)? {
+        return Ok(Some(found));
+    }
+    by_start(ys, region, members, numbers, true)?;
     let second = Asked {
         c,
         p,
@@ -156,7 +159,7 @@ fn ask_members(
         places: &ys.places,
         numbers,
     };
-    if let Some(found) = ask_sides(alloc, model, region, best, later, &first, &second, spare)? {
+    if let Some(found) = ask_rest(alloc, model, region, best, later, &first, &second, spare)? {
         return Ok(Some(found));
     }
     Ok(None)

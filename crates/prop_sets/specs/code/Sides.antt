@@ -37,3 +37,8 @@ abbrev pub IsSideQuiet : Bool → ℕ → Region → List Itv → Type 0
 IsSideQuiet false zero r xs = NoFull 0 r xs × NoDetect 0 r xs
 IsSideQuiet false (suc n) r xs = NoDetect (suc n) r xs
 IsSideQuiet true side r xs = NoEdge side r xs × NoNotEnd side r xs
+
+-- what of it is asked for on the first side before the other one is put in order
+abbrev pub IsBegun : Bool → Region → List Itv → Type 0
+IsBegun false r xs = IsSideQuiet false 0 r xs
+IsBegun true r xs = NoNotEnd 0 r xs
