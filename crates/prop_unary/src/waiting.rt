@@ -248,7 +248,7 @@ fn compare_moved(moved: u64, n: usize, noted: &[Noted], tight: &mut [u64])
 /// Two that fit as they are in neither order. Where they do in one, it is mostly the one that is told. So
 /// the order of no others is read.
 fn can_two_wait(look: &Look<'_>, p: Seq, a: Itv, b: Itv, c: Window, d: Window) -> bool {
-    look.order(p, a, b) == OrderCell::Unknown && !do_clash(c, d)
+    !do_clash(c, d) && look.order(p, a, b) == OrderCell::Unknown
 }
 
 /// What is found of the member at a place and those at these.
@@ -265,8 +265,12 @@ fn can_row_wait(
 {
     let (a, c) = (members[at], noted[at].window);
     let mut others = others;
-    for _ in 0..others.count_ones() {
-        let k = first_place(others, members.len());
+    for _ in 0..members.len() {
+        let k = others.trailing_zeros() as usize;
+        // None is left.
+        if k >= members.len() {
+            return true;
+        }
         if !can_two_wait(look, p, a, members[k], c, noted[k].window) {
             return false;
         }
