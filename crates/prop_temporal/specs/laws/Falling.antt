@@ -1,8 +1,7 @@
 -- Heights are tested along one name after another.
-use Rattle.std.specs.Prelude.{◌≡◌, ℕ, ◌+◌, ◌*◌, ◌<◌, ◌≤◌, ℤ, pos, ◌+ℤ◌, ◌-ℤ◌, ◌≤ℤ◌, Bool, true, false, not, ◌&&◌, ◌||◌, List, [], length, get_or, Option, Some, None, is_none, option_and_then, if◌then◌else◌, slice_get, nat_lt, int_le, int_lt}
+use Rattle.std.specs.Prelude.{◌≡◌, ℕ, ◌+◌, ◌*◌, ◌<◌, ◌≤◌, ℤ, pos, ◌+ℤ◌, ◌-ℤ◌, ◌≤ℤ◌, Bool, true, false, not, ◌&&◌, ◌||◌, List, [], length, get_or, Option, Some, None, is_none, option_and_then, if◌then◌else◌, slice_get, int_le, int_lt}
 use Rattle.std.proofs.Common.{inl, inr, refl, sym, ap, subst, ◌∙◌, arith, take}
 use Rattle.std.proofs.lemmas.Bool.{true≢false}
-use Rattle.std.proofs.lemmas.Bool.Decides.{nat_tests}
 use Rattle.std.proofs.lemmas.Int.{ints}
 use Rattle.std.proofs.lemmas.List.{take_all}
 use Rattle.sched_base.specs.declared.ids.Itv.{Itv}
@@ -13,9 +12,7 @@ use Rattle.sched_model.specs.declared.types.Constraint.TheVariants.{Temporal, No
 use Rattle.sched_model.specs.declared.types.End.{End}
 use Rattle.sched_model.specs.declared.types.End.TheVariants.{Start, Finish}
 use Rattle.sched_model.specs.Data.{Data, gap}
-use Rattle.region.specs.declared.types.OrderCell.{OrderCell}
-use Rattle.region.specs.declared.types.OrderCell.TheVariants.{Unknown, Forward, Backward}
-use Rattle.region.specs.Orders.{SequenceCells, says_forward, says_backward, cell_at, place_of, is_before, known_order, order_in}
+use Rattle.region.specs.Orders.{SequenceCells, known_order, order_in}
 use Rattle.region.specs.Cells.{Region, bounds_of, cells_of, is_there}
 use Rattle.region.specs.Looks.{IsRegionOf}
 use Rattle.region.specs.laws.Lists.{both_true, true_both}
@@ -25,6 +22,7 @@ use Rattle.refute_basic.specs.Cycle.{point, itv, edge, edge_if, forth, back, alo
 use Rattle.refute_basic.specs.laws.Cycle.{no_edge, chosen}
 use Rattle.refute_basic.specs.laws.Told.{AreTold, told}
 use Rattle.refute_basic.specs.laws.Walks.{AllLose}
+use Rattle.refute_seq.specs.laws.Ordered.{one_way}
 use Rattle.prop_temporal.specs.code.Members.{members_at, light_in}
 use Rattle.prop_temporal.specs.code.Shown.{member_name, OfConstraint, IsOfConstraint, IsOfInterval, IsOfPrecedence, IsOfOrder, IsOfOrderFrom, IsOfSide, IsOfSideOf}
 use Rattle.prop_temporal.specs.code.Heights.{breaks, keeps_precedence, Falls, FallsAlong}
@@ -92,29 +90,6 @@ falls_sizes m r h x low i of e shown = elim (interval_names m r i e x of shown) 
 
     by_size : (from to : End) (w : ℤ) → (is_there r (itv x) ≡ true → (w +ℤ h (point to (itv x))) ≤ℤ h (point from (itv x))) → edge_if (is_there r (itv x)) (edge from (itv x) w to (itv x)) ≡ Some e → (e.weight +ℤ h e.head) ≤ℤ h e.tail
     by_size from to w fall shown = let two = chosen (is_there r (itv x)) (edge from (itv x) w to (itv x)) e shown in rw two.1 (fall two.0)
-
--- two don't both stand before each other
-one_way : (s : SequenceCells) (x y : Itv) → is_before s x y ≡ true → is_before s y x ≡ true → ⊥
-one_way s x y h k = decided (nat_lt i j) (nat_lt j i) (cell_at s.cells i j) (cell_at s.cells j i) refl refl h k
-  where
-    i : ℕ
-    i = place_of s.members x
-
-    j : ℕ
-    j = place_of s.members y
-
-    not_both : nat_lt i j ≡ true → nat_lt j i ≡ true → ⊥
-    not_both h k = grind (arith, nat_tests, h, k)
-
-    decided : (s t : Bool) (c d : OrderCell) → nat_lt i j ≡ s → nat_lt j i ≡ t → ((s && says_forward c) || (t && says_backward d)) ≡ true → ((t && says_forward d) || (s && says_backward c)) ≡ true → ⊥
-    decided true true c d h k x y = not_both h k
-    decided true false Unknown d h k x y = cc
-    decided true false Forward d h k x y = cc
-    decided true false Backward d h k x y = cc
-    decided false true c Unknown h k x y = cc
-    decided false true c Forward h k x y = cc
-    decided false true c Backward h k x y = cc
-    decided false false c d h k x y = cc
 
 weightless : (m : Data) (p : Seq) (matrix : Option Mat) (direct : Bool) (x y : Itv) → (direct || is_none matrix) ≡ true → (if direct then pos 0 else gap m p matrix x y) ≡ pos 0
 weightless m p matrix true x y h = refl

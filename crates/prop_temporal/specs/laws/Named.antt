@@ -1,16 +1,13 @@
 -- Which names can be those of arcs that a region shows, and between which points these lie.
-use Rattle.std.specs.Prelude.{◌≡◌, ◌⊎◌, ℕ, zero, suc, ◌*◌, ◌<◌, ℤ, pos, ◌-ℤ◌, Bool, true, false, ◌&&◌, ◌||◌, List, [], ◌∷◌, length, Option, Some, None, option_and_then, slice_get, if◌then◌else◌, nat_eq, nat_lt}
+use Rattle.std.specs.Prelude.{◌≡◌, ◌⊎◌, ℕ, zero, suc, ◌*◌, ◌<◌, ℤ, pos, ◌-ℤ◌, Bool, true, false, ◌&&◌, List, [], ◌∷◌, length, Option, Some, None, option_and_then, slice_get, if◌then◌else◌, nat_eq}
 use Rattle.std.proofs.Common.{inl, inr, refl, sym, ap, subst, ◌∙◌, arith}
 use Rattle.std.proofs.lemmas.Bool.Decides.{nat_tests}
-use Rattle.std.proofs.lemmas.Bool.{true≢false}
 use Rattle.sched_base.specs.declared.ids.Itv.{Itv}
-use Rattle.sched_base.specs.declared.ids.Seq.{Seq}
 use Rattle.sched_model.specs.declared.types.End.{End}
 use Rattle.sched_model.specs.declared.types.End.TheVariants.{Start, Finish}
 use Rattle.sched_model.specs.declared.types.Constraint.{Constraint}
 use Rattle.sched_model.specs.declared.types.Constraint.TheVariants.{Temporal, NoOverlap}
 use Rattle.sched_model.specs.Data.{Data, gap, has}
-use Rattle.region.specs.Orders.{place_of}
 use Rattle.region.specs.Cells.{Region, bounds_of, cells_of, is_there}
 use Rattle.region.specs.Looks.{IsRegionOf}
 use Rattle.region.specs.laws.Lists.{both_true}
@@ -20,6 +17,7 @@ use Rattle.refute_basic.specs.declared.arc_name.ArcName.{ArcName}
 use Rattle.refute_basic.specs.Standing.{precedes, stand}
 use Rattle.refute_basic.specs.Cycle.{point, edge, edge_if, itv, forth, back, along, edge_of}
 use Rattle.refute_basic.specs.laws.Told.{AreTold, told, AreMembers, told_members}
+use Rattle.refute_seq.specs.laws.Ordered.{one_way}
 use Rattle.region.specs.laws.Present.{there_within}
 use Rattle.prop_temporal.specs.code.Members.{members_at}
 use Rattle.prop_temporal.specs.code.Shown.{name, member_name, this_of, other_of, OfConstraint, IsTried}
@@ -142,17 +140,6 @@ tried_all m r i e h = elim ((named m r i e h).of) [
   | inr (inr w) ↦ inl (inr w.kind, w.within)
 ]
 
--- one isn't told to stand before itself
-pub before_itself : (r : Region) (p : Seq) (x : Itv) → precedes r p x x ≡ true → ⊥
-before_itself r p x h = never (nat_lt place place) _ _ (grind (arith, nat_tests)) h
-  where
-    place : ℕ
-    place = place_of (cells_of r p).members x
-
-    never : (t a b : Bool) → t ≡ false → ((t && a) || (t && b)) ≡ true → ⊥
-    never true a b is h = true≢false is
-    never false a b is h = true≢false (sym h)
-
 -- the two intervals of an arc of members are such, and present, and two
 pub record AreOrdered (m : Data) (r : Region) (i : ArcName) : Type 0 where
   pub present : is_there r (itv i.y) ≡ true
@@ -180,7 +167,7 @@ ordered m r i e of kind h = by_constraint (slice_get m.constraints i.x) refl (pi
         record {
           present = t.first;
           also = t.second;
-          apart = λ is. before_itself r p (itv i.y) (subst (λ n. precedes r p (itv i.y) (itv n) ≡ true) (sym is) t.order);
+          apart = λ is. let itself = subst (λ n. precedes r p (itv i.y) (itv n) ≡ true) (sym is) t.order in one_way (cells_of r p) (itv i.y) (itv i.y) itself itself;
           first = ap (λ o. has (members_at m o) (itv i.y)) at ∙ subst (λ xs. has xs (itv i.y) ≡ true) (members_are m r p of) ms.first;
           second = ap (λ o. has (members_at m o) (itv i.z)) at ∙ subst (λ xs. has xs (itv i.z) ≡ true) (members_are m r p of) ms.second;
         }
