@@ -7,9 +7,11 @@ mod asking;
 mod ends;
 mod finding;
 mod likely;
+mod moves;
 mod searching;
 
 pub use asking::{ask, ask_by, ask_likely};
 pub use ends::{Ends, ends_at, ends_in};
 pub use finding::{Finding, Pair};
 pub use likely::Likely;
+pub use moves::Moves;

@@ -1,4 +1,4 @@
-ghost use Rattle.std.specs.Prelude.{◌≡◌, ℕ, ◌<◌, ◌≤◌, ◌+ℤ◌, int_le, None, length};
+ghost use Rattle.std.specs.Prelude.{◌≡◌, ℕ, ◌<◌, ◌≤◌, ◌+ℤ◌, int_le, true, None, Some, length};
 ghost use Rattle.std.specs.Int.{int_max};
 ghost use Rattle.theta_passes.specs.code.Rows.{row_at, is_candidate, IsNearRow, IsByEst};
 ghost use Rattle.theta_passes.specs.code.Parts.{part_has, GivesTop};
@@ -58,6 +58,18 @@ fn is_found(rows: &[Row], i: u32) -> bool
         return false;
     }
     is_late(rows, i)
+}
+
+/// Whether a member is late as `late_pass` finds it.
+#[tactic(auto, using(crate::proofs::scans::Scanned::scan_found))]
+pub fn is_late_one(rows: &[Row], i: u32) -> bool
+    requires few { length rows.now ≤ 500 }
+    requires near { (k : ℕ) → IsNearRow (row_at rows.now k) }
+    requires sorted { IsByEst rows.now }
+    requires within { i < length rows.now }
+    ensures { result ≡ true → LatePass rows.now (Some i) }
+{
+    is_found(rows, i)
 }
 
 /// The two least of the latest starts of those present that were seen, and where the least stands.
