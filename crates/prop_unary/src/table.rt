@@ -20,7 +20,7 @@ use crate::members::sequence_at;
 use crate::pairs::ask_pairs;
 use crate::places::Places;
 use crate::waiting::Waiting;
-use findings::Finding;
+use findings::{Finding, Moves};
 use refute_seq::{SeqWitness, members_of};
 use region::Region;
 use sched_base::{Itv, List, NoMemory, Seq, at};
@@ -44,6 +44,8 @@ pub struct PropUnary {
     starts: Vec<usize>,
     /// What was read of each constraint when it was asked whether it can wait. Nothing hangs on it.
     waiting: Vec<Waiting>,
+    /// Which members have moved since they were read.
+    moves: Moves,
 }
 
 /// The most members that a sequence may have.
@@ -175,6 +177,7 @@ impl PropUnary {
         let n = constraints + model.sequences().len() as u32;
         let members = members_of_each(alloc, model, n)?;
         let sequences = sequence_of_each(alloc, model, n)?;
+        let moves = Moves::new(alloc, &members)?;
         Ok(PropUnary {
             constraints,
             members,
@@ -183,6 +186,7 @@ impl PropUnary {
             rows: vec![in alloc; Places::none(); MOST]?,
             starts: vec![in alloc; 0; n as usize]?,
             waiting: waiting_of_each(alloc, model)?,
+            moves,
         })
     }
 
@@ -225,8 +229,7 @@ impl PropUnary {
     }
 
     /// Whether what it finds now, if it finds anything, can wait until others are quiet. It says so only
-    /// of a constraint without distances. It compares those alone that aren't as they were when it was
-    /// asked last. Nothing hangs on it.
+    /// of a constraint without distances. It reads those alone that may have moved since it was asked last. Nothing hangs on it.
     pub fn can_wait(&mut self, k: u32, model: &Model, region: &Region) -> bool
         ensures kept { (m : Data) → IsFor self.old m → IsFor self.new m }
     {
@@ -240,9 +243,26 @@ impl PropUnary {
                     matrix: None,
                     ..
                 },
-            ) => self.waiting[k as usize].can_wait(region, *p, members_of(model, *p)),
+            ) => {
+                let moved = self.moves.take(k as usize);
+                self.waiting[k as usize].can_wait(region, *p, members_of(model, *p), moved)
+            }
             _ => false,
         }
+    }
+
+    /// Notes that a cell of an interval, or its order with another, isn't as it was.
+    pub fn note_move(&mut self, x: Itv)
+        ensures kept { (m : Data) → IsFor self.old m → IsFor self.new m }
+    {
+        self.moves.note(x);
+    }
+
+    /// Cells may have changed that nothing was told of.
+    pub fn forget_moves(&mut self)
+        ensures kept { (m : Data) → IsFor self.old m → IsFor self.new m }
+    {
+        self.moves.forget();
     }
 
     /// The intervals whose presence it watches.

@@ -127,11 +127,13 @@ fn without_first(word: u64) -> u64 {
 }
 
 /// The members of a sequence as they were read last, and for each, as a set of places, those with whom it
-/// fits in neither order as they are. The most are compared but where one of the two is read anew.
+/// fits in neither order as they are, and those further behind whose order with it is open. Two are
+/// compared, and their order is read, but where one of them may have moved.
 #[derive(Debug, Drop)]
 pub struct Waiting {
     noted: Vec<Noted>,
     tight: Vec<u64>,
+    unknown: Vec<u64>,
 }
 
 /// The most members that a sequence has of which something is said.
@@ -144,23 +146,43 @@ impl Waiting {
         Ok(Waiting {
             noted: vec![in alloc; Noted::ABSENT; room]?,
             tight: vec![in alloc; 0; room]?,
+            unknown: vec![in alloc; 0; room]?,
         })
     }
 
     /// Whether all that PAIR finds now of a sequence without overlap and without distances, whose members
-    /// these are, can wait. Of a long sequence nothing is said to.
-    pub fn can_wait(&mut self, region: &Region, p: Seq, members: &[Itv]) -> bool {
+    /// these are, can wait; only those at some places, and their orders, can be other than they were read
+    /// last. Of a long sequence nothing is said to.
+    pub fn can_wait(&mut self, region: &Region, p: Seq, members: &[Itv], moved: u64) -> bool {
         let n = members.len();
         if n == 0 {
             return true;
         }
-        if n > MANY || n > self.noted.len() || n > self.tight.len() {
+        if n > MANY || n > self.noted.len() || n > self.tight.len() || n > self.unknown.len() {
             return false;
         }
         let look = region.look(None, None);
-        let moved = note_members(&look, members, &mut self.noted);
+        forget_orders(&mut self.unknown, moved);
+        let moved = note_members(&look, members, moved, &mut self.noted);
         compare_moved(moved, n, &self.noted, &mut self.tight);
-        can_all_wait(&look, p, members, &self.noted, &self.tight)
+        can_all_wait(
+            &look,
+            p,
+            members,
+            &self.noted,
+            &self.tight,
+            &mut self.unknown,
+        )
+    }
+}
+
+/// No order is known to be open of those at some places.
+fn forget_orders(unknown: &mut [u64], places: u64)
+    ensures { length unknown.new ≡ length unknown.old }
+{
+    for k in 0..unknown.len() {
+        let is_one = k < MANY && places & (1 << k) != 0;
+        unknown[k] = if is_one { 0 } else { unknown[k] & !places };
     }
 }
 
@@ -180,17 +202,24 @@ fn note_member(look: &Look<'_>, x: Itv, noted: &mut Noted) -> bool {
     true
 }
 
-/// Reads each member. The places of those of which something else is known than before.
-fn note_members(look: &Look<'_>, members: &[Itv], noted: &mut [Noted]) -> u64
+/// Reads the members at these places. The places of those of which something else is known than before.
+fn note_members(look: &Look<'_>, members: &[Itv], places: u64, noted: &mut [Noted]) -> u64
     requires room { length members.now ≤ length noted.old }
     requires few { length members.now ≤ 64 }
     ensures { length noted.new ≡ length noted.old }
 {
+    let mut places = places;
     let mut moved = 0;
-    for k in 0..members.len() {
+    for _ in 0..members.len() {
+        let k = places.trailing_zeros() as usize;
+        // None is left.
+        if k >= members.len() {
+            return moved;
+        }
         if note_member(look, members[k], &mut noted[k]) {
             moved |= 1 << k;
         }
+        places = without_first(places);
     }
     moved
 }
@@ -251,7 +280,7 @@ fn can_two_wait(look: &Look<'_>, p: Seq, a: Itv, b: Itv, c: Window, d: Window) -
     !do_clash(c, d) && look.order(p, a, b) == OrderCell::Unknown
 }
 
-/// What is found of the member at a place and those at these.
+/// What is found of the member at a place and those at these. Those are put whose order with it is open.
 fn can_row_wait(
     look: &Look<'_>,
     p: Seq,
@@ -259,9 +288,11 @@ fn can_row_wait(
     members: &[Itv],
     noted: &[Noted],
     others: u64,
+    unknown: &mut u64,
 ) -> bool
     requires here { at < length members.now }
     requires room { length members.now ≤ length noted.now }
+    requires few { length members.now ≤ 64 }
 {
     let (a, c) = (members[at], noted[at].window);
     let mut others = others;
@@ -274,20 +305,30 @@ fn can_row_wait(
         if !can_two_wait(look, p, a, members[k], c, noted[k].window) {
             return false;
         }
+        *unknown |= 1 << k;
         others = without_first(others);
     }
     true
 }
 
-fn can_all_wait(look: &Look<'_>, p: Seq, members: &[Itv], noted: &[Noted], tight: &[u64]) -> bool
+fn can_all_wait(
+    look: &Look<'_>,
+    p: Seq,
+    members: &[Itv],
+    noted: &[Noted],
+    tight: &[u64],
+    unknown: &mut [u64],
+) -> bool
     requires room { length members.now ≤ length noted.now }
     requires rows { length members.now ≤ length tight.now }
+    requires orders { length members.now ≤ length unknown.old }
     requires few { length members.now ≤ 64 }
+    ensures { length unknown.new ≡ length unknown.old }
 {
     for k in 0..members.len() {
-        // Each two once.
-        let behind = tight[k] & (u64::MAX << k);
-        if behind != 0 && !can_row_wait(look, p, k, members, noted, behind) {
+        // Each two once, and of those whose order is open it is known that they can wait.
+        let behind = tight[k] & (u64::MAX << k) & !unknown[k];
+        if behind != 0 && !can_row_wait(look, p, k, members, noted, behind, &mut unknown[k]) {
             return false;
         }
     }
