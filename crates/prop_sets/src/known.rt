@@ -21,7 +21,7 @@ pub struct Numbers {
     pub p: i64,
 }
 
-fn numbers_of(c: Bounds) -> Numbers
+pub fn numbers_of(c: Bounds) -> Numbers
     requires { HasMoments c }
     ensures value { result ≡ numbers_of c }
     ensures moments { AreMoments result }

@@ -8,8 +8,10 @@ mod known;
 mod numbers;
 mod orders;
 mod passes;
+mod probe;
 mod reaches;
 mod sides;
 mod table;
+mod times;
 
 pub use table::PropSets;

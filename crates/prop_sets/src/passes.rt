@@ -15,7 +15,7 @@ use theta_passes::edge::edge_pass;
 use theta_passes::late::late_pass;
 use theta_passes::leaves::{start_edge, start_late, start_over, tree_of};
 use theta_passes::over::over_pass;
-use theta_passes::scan::{edge_scan, late_scan};
+use theta_passes::scan::{edge_scan, is_late_one, late_scan};
 use theta_passes::witnesses::{EdgeSets, edge_sets, late_set, over_scan, overload_set};
 use theta_passes::{Presence, Row};
 
@@ -269,6 +269,22 @@ fn late_member(alloc: Global, rows: &[Row]) -> Result<Option<u32>, NoMemory>
         return Ok(late_scan(rows));
     }
     late_by_tree(alloc, rows)
+}
+
+/// Whether one member is late behind a set, which is shown then.
+#[tactic(auto, using(crate::proofs::Shown::late_within))]
+pub fn find_late_at(alloc: Global, rows: &[Row], i: u32) -> Result<Option<Behind>, NoMemory>
+    requires few { length rows.now ≤ 500 }
+    requires near { (k : ℕ) → IsNearRow (row_at rows.now k) }
+    requires sorted { IsByEst rows.now }
+    requires within { i < length rows.now }
+    ensures { IfOk result (λ o. IfSome o (λ b. IsLateFound rows.now b.place b.set.items)) }
+{
+    if !is_late_one(rows, i) {
+        return Ok(None);
+    }
+    let found = shown_late(alloc, rows, i)?;
+    Ok(Some(found))
 }
 
 /// A member that is late behind a set, or none is.

@@ -1,5 +1,5 @@
 //! The propagators of a model.
-ghost use Rattle.std.specs.Prelude.{◌≡◌, ◌<◌, ◌≤◌, ◌^◌, length, true, Some, IsTrue, IfOk, IfNone, IfSome, slice_get};
+ghost use Rattle.std.specs.Prelude.{◌≡◌, ◌<◌, ◌≤◌, ◌^◌, length, true, false, Some, IsTrue, IfOk, IfNone, IfSome, slice_get};
 ghost use Rattle.sched_base.specs.declared.ids.Itv.{Itv as Itvs};
 ghost use Rattle.sched_model.specs.Data.{Data, has, members_of};
 ghost use Rattle.sched_model.specs.Valid.{IsValid};
@@ -15,8 +15,9 @@ ghost use Rattle.prop_sets.specs.code.Known.{IsStill, AreUnknown, AreNumbers};
 
 use crate::known::{Numbers, is_remembered, numbers_in, remember};
 use crate::orders::{Ordered, by_start};
-use crate::sides::{Asked, Spare, ask_rest, ask_side};
-use findings::Finding;
+use crate::probe::{Hint, Probe, Told};
+use crate::sides::{Asked, Spare, ask_detect, ask_rest, ask_side};
+use findings::{Finding, Moves};
 use refute_seq::{SeqWitness, members_of};
 use region::Region;
 use sched_base::{Itv, List, NoMemory, Seq, at};
@@ -40,6 +41,11 @@ pub struct PropSets {
     first: Ordered,
     second: Ordered,
     spare: Spare,
+    /// What was told of each when it was asked whether it can wait, whom DETECT finds something of then,
+    /// and which members have moved since. Nothing hangs on it.
+    probes: Vec<Probe>,
+    hints: Vec<Option<Hint>>,
+    moves: Moves,
 }
 
 impl std::marker::Model for PropSets {
@@ -116,6 +122,81 @@ fn unknown(alloc: Global, n: usize) -> Result<Vec<Option<List<Numbers>>>, NoMemo
     Ok(known)
 }
 
+/// Room to tell what is found of each.
+fn probes_of(alloc: Global, members: &[List<Itv>]) -> Result<Vec<Probe>, NoMemory> {
+    let mut probes = Vec::new(alloc);
+    for k in 0..members.len() {
+        probes.push(Probe::new(alloc, members[k].len())?)?;
+    }
+    Ok(probes)
+}
+
+/// What DETECT finds of one member of a sequence.
+fn ask_hinted(
+    alloc: Global,
+    model: &Model,
+    region: &Region,
+    best: Option<i64>,
+    c: u32,
+    p: Seq,
+    numbers: &[Numbers],
+    xs: &mut Ordered,
+    spare: &mut Spare,
+    hint: Hint,
+) -> Result<Option<Finding<SeqWitness>>, NoMemory>
+    requires of { IsRegionOf model.now region.now.region }
+    requires within { c < length model.now.constraints }
+    requires sequence { sequence_at model.now c ≡ Some p }
+    requires are { AreNumbers region.now.region (members_of model.now p) (length (members_of model.now p)) numbers.now }
+    ensures some { IfOk result (λ o. IfSome o (IsFinding refutes model.now region.now.region best)) }
+    ensures busy { IfOk result (λ o. IfSome o (λ f. quiet false model.now c region.now.region best → ⊥)) }
+{
+    let members = few_members(model, p);
+    by_start(xs, region, members, numbers, hint.back)?;
+    let asked = Asked {
+        c,
+        p,
+        members: &xs.members,
+        places: &xs.places,
+        numbers,
+    };
+    let place = hint.place;
+    if let Some(found) = ask_detect(alloc, model, region, best, hint.back, &asked, place, spare)? {
+        return Ok(Some(found));
+    }
+    Ok(None)
+}
+
+/// The same in the first round; the later one doesn't ask for it.
+fn ask_told(
+    alloc: Global,
+    model: &Model,
+    region: &Region,
+    best: Option<i64>,
+    later: bool,
+    c: u32,
+    p: Seq,
+    numbers: &[Numbers],
+    xs: &mut Ordered,
+    spare: &mut Spare,
+    hint: Option<Hint>,
+) -> Result<Option<Finding<SeqWitness>>, NoMemory>
+    requires of { IsRegionOf model.now region.now.region }
+    requires within { c < length model.now.constraints }
+    requires sequence { sequence_at model.now c ≡ Some p }
+    requires are { AreNumbers region.now.region (members_of model.now p) (length (members_of model.now p)) numbers.now }
+    ensures some { IfOk result (λ o. IfSome o (IsFinding refutes model.now region.now.region best)) }
+    ensures busy { IfOk result (λ o. IfSome o (λ f. quiet later model.now c region.now.region best → ⊥)) }
+{
+    if later {
+        return Ok(None);
+    }
+    let Some(hint) = hint else {
+        return Ok(None);
+    };
+    ask_hinted(alloc, model, region, best, c, p, numbers, xs, spare, hint)
+}
+
 /// What a round finds of the members of a sequence, whose numbers are given.
 #[tactic(auto, using(crate::proofs::Making::is_of))]
 fn ask_members(
@@ -165,6 +246,43 @@ fn ask_members(
     Ok(None)
 }
 
+/// The same; where it is told of whom DETECT finds something, that is asked first.
+fn ask_hint_first(
+    alloc: Global,
+    model: &Model,
+    region: &Region,
+    best: Option<i64>,
+    later: bool,
+    c: u32,
+    p: Seq,
+    numbers: &[Numbers],
+    xs: &mut Ordered,
+    ys: &mut Ordered,
+    spare: &mut Spare,
+    hint: Option<Hint>,
+) -> Result<Option<Finding<SeqWitness>>, NoMemory>
+    requires of { IsRegionOf model.now region.now.region }
+    requires within { c < length model.now.constraints }
+    requires sequence { sequence_at model.now c ≡ Some p }
+    requires are { AreNumbers region.now.region (members_of model.now p) (length (members_of model.now p)) numbers.now }
+    ensures none { IfOk result (λ o. IfNone o (IsStill later region.now.region (members_of model.now p))) }
+    ensures some { IfOk result (λ o. IfSome o (IsFinding refutes model.now region.now.region best)) }
+    ensures busy { IfOk result (λ o. IfSome o (λ f. quiet later model.now c region.now.region best → ⊥)) }
+{
+    if let Some(found) = ask_told(
+        alloc, model, region, best, later, c, p, numbers, xs, spare, hint,
+    )? {
+        return Ok(Some(found));
+    }
+    ask_members(
+        alloc, model, region, best, later, c, p, numbers, xs, ys, spare,
+    )
+}
+
+fn hint_at(hints: &[Option<Hint>], i: usize) -> Option<Hint> {
+    if i < hints.len() { hints[i] } else { None }
+}
+
 impl PropSets {
     /// The propagators of a model for one of the rounds.
     pub fn new(alloc: Global, model: &Model, later: bool) -> Result<PropSets, NoMemory>
@@ -174,6 +292,9 @@ impl PropSets {
         let n = model.constraints().len() as u32;
         let members = members_of_each(alloc, model, n)?;
         let known = unknown(alloc, members.len())?;
+        let probes = probes_of(alloc, &members)?;
+        let hints = vec![in alloc; None; members.len()]?;
+        let moves = Moves::new(alloc, &members)?;
         Ok(PropSets {
             alloc,
             later,
@@ -183,6 +304,9 @@ impl PropSets {
             first: Ordered::new(alloc),
             second: Ordered::new(alloc),
             spare: Spare::new(alloc),
+            probes,
+            hints,
+            moves,
         })
     }
 
@@ -222,14 +346,54 @@ impl PropSets {
         }
         let (xs, ys, spare) = (&mut self.first, &mut self.second, &mut self.spare);
         let (alloc, later, numbers) = (self.alloc, self.later, &self.numbers);
-        let Some(found) = ask_members(
-            alloc, model, region, best, later, k, p, numbers, xs, ys, spare,
+        let hint = hint_at(&self.hints, i);
+        let Some(found) = ask_hint_first(
+            alloc, model, region, best, later, k, p, numbers, xs, ys, spare, hint,
         )?
         else {
             remember(self.alloc, &mut self.known, i, &mut self.numbers);
             return Ok(None);
         };
         Ok(Some(found))
+    }
+
+    /// Whether the first round finds nothing of it now, as is told by those members alone that have moved
+    /// since it was asked last. Nothing hangs on it.
+    pub fn can_wait(&mut self, k: u32, region: &Region) -> bool
+        ensures kept { (m : Data) → IsFor self.old m → IsFor self.new m }
+        ensures same { self.new.later ≡ self.old.later }
+    {
+        let i = k as usize;
+        if self.later
+            || i >= self.members.len()
+            || i >= self.probes.len()
+            || i >= self.hints.len()
+        {
+            return false;
+        }
+        let moved = self.moves.take(i);
+        let told = self.probes[i].tell(region, self.members[i].as_slice(), moved);
+        self.hints[i] = match told {
+            Told::Late(hint) => Some(hint),
+            _ => None,
+        };
+        matches!(told, Told::Still)
+    }
+
+    /// Notes that a cell of an interval isn't as it was.
+    pub fn note_move(&mut self, x: Itv)
+        ensures kept { (m : Data) → IsFor self.old m → IsFor self.new m }
+        ensures same { self.new.later ≡ self.old.later }
+    {
+        self.moves.note(x);
+    }
+
+    /// Cells may have changed that nothing was told of.
+    pub fn forget_moves(&mut self)
+        ensures kept { (m : Data) → IsFor self.old m → IsFor self.new m }
+        ensures same { self.new.later ≡ self.old.later }
+    {
+        self.moves.forget();
     }
 
     /// The intervals whose presence it watches.

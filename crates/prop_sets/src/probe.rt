@@ -1,0 +1,263 @@
+//! Whether OVERLOAD or DETECT finds anything of a sequence, told by what has moved since it was told last.
+ghost use Rattle.std.specs.Prelude.{◌≡◌, ◌<◌, ◌≤◌, length, true};
+
+use crate::known::{Numbers, numbers_of};
+use crate::numbers::bounds_at;
+use crate::times::{SideTimes, only};
+use region::{Look, Region};
+use sched_base::{Itv, NoMemory};
+use std::alloc::Global;
+use theta_passes::Presence;
+
+/// Who is late, and on which side.
+#[derive(Clone, Copy, Debug)]
+pub struct Hint {
+    pub back: bool,
+    pub place: usize,
+}
+
+/// What a sequence was told to be.
+#[derive(Clone, Copy, Debug)]
+pub enum Told {
+    /// Nothing is found.
+    Still,
+    /// DETECT finds something of a member.
+    Late(Hint),
+    /// Something else is found, or it isn't known.
+    Busy,
+}
+
+/// Which members of a sequence can't end before which others must start: those must come before them.
+#[derive(Debug, Drop)]
+struct Needs {
+    earliest_ends: Vec<i64>,
+    latest_starts: Vec<i64>,
+    /// For each member, who must come before it.
+    before: Vec<u64>,
+    /// For each, before whom it must come.
+    behind: Vec<u64>,
+}
+
+/// The members of a sequence as they were read last.
+#[derive(Debug, Drop)]
+pub struct Probe {
+    numbers: Vec<Numbers>,
+    sizes: Vec<i64>,
+    present: u64,
+    absent: u64,
+    needs: Needs,
+    first: SideTimes,
+    second: SideTimes,
+}
+
+/// The most members that a sequence has of which something is told.
+const MANY: usize = 64;
+
+const ABSENT: Numbers = Numbers {
+    presence: Presence::Absent,
+    est: 0,
+    lct: 0,
+    lst: 0,
+    ect: 0,
+    p: 0,
+};
+
+fn with(set: u64, k: usize, yes: bool) -> u64 {
+    if yes { set | only(k) } else { set & !only(k) }
+}
+
+/// Puts a member into the sets at some places, or takes it out where it was.
+fn turn(sets: &mut [u64], places: u64, at: usize) {
+    let mut places = places;
+    for _ in 0..places.count_ones() {
+        let k = places.trailing_zeros() as usize;
+        if k < sets.len() {
+            sets[k] ^= only(at);
+        }
+        places &= places.wrapping_sub(1);
+    }
+}
+
+/// The places of the numbers below one.
+fn below(numbers: &[i64], n: i64) -> u64
+    requires { length numbers.now ≤ 64 }
+{
+    let mut set = 0;
+    for k in 0..numbers.len() {
+        set |= u64::from(numbers[k] < n) << k;
+    }
+    set
+}
+
+/// The places of the numbers above one.
+fn above(numbers: &[i64], n: i64) -> u64
+    requires { length numbers.now ≤ 64 }
+{
+    let mut set = 0;
+    for k in 0..numbers.len() {
+        set |= u64::from(n < numbers[k]) << k;
+    }
+    set
+}
+
+impl Needs {
+    fn new(alloc: Global, room: usize) -> Result<Needs, NoMemory> {
+        Ok(Needs {
+            earliest_ends: vec![in alloc; 0; room]?,
+            latest_starts: vec![in alloc; 0; room]?,
+            before: vec![in alloc; 0; room]?,
+            behind: vec![in alloc; 0; room]?,
+        })
+    }
+
+    /// Whether there is room for a member at a place.
+    fn has_room(&self, at: usize) -> bool
+        ensures few { result ≡ true → length self.now.earliest_ends.items ≤ 64 }
+        ensures too { result ≡ true → length self.now.latest_starts.items ≤ 64 }
+        ensures first { result ≡ true → at < length self.now.earliest_ends.items }
+        ensures second { result ≡ true → at < length self.now.latest_starts.items }
+        ensures third { result ≡ true → at < length self.now.before.items }
+        ensures last { result ≡ true → at < length self.now.behind.items }
+    {
+        let n = self.earliest_ends.len();
+        at < n
+            && n <= MANY
+            && self.latest_starts.len() == n
+            && self.before.len() == n
+            && self.behind.len() == n
+    }
+
+    /// Notes the earliest end of a member. Who must come before it since.
+    fn note_end(&mut self, at: usize, end: i64) -> u64 {
+        if !self.has_room(at) || self.earliest_ends[at] == end {
+            return 0;
+        }
+        self.earliest_ends[at] = end;
+        let row = below(&self.latest_starts, end) & !only(at);
+        let old = std::mem::replace(&mut self.before[at], row);
+        turn(&mut self.behind, row ^ old, at);
+        row & !old
+    }
+
+    /// Notes the latest start of a member. Before whom it must come since.
+    fn note_start(&mut self, at: usize, start: i64) -> u64 {
+        if !self.has_room(at) || self.latest_starts[at] == start {
+            return 0;
+        }
+        self.latest_starts[at] = start;
+        let column = above(&self.earliest_ends, start) & !only(at);
+        let old = std::mem::replace(&mut self.behind[at], column);
+        turn(&mut self.before, column ^ old, at);
+        column & !old
+    }
+
+    fn before_of(&self, at: usize) -> u64 {
+        if at < self.before.len() {
+            self.before[at]
+        } else {
+            0
+        }
+    }
+
+    fn behind_of(&self, at: usize) -> u64 {
+        if at < self.behind.len() {
+            self.behind[at]
+        } else {
+            0
+        }
+    }
+}
+
+/// The set of a place, where another isn't empty.
+fn if_any(set: u64, k: usize) -> u64 {
+    if set == 0 { 0 } else { only(k) }
+}
+
+impl Probe {
+    /// Room for as many members, where they aren't too many.
+    pub fn new(alloc: Global, members: usize) -> Result<Probe, NoMemory> {
+        let room = if members > MANY { 0 } else { members };
+        Ok(Probe {
+            numbers: vec![in alloc; ABSENT; room]?,
+            sizes: vec![in alloc; 0; room]?,
+            present: 0,
+            absent: u64::MAX,
+            needs: Needs::new(alloc, room)?,
+            first: SideTimes::new(alloc, room)?,
+            second: SideTimes::new(alloc, room)?,
+        })
+    }
+
+    /// Notes the numbers of a member.
+    fn note(&mut self, k: usize, now: Numbers) {
+        if k >= self.numbers.len() {
+            return;
+        }
+        let old = std::mem::replace(&mut self.numbers[k], now);
+        if now == old {
+            return;
+        }
+        if now.presence != old.presence || now.p != old.p {
+            self.present = with(self.present, k, now.presence == Presence::Present);
+            self.absent = with(self.absent, k, now.presence == Presence::Absent);
+            if k < self.sizes.len() {
+                self.sizes[k] = now.p;
+            }
+            self.first.ask_all();
+            self.second.ask_all();
+        }
+        let before = self.needs.note_end(k, now.ect);
+        let behind = self.needs.note_start(k, now.lst);
+        self.first.note(k, now.est, self.needs.behind_of(k));
+        self.second
+            .note(k, now.lct.wrapping_neg(), self.needs.before_of(k));
+        self.first.due |= behind | if_any(before, k);
+        self.second.due |= before | if_any(behind, k);
+    }
+
+    /// Reads the members at some places.
+    fn read(&mut self, look: &Look<'_>, members: &[Itv], places: u64) {
+        let mut places = places;
+        for _ in 0..members.len() {
+            let k = places.trailing_zeros() as usize;
+            // None is left.
+            if k >= members.len() {
+                return;
+            }
+            self.note(k, numbers_of(bounds_at(look, members[k])));
+            places &= places.wrapping_sub(1);
+        }
+    }
+
+    /// What the sequence is now, of which only the members at some places can be other than they were
+    /// read last. Nothing is told of a long sequence, or of one that has a member of which it isn't known
+    /// whether it is there.
+    pub fn tell(&mut self, region: &Region, members: &[Itv], places: u64) -> Told {
+        if members.len() > self.numbers.len() {
+            return Told::Busy;
+        }
+        self.read(&region.look(None, None), members, places);
+        if self.present | self.absent != u64::MAX {
+            return Told::Busy;
+        }
+        let (present, sizes) = (self.present, self.sizes.as_slice());
+        if self.first.overloads(&self.second, present, sizes)
+            || self.second.overloads(&self.first, present, sizes)
+        {
+            return Told::Busy;
+        }
+        if let Some(at) = self.first.first_late(&self.needs.before, present, sizes) {
+            return Told::Late(Hint {
+                back: false,
+                place: at,
+            });
+        }
+        if let Some(at) = self.second.first_late(&self.needs.behind, present, sizes) {
+            return Told::Late(Hint {
+                back: true,
+                place: at,
+            });
+        }
+        Told::Still
+    }
+}
