@@ -46,6 +46,13 @@ with_waking e a = record e { waking = a }
 pub still_for : {P : Type 0} (p : Ghosts P) (m : Data) (old new : EngineValue P) → new ≡ record old { waking = new.waking } → new.waking.below ≡ old.waking.below → IsFor p m old → IsFor p m new
 still_for p m old new same below is = subst (IsFor p m) (sym same) (record { of = is.of; below = below ∙ is.below; cells = is.cells; best = is.best })
 
+-- nor do other notes of the propagators
+pub told_for : {P : Type 0} (p : Ghosts P) (m : Data) (old new : EngineValue P) → new ≡ record old { propagators = new.propagators } → ((d : Data) → p.is_of old.propagators d → p.is_of new.propagators d) → IsFor p m old → IsFor p m new
+told_for p m old new same kept is = subst (IsFor p m) (sym same) (record { of = kept m is.of; below = is.below; cells = is.cells; best = is.best })
+
+pub told_calm : {P : Type 0} (p : Ghosts P) (m : Data) (r : Region) (best : Option ℤ) (old new : EngineValue P) → new ≡ record old { propagators = new.propagators } → IsCalm p m r best old → IsCalm p m r best new
+told_calm p m r best old new same calm = subst (IsCalm p m r best) (sym same) calm
+
 pub all_awake : {P : Type 0} (p : Ghosts P) (m : Data) (old new : EngineValue P) → ((k : ℕ) → k < old.waking.below → IsTrue (is_awake new.waking k)) → IsFor p m old → AreAwake p m new
 all_awake p m old new all is k within = all k (subst (λ n. k < n) (sym is.below) within)
 

@@ -4,7 +4,7 @@ ghost use Rattle.sched_model.specs.Data.{Data};
 use crate::propagator::Propagator;
 use findings::Finding;
 use kernel::{NoWitness, Witness};
-use region::Region;
+use region::{CellName, Region};
 use sched_base::{Itv, NoMemory, Seq};
 use sched_model::Model;
 
@@ -71,6 +71,16 @@ impl<A: Propagator, B: Propagator> Propagator for Both<A, B> {
             return self.first.can_wait(k, model, region);
         }
         self.second.can_wait(k - n, model, region)
+    }
+
+    fn note_change(&mut self, cell: CellName) {
+        self.first.note_change(cell);
+        self.second.note_change(cell);
+    }
+
+    fn forget_changes(&mut self) {
+        self.first.forget_changes();
+        self.second.forget_changes();
     }
 
     fn watched_presences(&self, k: u32) -> &[Itv] {

@@ -140,6 +140,34 @@ impl<P: Propagator> Engine<P> {
         self.plain_wake_all();
     }
 
+    /// Tells the propagators of a cell that isn't as it was.
+    #[tactic(auto, using(crate::proofs::Waking::told_for, crate::proofs::Waking::told_calm))]
+    fn note_change(&mut self, cell: CellName)
+        ensures made { (m : Data) → IsFor P.Propagator m self.old → IsFor P.Propagator m self.new }
+        ensures calm { (m : Data) (r : Cells) (best : Option ℤ) → IsCalm P.Propagator m r best self.old → IsCalm P.Propagator m r best self.new }
+    {
+        self.propagators.note_change(cell);
+    }
+
+    /// Wakes whoever watches a cell, and tells all that it isn't as it was.
+    fn tell(&mut self, cell: CellName)
+        ensures made { (m : Data) → IsFor P.Propagator m self.old → IsFor P.Propagator m self.new }
+        ensures calm { (m : Data) (r q : Cells) (best : Option ℤ) → IsFor P.Propagator m self.old → IsRegionOf m r → IsRegionOf m q → AreSameBut cell r q
+            → IsCalm P.Propagator m r best self.old → IsCalm P.Propagator m q best self.new }
+    {
+        self.wake(cell);
+        self.note_change(cell);
+    }
+
+    /// Tells them that cells may have changed of which they were told nothing.
+    #[tactic(auto, using(crate::proofs::Waking::told_for, crate::proofs::Waking::told_calm))]
+    fn forget_changes(&mut self)
+        ensures made { (m : Data) → IsFor P.Propagator m self.old → IsFor P.Propagator m self.new }
+        ensures calm { (m : Data) (r : Cells) (best : Option ℤ) → IsCalm P.Propagator m r best self.old → IsCalm P.Propagator m r best self.new }
+    {
+        self.propagators.forget_changes();
+    }
+
     fn find(
         &mut self,
         model: &Model,
@@ -185,7 +213,7 @@ impl<P: Propagator> Engine<P> {
         let _ = model.intervals();
         lines.put(&Line::Derive(g, witness))?;
         let cell = region.learn(Fact(g))?;
-        self.wake(cell);
+        self.tell(cell);
         Ok(())
     }
 
@@ -301,6 +329,7 @@ impl<P: Propagator> Engine<P> {
         ensures fault { result ≡ Err fault.Lines → Rose (L.faults lines.old) (L.faults lines.new) × (L.calm lines.old ≡ true → ⊥) }
         ensures awake { OnErr result (AreAwake P.Propagator model.now self.new) }
     {
+        self.forget_changes();
         let answer = self.drive(model, region, best, lines);
         if answer.is_err() {
             self.wake_all();

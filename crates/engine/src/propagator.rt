@@ -1,6 +1,6 @@
 use findings::Finding;
 use kernel::{NoWitness, Witness};
-use region::Region;
+use region::{CellName, Region};
 use sched_base::{Itv, NoMemory, Seq};
 use sched_model::Model;
 
@@ -54,6 +54,14 @@ pub trait Propagator: Drop {
     fn can_wait(&mut self, k: u32, model: &Model, region: &Region) -> bool
         requires of { is_of self.old model.now }
         ensures kept { is_of self.new model.now };
+
+    /// Notes that a cell isn't as it was. Nothing hangs on it.
+    fn note_change(&mut self, cell: CellName)
+        ensures kept { (m : Data) → is_of self.old m → is_of self.new m };
+
+    /// Cells may have changed that nothing was told of.
+    fn forget_changes(&mut self)
+        ensures kept { (m : Data) → is_of self.old m → is_of self.new m };
 
     /// The intervals whose presence it watches, and perhaps others.
     fn watched_presences(&self, k: u32) -> &[Itv]

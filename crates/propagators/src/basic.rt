@@ -2,7 +2,7 @@ use engine::Propagator;
 use findings::Finding;
 use kernel::{NoWitness, Witness};
 use prop_basic::PropBasic;
-use region::Region;
+use region::{CellName, Region};
 use sched_base::{Itv, NoMemory, Seq};
 use sched_model::Model;
 
@@ -48,6 +48,10 @@ impl Propagator for FromBasic {
     fn can_wait(&mut self, k: u32, model: &Model, region: &Region) -> bool {
         self.0.can_wait(k, model, region)
     }
+
+    fn note_change(&mut self, _: CellName) {}
+
+    fn forget_changes(&mut self) {}
 
     #[tactic(auto, using(crate::proofs::Watching::presence_named))]
     fn watched_presences(&self, k: u32) -> &[Itv] {

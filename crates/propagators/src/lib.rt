@@ -3,6 +3,7 @@
 
 mod all;
 mod basic;
+mod cells;
 mod cumul;
 mod hier;
 mod sets;

@@ -1,8 +1,9 @@
+use crate::cells::interval_of;
 use engine::Propagator;
 use findings::Finding;
 use kernel::{NoWitness, Witness};
 use prop_sets::PropSets;
-use region::Region;
+use region::{CellName, Region};
 use sched_base::{Itv, NoMemory, Seq};
 use sched_model::Model;
 
@@ -47,8 +48,18 @@ impl Propagator for FromSets {
         }))
     }
 
-    fn can_wait(&mut self, _: u32, _: &Model, _: &Region) -> bool {
-        false
+    fn can_wait(&mut self, k: u32, _: &Model, region: &Region) -> bool {
+        self.0.can_wait(k, region)
+    }
+
+    fn note_change(&mut self, cell: CellName) {
+        if let Some(x) = interval_of(cell) {
+            self.0.note_move(x);
+        }
+    }
+
+    fn forget_changes(&mut self) {
+        self.0.forget_moves();
     }
 
     #[tactic(auto, using(crate::proofs::Watching::sets_presences))]
@@ -121,6 +132,10 @@ impl Propagator for FromLaterSets {
     fn can_wait(&mut self, _: u32, _: &Model, _: &Region) -> bool {
         false
     }
+
+    fn note_change(&mut self, _: CellName) {}
+
+    fn forget_changes(&mut self) {}
 
     #[tactic(auto, using(crate::proofs::Watching::sets_presences))]
     fn watched_presences(&self, k: u32) -> &[Itv] {

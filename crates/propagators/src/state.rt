@@ -2,7 +2,7 @@ use engine::Propagator;
 use findings::Finding;
 use kernel::{NoWitness, Witness};
 use prop_state::PropState;
-use region::Region;
+use region::{CellName, Region};
 use sched_base::{Itv, NoMemory, Seq};
 use sched_model::Model;
 
@@ -48,6 +48,10 @@ impl Propagator for FromState {
     fn can_wait(&mut self, _: u32, _: &Model, _: &Region) -> bool {
         false
     }
+
+    fn note_change(&mut self, _: CellName) {}
+
+    fn forget_changes(&mut self) {}
 
     #[tactic(auto, using(crate::proofs::Watching::state_presences))]
     fn watched_presences(&self, k: u32) -> &[Itv] {

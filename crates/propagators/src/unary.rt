@@ -1,8 +1,9 @@
+use crate::cells::interval_of;
 use engine::Propagator;
 use findings::Finding;
 use kernel::{NoWitness, Witness};
 use prop_unary::PropUnary;
-use region::Region;
+use region::{CellName, Region};
 use sched_base::{Itv, NoMemory, Seq};
 use sched_model::Model;
 
@@ -48,6 +49,20 @@ impl Propagator for FromUnary {
 
     fn can_wait(&mut self, k: u32, model: &Model, region: &Region) -> bool {
         self.0.can_wait(k, model, region)
+    }
+
+    fn note_change(&mut self, cell: CellName) {
+        if let CellName::Order(_, x, y) = cell {
+            self.0.note_move(x);
+            self.0.note_move(y);
+        }
+        if let Some(x) = interval_of(cell) {
+            self.0.note_move(x);
+        }
+    }
+
+    fn forget_changes(&mut self) {
+        self.0.forget_moves();
     }
 
     #[tactic(auto, using(crate::proofs::Watching::presence_each))]
