@@ -1,10 +1,10 @@
 ghost use Rattle.std.specs.Prelude.{◌≡◌, ℕ, ◌<◌, ◌≤◌, ◌+ℤ◌, int_le, true, None, Some, length};
 ghost use Rattle.std.specs.Int.{int_max};
-ghost use Rattle.theta_passes.specs.code.Rows.{row_at, is_candidate, IsNearRow, IsByEst};
+ghost use Rattle.theta_passes.specs.code.Rows.{row_at, is_candidate, is_present, IsNearRow, IsByEst};
 ghost use Rattle.theta_passes.specs.code.Parts.{part_has, GivesTop};
 ghost use Rattle.theta_passes.specs.code.Late.{LateAt, LateCandidate, LatePass, late_by, with_row, is_free, AreLows};
 ghost use Rattle.theta_passes.specs.declared.parts.Part.TheVariants.{Before, Cut};
-ghost use Rattle.theta_passes.specs.code.Edge.{is_pushed, is_over_with, FoundBy, FoundOrNone, IsMember, IsOrder, PassOrNone};
+ghost use Rattle.theta_passes.specs.code.Edge.{is_pushed, is_over_with, FoundBy, FoundOrNone, ByMember, IsMember, PassOrNone};
 
 use crate::parts::{Part, Top, top_of};
 use crate::{Presence, Row};
@@ -58,18 +58,6 @@ fn is_found(rows: &[Row], i: u32) -> bool
         return false;
     }
     is_late(rows, i)
-}
-
-/// Whether a member is late as `late_pass` finds it.
-#[tactic(auto, using(crate::proofs::scans::Scanned::scan_found))]
-pub fn is_late_one(rows: &[Row], i: u32) -> bool
-    requires few { length rows.now ≤ 500 }
-    requires near { (k : ℕ) → IsNearRow (row_at rows.now k) }
-    requires sorted { IsByEst rows.now }
-    requires within { i < length rows.now }
-    ensures { result ≡ true → LatePass rows.now (Some i) }
-{
-    is_found(rows, i)
 }
 
 /// The two least of the latest starts of those present that were seen, and where the least stands.
@@ -222,17 +210,39 @@ fn found_at(rows: &[Row], level: i64) -> Option<u32>
     None
 }
 
-/// What `edge_pass` finds, without a tree: of few members it is the sooner one.
-#[tactic(auto, using(crate::proofs::scans::CutScans::no_cut, crate::proofs::scans::CutScans::cut_passed, crate::proofs::scans::CutScans::is_member))]
-pub fn edge_scan(rows: &[Row], order: &[u32]) -> Option<u32>
+/// Whether a member is present, so that a cut ends with it.
+fn ends_cut(rows: &[Row], k: usize) -> bool
+    requires { k < length rows.now }
+    ensures { result ≡ is_present rows.now k }
+{
+    rows[k].presence == Presence::Present
+}
+
+/// What the cut finds that ends with a member, if it is present.
+#[tactic(auto, using(crate::proofs::scans::CutScans::member_at, crate::proofs::scans::CutScans::no_member))]
+fn found_by(rows: &[Row], k: usize) -> Option<u32>
     requires few { length rows.now ≤ 500 }
     requires near { (k : ℕ) → IsNearRow (row_at rows.now k) }
     requires sorted { IsByEst rows.now }
-    requires order { IsOrder rows.now order.now }
+    requires within { k < length rows.now }
+    ensures { ByMember rows.now k result }
+{
+    if !ends_cut(rows, k) {
+        return None;
+    }
+    found_at(rows, rows[k].lct)
+}
+
+/// What `edge_pass` finds, without a tree: of few members it is the sooner one.
+#[tactic(auto, using(crate::proofs::scans::CutScans::no_cut, crate::proofs::scans::CutScans::cut_passed))]
+pub fn edge_scan(rows: &[Row]) -> Option<u32>
+    requires few { length rows.now ≤ 500 }
+    requires near { (k : ℕ) → IsNearRow (row_at rows.now k) }
+    requires sorted { IsByEst rows.now }
     ensures { PassOrNone rows.now result }
 {
-    for m in order {
-        let found = found_at(rows, rows[*m as usize].lct);
+    for k in 0..rows.len() {
+        let found = found_by(rows, k);
         if found.is_some() {
             return found;
         }

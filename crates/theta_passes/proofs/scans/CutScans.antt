@@ -1,5 +1,5 @@
 -- The scans of the cuts: for an overload, and for a member that some cut finds.
-use Rattle.std.specs.Prelude.{◌≡◌, ℕ, ◌+◌, ◌<◌, ◌≤◌, ℤ, ◌+ℤ◌, Bool, true, false, ◌&&◌, ◌||◌, nat_eq, int_lt, is_some, int_le, slice_index_or, List, length, Option, Some, None, refl}
+use Rattle.std.specs.Prelude.{◌≡◌, ℕ, ◌+◌, ◌<◌, ◌≤◌, ℤ, ◌+ℤ◌, Bool, true, false, ◌&&◌, ◌||◌, nat_eq, int_lt, is_some, int_le, List, length, Option, Some, None, refl}
 use Rattle.std.specs.Int.{int_max}
 use Rattle.std.proofs.Common.{arith, sym, subst, ap, ◌∙◌, inl, inr}
 use Rattle.std.proofs.lemmas.Int.{ints}
@@ -13,11 +13,11 @@ use Rattle.task_sets.specs.Times.{IsEct, IsEdgeCut, est_at, size_at, in_cut, lct
 use Rattle.theta_passes.specs.declared.parts.Part.TheVariants.{Cut, CutAnd}
 use Rattle.theta_passes.specs.declared.parts.Top.{Top}
 use Rattle.theta_passes.specs.declared.rows.Row.{Row}
-use Rattle.theta_passes.specs.code.Edge.{FoundBy, FoundOrNone, IsMember, IsOrder, NoneAt, PassOrNone, cut_of, is_pushed, is_over_with}
+use Rattle.theta_passes.specs.code.Edge.{ByMember, FoundBy, FoundOrNone, IsMember, NoneAt, PassOrNone, cut_of, is_pushed, is_over_with}
 use Rattle.theta_passes.specs.code.Late.{late_by}
 use Rattle.theta_passes.specs.code.Over.{OverPass}
 use Rattle.theta_passes.specs.code.Parts.{GivesTop, IsTop, part_has}
-use Rattle.theta_passes.specs.code.Rows.{IsByEst, IsNearRow, is_candidate, is_present, lct_in, row_at, times_at, with_candidate}
+use Rattle.theta_passes.specs.code.Rows.{IsByEst, IsNearRow, is_candidate, is_present, row_at, times_at, with_candidate}
 use Rattle.theta_passes.specs.code.Witnesses.{FullCut, part_from}
 use Rattle.theta_passes.specs.laws.Members.{present_below, with_below}
 use Rattle.theta_passes.specs.laws.Members.{is_below as row_below}
@@ -147,30 +147,35 @@ all_tried rows level l n eq whole none k z u on found =
 pub one_tried : (rows : List Row) (level : ℤ) (k : ℕ) (b : Bool) → b ≡ true → FoundBy rows level k b → FoundOrNone rows level (Some k)
 one_tried rows level k b on here = subst (FoundBy rows level k) on here
 
-pub cut_passed : (rows : List Row) (level : ℤ) (o : Option ℕ) → is_some o ≡ true → FoundOrNone rows level o → PassOrNone rows o
-cut_passed rows level None some found = absurd (true≢false (sym some))
-cut_passed rows level (Some k) some found = found
+pub member_at : (rows : List Row) (k : ℕ) → is_present rows k ≡ true → IsMember rows (row_at rows k).lct
+member_at rows k on = record { place = k; on = on; is = refl }
 
-pub no_cut : (rows : List Row) (order : List ℕ) (n : ℕ) → n < 0 → NoneAt rows (lct_in rows order n)
-no_cut rows order n low = absurd (omega (arith, low))
+pub no_member : (rows : List Row) (k : ℕ) → is_present rows k ≡ false → ByMember rows k None
+no_member rows k off on = absurd (true≢false (sym on ∙ off))
 
-pub more_cuts : (rows : List Row) (order : List ℕ) (n : ℕ) (level : ℤ) (o : Option ℕ) → level ≡ lct_in rows order n → is_some o ≡ false → FoundOrNone rows level o → ((j : ℕ) → j < n → NoneAt rows (lct_in rows order j))
-    → (j : ℕ) → j < n + 1 → NoneAt rows (lct_in rows order j)
-more_cuts rows order n level (Some k) is none found before j low = absurd (true≢false none)
-more_cuts rows order n level None is none found before j low = elim (cases_eq j n) [
-  | inl same ↦ subst (λ k. NoneAt rows (lct_in rows order k)) (sym same) (subst (NoneAt rows) is found)
+pub found_member : (rows : List Row) (k : ℕ) (level : ℤ) (o : Option ℕ) → level ≡ (row_at rows k).lct → FoundOrNone rows level o → ByMember rows k o
+found_member rows k level None is none = λ on. subst (NoneAt rows) is none
+found_member rows k level (Some i) is found = found
+
+pub cut_passed : (rows : List Row) (k : ℕ) (o : Option ℕ) → is_some o ≡ true → ByMember rows k o → PassOrNone rows o
+cut_passed rows k None some found = absurd (true≢false (sym some))
+cut_passed rows k (Some i) some found = found
+
+pub no_cut : (rows : List Row) (n : ℕ) → n < 0 → is_present rows n ≡ true → NoneAt rows (row_at rows n).lct
+no_cut rows n low = absurd (omega (arith, low))
+
+pub more_cuts : (rows : List Row) (n : ℕ) (o : Option ℕ) → is_some o ≡ false → ByMember rows n o → ((j : ℕ) → j < n → is_present rows j ≡ true → NoneAt rows (row_at rows j).lct)
+    → (j : ℕ) → j < n + 1 → is_present rows j ≡ true → NoneAt rows (row_at rows j).lct
+more_cuts rows n (Some k) none found before j low = absurd (true≢false none)
+more_cuts rows n None none found before j low = elim (cases_eq j n) [
+  | inl same ↦ subst (λ k. is_present rows k ≡ true → NoneAt rows (row_at rows k).lct) (sym same) found
   | inr other ↦ before j (omega (arith, low, other))
 ]
 
-pub all_cuts : (rows : List Row) (order : List ℕ) (n : ℕ) → IsOrder rows order → length order ≤ n → ((j : ℕ) → j < n → NoneAt rows (lct_in rows order j)) → PassOrNone rows None
-all_cuts rows order n ordered whole none k end z u on found =
-    let at = ordered.whole found.member.0 found.member.1 in
-    let level : lct_in rows order at.0 ≡ end = ap (λ j. (row_at rows j).lct) at.2 ∙ found.member.2 in
-    let low = at.1 in
-    subst (NoneAt rows) level (none at.0 (omega (arith, low, whole))) k z u on found
-
-pub is_member : (rows : List Row) (order : List ℕ) (n k : ℕ) → IsOrder rows order → n < length order → k ≡ slice_index_or order n 0 → IsMember rows (row_at rows k).lct
-is_member rows order n k ordered within is = record { place = k; on = subst (λ j. is_present rows j ≡ true) (sym is) (ordered.present n within); is = refl }
+pub all_cuts : (rows : List Row) (n : ℕ) → length rows ≤ n → ((j : ℕ) → j < n → is_present rows j ≡ true → NoneAt rows (row_at rows j).lct) → PassOrNone rows None
+all_cuts rows n whole none k end z u on found =
+    let low = present_below rows found.member.0 found.member.1 in
+    subst (NoneAt rows) found.member.2 (none found.member.0 (omega (arith, low, whole)) found.member.1) k z u on found
 
 pub cut_found : (rows : List Row) (level l : ℤ) (i : ℕ) (v w : Option Top) (b : Bool) → ((k : ℕ) → IsNearRow (row_at rows k)) → IsByEst rows → IsMember rows level → l ≡ level → is_candidate rows i ≡ true → is_pushed (row_at rows i) level v ≡ true → b ≡ late_by level w
     → GivesTop rows (part_has rows (Cut None level)) 0 v → GivesTop rows (part_has rows (CutAnd l i)) 0 w → FoundBy rows level i b

@@ -42,6 +42,11 @@ abbrev pub FoundOrNone : List Row → ℤ → Option ℕ → Type 0
 FoundOrNone rows level (Some k) = IsFound rows k
 FoundOrNone rows level None = NoneAt rows level
 
+-- what the cut finds that ends with a member: nothing where this isn't present
+abbrev pub ByMember : List Row → ℕ → Option ℕ → Type 0
+ByMember rows k (Some i) = IsFound rows i
+ByMember rows k None = is_present rows k ≡ true → NoneAt rows (row_at rows k).lct
+
 -- the present ones, by falling latest completion
 pub record IsOrder (rows : List Row) (order : List ℕ) : Type 0 where
   pub present : (n : ℕ) → n < length order → is_present rows (slice_index_or order n 0) ≡ true

@@ -2,8 +2,8 @@ use Rattle.std.proofs.Common.{rules}
 use Rattle.theta_passes.proofs.scans.CutScans.{more_cuts, all_cuts}
 use Rattle.theta_passes.proofs.scan.edge_scan.Goals as goal
 
-pub loop-m-preserved : goal.loop-m-preserved
-loop-m-preserved c = more_cuts c.args.rows.now c.args.order.now c.loop-m.m-index _ c.found_at-found.result (search rules) (search rules) c.found_at-found.ensures c.loop-m.invariant
+pub loop-k-preserved : goal.loop-k-preserved
+loop-k-preserved c = more_cuts c.args.rows.now c.loop-k.k c.found_by-found.result (search rules) c.found_by-found.ensures c.loop-k.invariant
 
 pub returns : goal.returns
-returns c = all_cuts c.args.rows.now c.args.order.now c.loop-m.m-index c.requires.order (search rules) c.loop-m.invariant
+returns c = all_cuts c.args.rows.now c.loop-k.k (search rules) c.loop-k.invariant
