@@ -6,7 +6,7 @@ use crate::detect::detect;
 use crate::edge::edge;
 use crate::not_end::not_end;
 use crate::overload::overload;
-use crate::pair::pair;
+use crate::pair::{pair, pair_excess};
 use crate::triple::triple;
 use crate::witness::SeqWitness;
 use region::{Look, Numbers, Refuter};
@@ -26,6 +26,13 @@ impl Refuter for OnSequence {
 
     fn refutes(model: &Model, look: &Look<'_>, w: &SeqWitness) -> bool {
         w.valid() && row(model, look, w)
+    }
+
+    fn excess(_: &Model, look: &Look<'_>, w: &SeqWitness) -> Option<u64> {
+        match w {
+            SeqWitness::Pair { a, b, k, .. } => pair_excess(look, *a, *b, *k),
+            _ => None,
+        }
     }
 
     ghost valid = { refuting_valid };

@@ -96,3 +96,11 @@ pub fn pair(model: &Model, look: &Look<'_>, c: u32, a: u32, b: u32, k: u32) -> b
         _ => false,
     }
 }
+
+/// By how many moments the first case of PAIR refutes the look.
+pub fn pair_excess(look: &Look<'_>, a: u32, b: u32, k: u32) -> Option<u64> {
+    if k != 0 || a as usize >= look.len() || b as usize >= look.len() {
+        return None;
+    }
+    u64::try_from(look.ect(Itv(a)).saturating_sub(look.lst(Itv(b)))).ok()
+}
