@@ -1,3 +1,4 @@
+pub mod Likely
 pub mod Numbers
 pub mod Reads
 pub mod Search

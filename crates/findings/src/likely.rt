@@ -4,6 +4,7 @@ ghost use Rattle.sched_model.specs.Data.{has};
 ghost use Rattle.region.specs.Cells.{bounds_of};
 ghost use Rattle.region.specs.Guesses.{topic};
 ghost use Rattle.findings.specs.Ends.{is_end};
+ghost use Rattle.findings.specs.code.Likely.{end_guess};
 ghost use Rattle.findings.specs.code.Reads.{is_among, has_pair};
 ghost use Rattle.findings.specs.code.Search.{IsRefutedEnd};
 
@@ -38,8 +39,10 @@ fn bounds_in(region: &Region, x: Itv) -> Option<Bounds>
     Some(look.bounds(x))
 }
 
-fn guess_of(region: &Region, likely: Likely) -> Option<Guess>
-    ensures { IfSome result (λ g. IsTrue (is_end region.now.region (topic g))) }
+/// The guess at the end of its cell, where there is one.
+pub fn guess_of(region: &Region, likely: Likely) -> Option<Guess>
+    ensures end { IfSome result (λ g. IsTrue (is_end region.now.region (topic g))) }
+    ensures value { IfSome result (λ g. g ≡ end_guess region.now.region likely) }
 {
     match likely {
         Likely::StartsLater(x) => Some(Guess::StartLe(x, bounds_in(region, x)?.smin)),
