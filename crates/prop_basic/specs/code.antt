@@ -2,3 +2,4 @@ pub mod Goals
 pub mod Ready
 pub mod Tables
 pub mod Tasks
+pub mod Fit

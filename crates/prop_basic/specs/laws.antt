@@ -1,3 +1,4 @@
 pub mod Owners
 pub mod Silent
 pub mod Unwatched
+pub mod Fit

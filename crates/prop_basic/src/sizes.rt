@@ -1,10 +1,12 @@
 //! What SIZE of an interval finds.
-ghost use Rattle.std.specs.Prelude.{◌≡◌, ◌∷◌, [], IfNone, IfSome};
-ghost use Rattle.region.specs.Looks.{IsRegionOf};
+ghost use Rattle.std.specs.Prelude.{◌≡◌, ◌&&◌, ◌∷◌, [], true, ◌-ℤ◌, int_le, IsTrue, IfNone, IfSome};
+ghost use Rattle.sched_model.specs.Valid.{is_moment};
+ghost use Rattle.region.specs.Looks.{IsRegionOf, HasMoments};
 ghost use Rattle.findings.specs.Found.{IsFinding};
 ghost use Rattle.refute_basic.specs.declared.witness.BasicWitness.TheVariants as basic;
 ghost use Rattle.refute_basic.specs.Basic.{refutes};
 ghost use Rattle.prop_basic.specs.code.Tasks.{IsSilent};
+ghost use Rattle.prop_basic.specs.code.Fit.{are_fit, has_moments, is_size};
 
 use findings::{Finding, Likely, ask_likely};
 use refute_basic::{Basic, BasicWitness};
@@ -47,7 +49,59 @@ fn likely_end(region: &Region, x: Itv) -> Likely {
     Likely::StartsSooner(x)
 }
 
-/// What SIZE of an interval finds. The test costs a few comparisons.
+fn is_between(size: i64, least: i64, greatest: i64) -> bool
+    ensures { result ≡ (int_le least size && int_le size greatest) }
+{
+    least <= size && size <= greatest
+}
+
+fn distance(start: i64, end: i64) -> i64
+    requires first { IsTrue (is_moment start) }
+    requires second { IsTrue (is_moment end) }
+    ensures { result ≡ end -ℤ start }
+{
+    end - start
+}
+
+/// Whether the distance of two moments is a size.
+fn is_size(c: Bounds, start: i64, end: i64) -> bool
+    requires first { IsTrue (is_moment start) }
+    requires second { IsTrue (is_moment end) }
+    ensures { result ≡ is_size c start end }
+{
+    is_between(distance(start, end), c.pmin, c.pmax)
+}
+
+/// Whether there are a start and an end.
+fn has_moments(c: Bounds) -> bool
+    ensures { result ≡ has_moments c }
+{
+    c.smin <= c.smax && c.emin <= c.emax
+}
+
+/// Whether the distances of the two earliest and of the two latest moments are sizes.
+fn are_fit(c: Bounds) -> bool
+    requires { HasMoments c }
+    ensures { result ≡ are_fit c }
+{
+    has_moments(c) && is_size(c, c.smin, c.emin) && is_size(c, c.smax, c.emax)
+}
+
+/// Whether the bounds show at once that SIZE finds nothing.
+#[tactic(auto, using(crate::specs::laws::Fit::fit_silent))]
+fn is_surely_silent(model: &Model, region: &Region, best: Option<i64>, x: u32) -> bool
+    ensures { result ≡ true → IsSilent model.now region.now.region best (basic.Size x) }
+{
+    let _ = model;
+    let _ = best;
+    let look = region.look(None, None);
+    if x as usize >= look.len() {
+        return false;
+    }
+    are_fit(look.bounds(Itv(x)))
+}
+
+/// What SIZE of an interval finds. Mostly its bounds show at once that it finds nothing.
 pub fn ask_size(
     model: &Model,
     region: &Region,
@@ -59,6 +113,9 @@ pub fn ask_size(
     ensures some { IfSome result (IsFinding refutes model.now region.now.region best) }
     ensures busy { IfSome result (λ f. IsSilent model.now region.now.region best (basic.Size x) → ⊥) }
 {
+    if is_surely_silent(model, region, best, x) {
+        return None;
+    }
     let witness = BasicWitness::Size { x };
     let x = Itv(x);
     let likely = likely_end(region, x);
