@@ -7,10 +7,10 @@ ghost use Rattle.refute_basic.specs.declared.witness.BasicWitness.TheVariants as
 ghost use Rattle.refute_basic.specs.Basic.{refutes};
 ghost use Rattle.prop_temporal.specs.code.Tasks.{IsSilent, quiet, reads_of};
 
-use crate::likely::likely_of;
+use crate::likely::{LikelyMove, likely_of};
 use crate::silence::is_surely_silent;
 use crate::ways::way_of;
-use findings::{Finding, Likely, ask, ask_likely};
+use findings::{Finding, ask, ask_reaching};
 use refute_basic::{Basic, BasicWitness};
 use region::{Guess, Region};
 use sched_base::Itv;
@@ -24,7 +24,7 @@ fn ask_ends(
     best: Option<i64>,
     witness: &BasicWitness,
     ends: &[Itv],
-    likely: Option<Likely>,
+    likely: Option<LikelyMove>,
 ) -> Option<Option<Guess>>
     requires of { IsRegionOf model.now region.now.region }
     ensures none { IfNone result (IsUnrefuted refutes model.now region.now.region best witness.now ends.now []) }
@@ -33,12 +33,14 @@ fn ask_ends(
 {
     match likely {
         None => ask::<Basic>(model, region, best, witness, ends, &[]),
-        Some(likely) => ask_likely::<Basic>(model, region, best, witness, ends, &[], likely),
+        Some(LikelyMove { likely, far }) => {
+            ask_reaching::<Basic>(model, region, best, witness, ends, &[], likely, far)
+        }
     }
 }
 
 /// The guess that the way of this number refutes likely.
-fn likely_at(model: &Model, region: &Region, c: u32, d: u32) -> Option<Likely> {
+fn likely_at(model: &Model, region: &Region, c: u32, d: u32) -> Option<LikelyMove> {
     likely_of(region, way_of(model, c, d)?)
 }
 

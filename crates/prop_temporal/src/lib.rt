@@ -6,6 +6,7 @@ mod ends;
 mod heights;
 mod likely;
 mod members;
+mod moves;
 mod shown;
 mod silence;
 mod sources;

@@ -6,9 +6,10 @@ ghost use Rattle.region.specs.Looks.{IsRegionOf};
 ghost use Rattle.findings.specs.Found.{IsFinding};
 ghost use Rattle.refute_basic.specs.Basic.{refutes};
 
-use crate::likely::moved;
+use crate::likely::{LikelyMove, guess_of};
+use crate::moves::Moves;
 use crate::ways::{Side, Way, push_of, way_of};
-use findings::{Finding, ask_likely};
+use findings::{Finding, ask_reaching};
 use refute_basic::{Basic, BasicWitness};
 use region::{Guess, Region};
 use sched_base::{Itv, List, NoMemory, at};
@@ -31,6 +32,16 @@ fn strongest(region: &Region, ways: &[Way], side: Side, least: i64) -> Option<Wa
         }
     }
     found
+}
+
+/// Whether one of the first of these ways moves its point.
+fn moves_any(region: &Region, moves: &Moves, ways: &[Way], side: Side) -> bool {
+    for k in 0..ways.len().min(FEW) {
+        if moves.is_due(ways[k].c) && push_of(region, ways[k], side) > 0 {
+            return true;
+        }
+    }
+    false
 }
 
 /// The way whose guess this is, and the point that it moves.
@@ -97,7 +108,7 @@ impl Sources {
     }
 
     /// The ways that move the points of an interval to this side.
-    fn movers(&self, x: Itv, side: Side) -> &[Way] {
+    pub fn movers(&self, x: Itv, side: Side) -> &[Way] {
         let ways = match side {
             Side::Later => at(&self.into, x.0 as usize),
             Side::Earlier => at(&self.out_of, x.0 as usize),
@@ -109,15 +120,18 @@ impl Sources {
     }
 
     /// Whether others still move the points from which a way moves its own.
-    pub fn are_moving(&self, region: &Region, way: Way) -> bool {
-        strongest(region, self.movers(way.first, Side::Later), Side::Later, 0).is_some()
-            || strongest(
-                region,
-                self.movers(way.second, Side::Earlier),
-                Side::Earlier,
-                0,
-            )
-            .is_some()
+    pub fn are_moving(&self, region: &Region, moves: &Moves, way: Way) -> bool {
+        moves_any(
+            region,
+            moves,
+            self.movers(way.first, Side::Later),
+            Side::Later,
+        ) || moves_any(
+            region,
+            moves,
+            self.movers(way.second, Side::Earlier),
+            Side::Earlier,
+        )
     }
 
     /// A way that moves the point from which this one moves, or moves the same interval by more.
@@ -129,8 +143,12 @@ impl Sources {
         if let Some(before) = strongest(region, self.movers(mover, self.side), self.side, 0) {
             return Some(before);
         }
+        let others = self.movers(moved, self.side);
+        if others.len() <= 1 {
+            return None;
+        }
         let push = push_of(region, way, self.side);
-        strongest(region, self.movers(moved, self.side), self.side, push)
+        strongest(region, others, self.side, push)
     }
 
     /// Begins at a goal, or goes on where it is that of the last call.
@@ -217,8 +235,8 @@ fn ask_first(
         Side::Earlier => way.first,
     };
     let witness = BasicWitness::Arc { c: way.c, d: way.d };
-    let likely = moved(way, side);
-    match ask_likely::<Basic>(model, region, best, &witness, &[point], &[], likely) {
+    let LikelyMove { likely, far } = guess_of(region, way, side);
+    match ask_reaching::<Basic>(model, region, best, &witness, &[point], &[], likely, far) {
         None => found,
         Some(guess) => Finding { guess, witness },
     }

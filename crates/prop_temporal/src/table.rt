@@ -14,10 +14,11 @@ ghost use Rattle.prop_temporal.specs.code.Tasks.{size_of, quiet, watching, watch
 ghost use Rattle.prop_temporal.specs.code.Tables.{FitEach, AreOptional, AreDisjunctive, IsFor};
 
 use crate::ends::ask_constraint;
+use crate::moves::Moves;
 use crate::sources::Sources;
 use crate::touching::touching_of;
 use crate::walks::Walks;
-use crate::ways::{Way, moves_nothing, way_of};
+use crate::ways::{Side, Way, moves_nothing, way_of};
 use findings::Finding;
 use refute_basic::BasicWitness;
 use region::{CellName, Region};
@@ -37,6 +38,8 @@ pub struct PropTemporal {
     walks: Walks,
     /// Whether no interval may be put off for long.
     narrow: bool,
+    /// Which precedences may move a point. Nothing hangs on it.
+    moves: Moves,
 }
 
 impl std::marker::Model for PropTemporal {
@@ -162,6 +165,17 @@ fn has(intervals: &[Itv], x: Itv) -> bool
     intervals.iter().any(|y| x.0 == y.0)
 }
 
+/// Whether a precedence moves nothing, whichever way it is read.
+fn move_nothing(region: &Region, way: Way, back: Option<Way>) -> bool {
+    if !moves_nothing(region, way) {
+        return false;
+    }
+    match back {
+        None => true,
+        Some(back) => moves_nothing(region, back),
+    }
+}
+
 impl PropTemporal {
     /// The propagators of a model.
     pub fn new(alloc: Global, model: &Model) -> Result<PropTemporal, NoMemory>
@@ -180,6 +194,7 @@ impl PropTemporal {
             sources,
             walks: Walks::new(alloc),
             narrow: are_narrow(model.intervals()),
+            moves: Moves::new(alloc, model.constraints().len())?,
         })
     }
 
@@ -219,26 +234,62 @@ impl PropTemporal {
     }
 
     /// Whether what it finds now, if it finds anything, can wait until others are quiet: all that it
-    /// finds follows from the least sizes alone. Where others still move the points from which it moves
-    /// its own, it is asked all the same, since it then tells what the first of these find.
-    pub fn can_wait(&self, k: u32, model: &Model, region: &Region) -> bool {
+    /// finds follows from the least sizes alone. It looks at its intervals where a point may have moved
+    /// from which it moves its own. Where others still move such a point it is asked all the same, since
+    /// it then tells what the first of these find. Nothing hangs on it.
+    pub fn can_wait(&mut self, k: u32, model: &Model, region: &Region) -> bool
+        ensures kept { (m : Data) → IsFor self.old m → IsFor self.new m }
+    {
         if k == 0 {
             return false;
         }
-        let Some(way) = way_of(model, k - 1, 0) else {
+        let c = k - 1;
+        let Some(way) = way_of(model, c, 0) else {
             return false;
         };
-        if !self.is_idle(region, way) {
-            return false;
+        let back = way_of(model, c, 1);
+        if self.moves.is_due(c) {
+            if !move_nothing(region, way, back) {
+                return false;
+            }
+            self.moves.settle(c);
         }
-        match way_of(model, k - 1, 1) {
-            None => true,
-            Some(back) => self.is_idle(region, back),
+        !self.are_moving(region, way, back)
+    }
+
+    /// Whether others still move the points from which a precedence moves its own.
+    fn are_moving(&self, region: &Region, way: Way, back: Option<Way>) -> bool {
+        if self.sources.are_moving(region, &self.moves, way) {
+            return true;
+        }
+        match back {
+            None => false,
+            Some(back) => self.sources.are_moving(region, &self.moves, back),
         }
     }
 
-    fn is_idle(&self, region: &Region, way: Way) -> bool {
-        moves_nothing(region, way) && !self.sources.are_moving(region, way)
+    /// Notes that a cell isn't as it was.
+    pub fn note_change(&mut self, cell: CellName)
+        ensures kept { (m : Data) → IsFor self.old m → IsFor self.new m }
+    {
+        match cell {
+            CellName::StartMin(x) => self.moves.note(self.sources.movers(x, Side::Earlier)),
+            CellName::EndMin(x) => self.moves.note(self.sources.movers(x, Side::Earlier)),
+            CellName::StartMax(x) => self.moves.note(self.sources.movers(x, Side::Later)),
+            CellName::EndMax(x) => self.moves.note(self.sources.movers(x, Side::Later)),
+            CellName::Presence(x) => {
+                self.moves.note(self.sources.movers(x, Side::Earlier));
+                self.moves.note(self.sources.movers(x, Side::Later));
+            }
+            CellName::Order(..) => {}
+        }
+    }
+
+    /// Cells may have changed that nothing was told of.
+    pub fn forget_changes(&mut self)
+        ensures kept { (m : Data) → IsFor self.old m → IsFor self.new m }
+    {
+        self.moves.forget();
     }
 
     /// The intervals whose presence it watches.
