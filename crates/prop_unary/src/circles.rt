@@ -203,11 +203,11 @@ fn note_rows(look: &Look<'_>, p: Seq, members: &[Itv], rows: &mut [Places])
 
 /// Whether each that the second may stand before is one that the first may, where it may stand before
 /// the second.
-fn is_clear(first: Places, at: usize, second: Places) -> bool
+fn is_clear(first: &Places, at: usize, second: &Places) -> bool
     requires { at < 512 }
-    ensures { result ≡ true → has_place first at ≡ true → (k : ℕ) → has_place second k ≡ true → has_place first k ≡ true }
+    ensures { result ≡ true → has_place first.now at ≡ true → (k : ℕ) → has_place second.now k ≡ true → has_place first.now k ≡ true }
 {
-    !first.contains(at) || second.is_within(&first)
+    !first.contains(at) || second.is_within(first)
 }
 
 /// What is found of a member that is present, between those that it stands behind and those that it
@@ -234,7 +234,7 @@ fn ask_around(
 {
     let look = region.look(None, None);
     for k in 0..members.len() {
-        if is_clear(rows[k], at, rows[at]) {
+        if is_clear(&rows[k], at, &rows[at]) {
             continue;
         }
         if !precedes(&look, p, members[k], members[at]) {

@@ -18,6 +18,7 @@ use crate::disjunctive::Disjunctive;
 use crate::keys::{Keys, note_keys};
 use crate::likely::likely_told;
 use crate::silence::{Task, are_surely_silent, distance, is_surely_silent, no_reach};
+use crate::waiting::Told;
 use findings::{Finding, Likely, Pair, ask_likely};
 use refute_seq::{OnSequence, SeqWitness};
 use region::{OrderCell, Region};
@@ -260,6 +261,30 @@ fn ask_forward(
         second: b,
     };
     ask_both(model, region, best, d, a, b, likely_told(region, pair))
+}
+
+/// What is found of two members of whom it is told that something is. The place of the first is noted.
+pub fn ask_told(
+    model: &Model,
+    region: &Region,
+    best: Option<i64>,
+    d: &Disjunctive,
+    members: &[Itv],
+    told: Option<Told>,
+    at: &mut usize,
+) -> Option<Finding<SeqWitness>>
+    requires of { IsRegionOf model.now region.now.region }
+    requires is { IsDisjunctive model.now d.now }
+    ensures some { IfSome result (IsFinding refutes model.now region.now.region best) }
+    ensures busy { IfSome result (λ f. quiet model.now d.now.c region.now.region best → ⊥) }
+{
+    let Told { first, second } = told?;
+    if first >= members.len() || second >= members.len() {
+        return None;
+    }
+    let found = ask_forward(model, region, best, d, members[first], members[second])?;
+    *at = first;
+    Some(found)
 }
 
 /// What is found of a member and others that it is told to stand before.

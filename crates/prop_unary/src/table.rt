@@ -11,15 +11,16 @@ ghost use Rattle.findings.specs.Found.{IsFinding};
 ghost use Rattle.findings.specs.code.Tables.{AreLists, members_in};
 ghost use Rattle.refute_seq.specs.OnSequence.{refutes};
 ghost use Rattle.prop_unary.specs.code.Tasks.{size_of, sequence_in, quiet, watching, watching_best, is_bound, is_bound_of};
+ghost use Rattle.prop_unary.specs.code.Silence.{IsDisjunctive};
 ghost use Rattle.prop_unary.specs.code.Tables.{IsFor, members_at, sequences_at, as_list};
 
 use crate::circles::ask_circles;
 use crate::disjunctive::Disjunctive;
 use crate::keys::Keys;
 use crate::members::sequence_at;
-use crate::pairs::ask_pairs;
+use crate::pairs::{ask_pairs, ask_told};
 use crate::places::Places;
-use crate::waiting::Waiting;
+use crate::waiting::{Told, Waiting};
 use findings::{Finding, Moves};
 use refute_seq::{SeqWitness, members_of};
 use region::Region;
@@ -44,8 +45,9 @@ pub struct PropUnary {
     starts: Vec<usize>,
     /// What was read of each constraint when it was asked whether it can wait. Nothing hangs on it.
     waiting: Vec<Waiting>,
-    /// Which members have moved since they were read.
+    /// Which members have moved since they were read, and which have another order with one.
     moves: Moves,
+    turns: Moves,
 }
 
 /// The most members that a sequence may have.
@@ -136,12 +138,39 @@ fn few_members(model: &Model, p: Seq) -> &[Itv]
     members_of(model, p)
 }
 
+/// What is found of a sequence without overlap, asked first of two of whom it is told that something is.
+fn ask_told_first(
+    model: &Model,
+    region: &Region,
+    best: Option<i64>,
+    d: &Disjunctive,
+    members: &[Itv],
+    told: Option<Told>,
+    keys: &mut [Keys],
+    start: &mut usize,
+) -> Option<Finding<SeqWitness>>
+    requires of { IsRegionOf model.now region.now.region }
+    requires is { IsDisjunctive model.now d.now }
+    requires members { members.now ≡ members_of model.now d.now.p }
+    requires room { length members.now ≤ length keys.old }
+    ensures same { length keys.new ≡ length keys.old }
+    ensures none { IfNone result (quiet model.now d.now.c region.now.region best) }
+    ensures some { IfSome result (IsFinding refutes model.now region.now.region best) }
+    ensures busy { IfSome result (λ f. quiet model.now d.now.c region.now.region best → ⊥) }
+{
+    if let Some(found) = ask_told(model, region, best, d, members, told, start) {
+        return Some(found);
+    }
+    ask_pairs(model, region, best, d, members, keys, start)
+}
+
 /// What is found of a constraint.
 fn ask_constraint(
     model: &Model,
     region: &Region,
     best: Option<i64>,
     c: u32,
+    told: Option<Told>,
     keys: &mut [Keys],
     start: &mut usize,
 ) -> Option<Finding<SeqWitness>>
@@ -161,10 +190,23 @@ fn ask_constraint(
                 matrix: *matrix,
                 direct: *direct,
             };
-            ask_pairs(model, region, best, &d, few_members(model, *p), keys, start)
+            ask_told_first(
+                model,
+                region,
+                best,
+                &d,
+                few_members(model, *p),
+                told,
+                keys,
+                start,
+            )
         }
         _ => None,
     }
+}
+
+fn told_at(waiting: &[Waiting], c: usize, from: usize) -> Option<Told> {
+    waiting.get(c)?.told(from)
 }
 
 impl PropUnary {
@@ -178,6 +220,7 @@ impl PropUnary {
         let members = members_of_each(alloc, model, n)?;
         let sequences = sequence_of_each(alloc, model, n)?;
         let moves = Moves::new(alloc, &members)?;
+        let turns = Moves::new(alloc, &members)?;
         Ok(PropUnary {
             constraints,
             members,
@@ -187,6 +230,7 @@ impl PropUnary {
             starts: vec![in alloc; 0; n as usize]?,
             waiting: waiting_of_each(alloc, model)?,
             moves,
+            turns,
         })
     }
 
@@ -215,7 +259,8 @@ impl PropUnary {
     {
         if k < self.constraints {
             let start = &mut self.starts[k as usize];
-            return ask_constraint(model, region, best, k, &mut self.keys, start);
+            let told = told_at(&self.waiting, k as usize, *start);
+            return ask_constraint(model, region, best, k, told, &mut self.keys, start);
         }
         let p = Seq(k - self.constraints);
         ask_circles(
@@ -245,17 +290,27 @@ impl PropUnary {
                 },
             ) => {
                 let moved = self.moves.take(k as usize);
-                self.waiting[k as usize].can_wait(region, *p, members_of(model, *p), moved)
+                let turned = self.turns.take(k as usize);
+                let members = members_of(model, *p);
+                self.waiting[k as usize].can_wait(region, *p, members, moved, turned)
             }
             _ => false,
         }
     }
 
-    /// Notes that a cell of an interval, or its order with another, isn't as it was.
+    /// Notes that a cell of an interval isn't as it was.
     pub fn note_move(&mut self, x: Itv)
         ensures kept { (m : Data) → IsFor self.old m → IsFor self.new m }
     {
         self.moves.note(x);
+    }
+
+    /// Notes that the order of two intervals isn't as it was.
+    pub fn note_turn(&mut self, x: Itv, y: Itv)
+        ensures kept { (m : Data) → IsFor self.old m → IsFor self.new m }
+    {
+        self.turns.note(x);
+        self.turns.note(y);
     }
 
     /// Cells may have changed that nothing was told of.
@@ -263,6 +318,7 @@ impl PropUnary {
         ensures kept { (m : Data) → IsFor self.old m → IsFor self.new m }
     {
         self.moves.forget();
+        self.turns.forget();
     }
 
     /// The intervals whose presence it watches.

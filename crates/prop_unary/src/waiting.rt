@@ -113,12 +113,9 @@ fn do_clash(c: Window, d: Window) -> bool {
     c.present_ect > d.present_lst && d.present_ect > c.present_lst
 }
 
-/// The place of the first bit of a set of places below a number.
-fn first_place(word: u64, n: usize) -> usize
-    requires { 0 < n }
-    ensures { result < n }
-{
-    (word.trailing_zeros() as usize).min(n - 1)
+/// The set of one place.
+fn only(k: usize) -> u64 {
+    1u64 << (k % 64)
 }
 
 /// The set without its first place.
@@ -126,14 +123,103 @@ fn without_first(word: u64) -> u64 {
     word & word.wrapping_sub(1)
 }
 
+/// Of each member a set of places, where two stand in one another's or in neither's.
+#[derive(Debug, Drop)]
+struct Table {
+    rows: Vec<u64>,
+    /// Whose rows are other than they were.
+    touched: u64,
+    /// Whose rows aren't empty.
+    filled: u64,
+}
+
+impl Table {
+    fn new(alloc: Global, room: usize) -> Result<Table, NoMemory> {
+        Ok(Table {
+            rows: vec![in alloc; 0; room]?,
+            touched: 0,
+            filled: 0,
+        })
+    }
+
+    fn row(&self, at: usize) -> u64 {
+        if at < self.rows.len() {
+            self.rows[at]
+        } else {
+            0
+        }
+    }
+
+    /// Empties the rows of some, and takes them out of the others.
+    fn clear(&mut self, places: u64) {
+        for k in 0..self.rows.len() {
+            self.rows[k] = if places & only(k) != 0 {
+                0
+            } else {
+                self.rows[k] & !places
+            };
+        }
+    }
+
+    /// Puts two into one another's rows.
+    fn join(&mut self, at: usize, k: usize) {
+        put_into(&mut self.rows, at, k);
+        put_into(&mut self.rows, k, at);
+    }
+
+    /// Turns two in one another's rows.
+    fn turn(&mut self, at: usize, row: u64) {
+        if at >= self.rows.len() {
+            return;
+        }
+        self.rows[at] = row;
+        self.touched |= only(at);
+        if row == 0 {
+            self.filled &= !only(at);
+        } else {
+            self.filled |= only(at);
+        }
+    }
+
+    /// Puts the row of a member, and what it says of others into theirs.
+    fn put(&mut self, at: usize, row: u64) {
+        let mut changed = row ^ self.row(at);
+        if changed == 0 {
+            return;
+        }
+        for _ in 0..changed.count_ones() {
+            let k = changed.trailing_zeros() as usize;
+            self.turn(k, self.row(k) ^ only(at));
+            changed = without_first(changed);
+        }
+        self.turn(at, row);
+    }
+}
+
 /// The members of a sequence as they were read last, and for each, as a set of places, those with whom it
-/// fits in neither order as they are, and those further behind whose order with it is open. Two are
-/// compared, and their order is read, but where one of them may have moved.
+/// fits in neither order as they are, and of these those with whom it can't be, those with whom its order
+/// is open, and those that it is told to stand before. Two are compared where one of them may have moved,
+/// and their order is read where it may be another.
 #[derive(Debug, Drop)]
 pub struct Waiting {
     noted: Vec<Noted>,
-    tight: Vec<u64>,
-    unknown: Vec<u64>,
+    tight: Table,
+    clashing: Table,
+    unknown: Table,
+    /// Those before whom it is told to stand, and those that are told to stand before it.
+    before: Vec<u64>,
+    behind: Vec<u64>,
+    /// Who is told to stand before some with whom it fits in neither order.
+    telling: u64,
+    /// With whom orders are to be read.
+    due: u64,
+}
+
+/// The places of two of whom the first is told to stand before the second.
+#[derive(Clone, Copy, Debug)]
+pub struct Told {
+    pub first: usize,
+    pub second: usize,
 }
 
 /// The most members that a sequence has of which something is said.
@@ -145,45 +231,166 @@ impl Waiting {
         let room = if members > MANY { 0 } else { members };
         Ok(Waiting {
             noted: vec![in alloc; Noted::ABSENT; room]?,
-            tight: vec![in alloc; 0; room]?,
-            unknown: vec![in alloc; 0; room]?,
+            tight: Table::new(alloc, room)?,
+            clashing: Table::new(alloc, room)?,
+            unknown: Table::new(alloc, room)?,
+            before: vec![in alloc; 0; room]?,
+            behind: vec![in alloc; 0; room]?,
+            telling: 0,
+            due: 0,
         })
     }
 
     /// Whether all that PAIR finds now of a sequence without overlap and without distances, whose members
-    /// these are, can wait; only those at some places, and their orders, can be other than they were read
-    /// last. Of a long sequence nothing is said to.
-    pub fn can_wait(&mut self, region: &Region, p: Seq, members: &[Itv], moved: u64) -> bool {
+    /// these are, can wait; only those at some places, and the orders of those at others, can be other
+    /// than they were read last. Of a long sequence nothing is said to.
+    pub fn can_wait(
+        &mut self,
+        region: &Region,
+        p: Seq,
+        members: &[Itv],
+        moved: u64,
+        turned: u64,
+    ) -> bool {
         let n = members.len();
         if n == 0 {
             return true;
         }
-        if n > MANY || n > self.noted.len() || n > self.tight.len() || n > self.unknown.len() {
+        if n > MANY || n > self.noted.len() {
             return false;
         }
         let look = region.look(None, None);
-        forget_orders(&mut self.unknown, moved);
+        if turned != 0 {
+            self.unknown.clear(turned);
+            self.due = u64::MAX;
+        }
         let moved = note_members(&look, members, moved, &mut self.noted);
-        compare_moved(moved, n, &self.noted, &mut self.tight);
-        can_all_wait(
-            &look,
-            p,
-            members,
-            &self.noted,
-            &self.tight,
-            &mut self.unknown,
-        )
+        compare_moved(moved, n, &self.noted, &mut self.tight, &mut self.clashing);
+        self.read_orders(&look, p, members);
+        self.clashing.filled == 0 && self.telling == 0
+    }
+
+    /// Two of whom something is found, where it was told so when it was asked last: the first of those
+    /// from a place on, and then up to it, that is told to stand before some.
+    pub fn told(&self, from: usize) -> Option<Told> {
+        let from = if from < MANY {
+            u64::MAX << (from % 64)
+        } else {
+            0
+        };
+        let rows = if self.telling & from != 0 {
+            self.telling & from
+        } else {
+            self.telling
+        };
+        let first = rows.trailing_zeros() as usize;
+        let second = self.before.get(first)?.trailing_zeros() as usize;
+        Some(Told { first, second })
+    }
+
+    /// Reads the orders of those that fit in neither as they are and whose order isn't known to be open,
+    /// where one of the two is due. Where two fit in one order alone, it is mostly the one that is told,
+    /// so the orders of no others are read.
+    fn read_orders(&mut self, look: &Look<'_>, p: Seq, members: &[Itv]) {
+        let mut due = self.due | self.tight.touched;
+        self.due = 0;
+        self.tight.touched = 0;
+        if due == 0 {
+            return;
+        }
+        for _ in 0..members.len() {
+            let k = due.trailing_zeros() as usize;
+            // None is left.
+            if k >= members.len() {
+                break;
+            }
+            if set_at(&self.before, k) | set_at(&self.behind, k) != 0 {
+                self.forget_told(k);
+            }
+            self.read_row(look, p, k, members);
+            due = without_first(due);
+        }
+    }
+
+    /// Forgets whom a member is told to stand before, and who it.
+    fn forget_told(&mut self, at: usize) {
+        take_out(&mut self.behind, set_at(&self.before, at), at);
+        take_out(&mut self.before, set_at(&self.behind, at), at);
+        self.telling &= !(set_at(&self.behind, at) | only(at));
+        self.telling |= filled_of(&self.before, set_at(&self.behind, at));
+        empty(&mut self.before, at);
+        empty(&mut self.behind, at);
+    }
+
+    /// Notes that the first of two is told to stand before the second.
+    fn tell(&mut self, first: usize, second: usize) {
+        put_into(&mut self.before, first, second);
+        put_into(&mut self.behind, second, first);
+        self.telling |= only(first);
+    }
+
+    /// Reads the orders of one member.
+    fn read_row(&mut self, look: &Look<'_>, p: Seq, at: usize, members: &[Itv])
+        requires { at < length members.now }
+    {
+        let mut others = self.tight.row(at) & !self.unknown.row(at);
+        for _ in 0..members.len() {
+            let k = others.trailing_zeros() as usize;
+            // None is left.
+            if k >= members.len() {
+                return;
+            }
+            match look.order(p, members[at], members[k]) {
+                OrderCell::Unknown => self.unknown.join(at, k),
+                OrderCell::Forward => self.tell(at, k),
+                OrderCell::Backward => self.tell(k, at),
+            }
+            others = without_first(others);
+        }
     }
 }
 
-/// No order is known to be open of those at some places.
-fn forget_orders(unknown: &mut [u64], places: u64)
-    ensures { length unknown.new ≡ length unknown.old }
-{
-    for k in 0..unknown.len() {
-        let is_one = k < MANY && places & (1 << k) != 0;
-        unknown[k] = if is_one { 0 } else { unknown[k] & !places };
+/// Puts a member into the set of another.
+fn put_into(sets: &mut [u64], at: usize, k: usize) {
+    if at < sets.len() {
+        sets[at] |= only(k);
     }
+}
+
+fn set_at(sets: &[u64], at: usize) -> u64 {
+    if at < sets.len() { sets[at] } else { 0 }
+}
+
+fn empty(sets: &mut [u64], at: usize) {
+    if at < sets.len() {
+        sets[at] = 0;
+    }
+}
+
+/// Takes a member out of the sets of some.
+fn take_out(sets: &mut [u64], places: u64, at: usize) {
+    let mut places = places;
+    for _ in 0..places.count_ones() {
+        let k = places.trailing_zeros() as usize;
+        if k < sets.len() {
+            sets[k] &= !only(at);
+        }
+        places = without_first(places);
+    }
+}
+
+/// Which of some have a set that isn't empty.
+fn filled_of(sets: &[u64], places: u64) -> u64 {
+    let mut filled = 0;
+    let mut places = places;
+    for _ in 0..places.count_ones() {
+        let k = places.trailing_zeros() as usize;
+        if set_at(sets, k) != 0 {
+            filled |= only(k);
+        }
+        places = without_first(places);
+    }
+    filled
 }
 
 /// Reads a member. Whether something else is known of it than before.
@@ -224,113 +431,47 @@ fn note_members(look: &Look<'_>, members: &[Itv], places: u64, noted: &mut [Note
     moved
 }
 
-/// With whom the member at a place fits in neither order as they are.
-fn row_of(at: usize, n: usize, noted: &[Noted]) -> u64
+/// With whom a member fits in neither order as they are, and with whom of them it can't be.
+#[derive(Clone, Copy, Debug)]
+struct Rows {
+    tight: u64,
+    clashing: u64,
+}
+
+/// Those of the member at a place.
+fn rows_of(at: usize, n: usize, noted: &[Noted]) -> Rows
     requires here { at < n }
     requires room { n ≤ length noted.now }
     requires few { n ≤ 64 }
 {
     let window = noted[at].window;
-    let mut row = 0;
+    let mut rows = Rows {
+        tight: 0,
+        clashing: 0,
+    };
     for k in 0..n {
-        if k != at && are_tight(window, noted[k].window) {
-            row |= 1 << k;
+        let other = noted[k].window;
+        if k != at && are_tight(window, other) {
+            rows.tight |= 1 << k;
+            rows.clashing |= u64::from(do_clash(window, other)) << k;
         }
     }
-    row
-}
-
-/// Compares the member at a place with each. Where something else is found than before, it is noted of
-/// the other too.
-fn compare_with_all(at: usize, n: usize, noted: &[Noted], tight: &mut [u64])
-    requires here { at < n }
-    requires room { n ≤ length noted.now }
-    requires rows { n ≤ length tight.old }
-    requires few { n ≤ 64 }
-    ensures { length tight.new ≡ length tight.old }
-{
-    let row = row_of(at, n, noted);
-    let mut changed = row ^ tight[at];
-    for _ in 0..changed.count_ones() {
-        let k = first_place(changed, n);
-        tight[k] ^= 1 << at;
-        changed = without_first(changed);
-    }
-    tight[at] = row;
+    rows
 }
 
 /// Compares those at these places with each.
-fn compare_moved(moved: u64, n: usize, noted: &[Noted], tight: &mut [u64])
-    requires some { 0 < n }
+fn compare_moved(moved: u64, n: usize, noted: &[Noted], tight: &mut Table, clashing: &mut Table)
     requires room { n ≤ length noted.now }
-    requires rows { n ≤ length tight.old }
     requires few { n ≤ 64 }
-    ensures { length tight.new ≡ length tight.old }
 {
     let mut moved = moved;
     for _ in 0..moved.count_ones() {
-        compare_with_all(first_place(moved, n), n, noted, tight);
+        let at = moved.trailing_zeros() as usize;
+        if at < n {
+            let rows = rows_of(at, n, noted);
+            tight.put(at, rows.tight);
+            clashing.put(at, rows.clashing);
+        }
         moved = without_first(moved);
     }
-}
-
-/// Two that fit as they are in neither order. Where they do in one, it is mostly the one that is told. So
-/// the order of no others is read.
-fn can_two_wait(look: &Look<'_>, p: Seq, a: Itv, b: Itv, c: Window, d: Window) -> bool {
-    !do_clash(c, d) && look.order(p, a, b) == OrderCell::Unknown
-}
-
-/// What is found of the member at a place and those at these. Those are put whose order with it is open.
-fn can_row_wait(
-    look: &Look<'_>,
-    p: Seq,
-    at: usize,
-    members: &[Itv],
-    noted: &[Noted],
-    others: u64,
-    unknown: &mut u64,
-) -> bool
-    requires here { at < length members.now }
-    requires room { length members.now ≤ length noted.now }
-    requires few { length members.now ≤ 64 }
-{
-    let (a, c) = (members[at], noted[at].window);
-    let mut others = others;
-    for _ in 0..members.len() {
-        let k = others.trailing_zeros() as usize;
-        // None is left.
-        if k >= members.len() {
-            return true;
-        }
-        if !can_two_wait(look, p, a, members[k], c, noted[k].window) {
-            return false;
-        }
-        *unknown |= 1 << k;
-        others = without_first(others);
-    }
-    true
-}
-
-fn can_all_wait(
-    look: &Look<'_>,
-    p: Seq,
-    members: &[Itv],
-    noted: &[Noted],
-    tight: &[u64],
-    unknown: &mut [u64],
-) -> bool
-    requires room { length members.now ≤ length noted.now }
-    requires rows { length members.now ≤ length tight.now }
-    requires orders { length members.now ≤ length unknown.old }
-    requires few { length members.now ≤ 64 }
-    ensures { length unknown.new ≡ length unknown.old }
-{
-    for k in 0..members.len() {
-        // Each two once, and of those whose order is open it is known that they can wait.
-        let behind = tight[k] & (u64::MAX << k) & !unknown[k];
-        if behind != 0 && !can_row_wait(look, p, k, members, noted, behind, &mut unknown[k]) {
-            return false;
-        }
-    }
-    true
 }
