@@ -17,7 +17,7 @@ use Rattle.prop_sets.specs.declared.known.Numbers.{Numbers}
 use Rattle.prop_sets.specs.declared.orders.Keyed.{Keyed}
 use Rattle.prop_sets.specs.declared.orders.By.{By}
 use Rattle.prop_sets.specs.declared.orders.By.TheVariants as by
-use Rattle.prop_sets.specs.code.Rows.{seen, member_at, times_from, AreMoments}
+use Rattle.prop_sets.specs.code.Rows.{seen, member_at, times_from}
 use Rattle.prop_sets.specs.code.Known.{numbers_at, AreNumbers}
 use Rattle.prop_sets.specs.code.Known as known
 use Rattle.std.specs.List.Sorted.{IsPermutation}

@@ -6,11 +6,12 @@ ghost use Rattle.refute_seq.specs.declared.witness.SeqWitness.TheVariants as wit
 ghost use Rattle.refute_seq.specs.OnSequence.{refutes};
 ghost use Rattle.prop_sets.specs.code.Tasks.{looks_after, quiet};
 ghost use Rattle.prop_sets.specs.code.Rows.{member_at, side_of};
-ghost use Rattle.prop_sets.specs.code.Busy.{IsBusy, IsNext, IsNextOf, name_at, ids_of};
+ghost use Rattle.prop_sets.specs.code.Busy.{IsBusy, IsNext, IsNextOf, name_at, ids_of, likely_pushed};
 
 use crate::passes::{Behind, Cut};
-use crate::reaches::Reaching;
-use findings::{Finding, ask, ask_by};
+use crate::probe::Hint;
+use crate::times::has;
+use findings::{Finding, Likely, Reaching, ask, ask_end, ask_reaching};
 use refute_seq::{Few, OnSequence, SeqWitness};
 use region::Region;
 use sched_base::{Itv, NoMemory};
@@ -46,6 +47,7 @@ fn answer_reaching(
     c: u32,
     i: Itv,
     far: u64,
+    likely: Likely,
     w: SeqWitness,
 ) -> Option<Finding<SeqWitness>>
     requires of { IsRegionOf model.now region.now.region }
@@ -54,14 +56,7 @@ fn answer_reaching(
     ensures some { IfSome result (IsFinding refutes model.now region.now.region best) }
     ensures busy { (later : Bool) → looks_after later model.now c w ≡ true → IfSome result (λ f. quiet later model.now c region.now.region best → ⊥) }
 {
-    let test = Reaching {
-        model,
-        region,
-        best,
-        witness: &w,
-        far,
-    };
-    let guess = ask_by(&test, region, &[i], &[])?;
+    let guess = ask_reaching::<OnSequence>(model, region, best, &w, &[i], &[], likely, far)?;
     Some(Finding { guess, witness: w })
 }
 
@@ -173,7 +168,84 @@ pub fn answer_detect(
         i: i.0,
         s,
     };
-    Ok(answer_reaching(model, region, best, c, i, far, w))
+    Ok(answer_reaching(model, region, best, c, i, far, likely_pushed(back, i), w))
+}
+
+/// The ids of the members that a hint names, in rising order.
+fn hinted_ids(
+    alloc: Global,
+    members: &[Itv],
+    set: u64,
+    ids: &mut Vec<u32>,
+) -> Result<Few, NoMemory> {
+    ids.clear();
+    for k in 0..members.len() {
+        if has(set, k) {
+            ids.push(members[k].0)?;
+        }
+    }
+    ids.as_mut_slice().sort_unstable();
+    let mut few = Few::new(alloc);
+    for k in 0..ids.len() {
+        few.push(ids[k])?;
+    }
+    Ok(few)
+}
+
+/// What DETECT finds of a member behind some others, asked about the one guess that it mostly refutes.
+#[tactic(auto, using(crate::proofs::Answered::never_told))]
+fn answer_behind(
+    model: &Model,
+    region: &Region,
+    best: Option<i64>,
+    c: u32,
+    back: bool,
+    i: Itv,
+    s: Few,
+    far: u64,
+) -> Option<Finding<SeqWitness>>
+    requires of { IsRegionOf model.now region.now.region }
+    ensures some { IfSome result (IsFinding refutes model.now region.now.region best) }
+    ensures busy { IfSome result (λ f. quiet false model.now c region.now.region best → ⊥) }
+{
+    let w = SeqWitness::Detect {
+        c,
+        side: side_of(back),
+        i: i.0,
+        s,
+    };
+    let test = Reaching::<OnSequence> {
+        model,
+        region,
+        best,
+        witness: &w,
+        far,
+    };
+    let guess = ask_end(&test, region, likely_pushed(back, i))?;
+    Some(Finding { guess, witness: w })
+}
+
+/// What DETECT finds of the member that a hint names, behind those that it names.
+pub fn answer_hinted(
+    alloc: Global,
+    model: &Model,
+    region: &Region,
+    best: Option<i64>,
+    c: u32,
+    members: &[Itv],
+    hint: Hint,
+    ids: &mut Vec<u32>,
+) -> Result<Option<Finding<SeqWitness>>, NoMemory>
+    requires of { IsRegionOf model.now region.now.region }
+    ensures some { IfOk result (λ o. IfSome o (IsFinding refutes model.now region.now.region best)) }
+    ensures busy { IfOk result (λ o. IfSome o (λ f. quiet false model.now c region.now.region best → ⊥)) }
+{
+    if hint.place >= members.len() {
+        return Ok(None);
+    }
+    let s = hinted_ids(alloc, members, hint.set, ids)?;
+    let i = members[hint.place];
+    Ok(answer_behind(model, region, best, c, hint.back, i, s, hint.far))
 }
 
 /// What a set gives that a member can't come behind all of.
@@ -202,7 +274,7 @@ pub fn answer_not_end(
         i: i.0,
         s,
     };
-    Ok(answer_reaching(model, region, best, c, i, far, w))
+    Ok(answer_reaching(model, region, best, c, i, far, likely_pushed(!back, i), w))
 }
 
 /// What a set gives that a member must come behind all of, by its parts.
@@ -235,7 +307,7 @@ pub fn answer_edge(
         u,
         v,
     };
-    Ok(answer_reaching(model, region, best, c, i, far, w))
+    Ok(answer_reaching(model, region, best, c, i, far, likely_pushed(back, i), w))
 }
 
 /// The side of a row.
@@ -243,4 +315,15 @@ fn side_of(back: bool) -> u32
     ensures { result ≡ side_of back }
 {
     if back { 1 } else { 0 }
+}
+
+/// The guess that a member is pushed later, or sooner.
+fn likely_pushed(back: bool, i: Itv) -> Likely
+    ensures { result ≡ likely_pushed back i }
+{
+    if back {
+        Likely::EndsSooner(i)
+    } else {
+        Likely::StartsLater(i)
+    }
 }

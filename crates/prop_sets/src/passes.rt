@@ -15,7 +15,7 @@ use theta_passes::edge::edge_pass;
 use theta_passes::late::late_pass;
 use theta_passes::leaves::{start_edge, start_late, start_over, tree_of};
 use theta_passes::over::over_pass;
-use theta_passes::scan::{edge_scan, is_late_one, late_scan};
+use theta_passes::scan::{edge_scan, late_scan};
 use theta_passes::witnesses::{EdgeSets, edge_sets, late_set, over_scan, overload_set};
 use theta_passes::{Presence, Row};
 
@@ -183,20 +183,23 @@ fn cut_by_tree(alloc: Global, rows: &[Row], order: &[u32]) -> Result<Option<u32>
     Ok(edge_pass(&mut tree, rows, order))
 }
 
-fn cut_member(alloc: Global, rows: &[Row], order: &[u32]) -> Result<Option<u32>, NoMemory>
+/// The same, by a scan where there are few members.
+#[tactic(auto, using(crate::proofs::Shown::is_cut_order))]
+fn cut_member(alloc: Global, rows: &[Row]) -> Result<Option<u32>, NoMemory>
     requires few { length rows.now ≤ 500 }
     requires near { (k : ℕ) → IsNearRow (row_at rows.now k) }
     requires sized { IsSized (times_at rows.now) }
     requires sorted { IsByEst rows.now }
     requires spanned { AreSpanned rows.now }
     requires overloads { NoOverloads rows.now }
-    requires order { IsOrder rows.now order.now }
     ensures { IfOk result (PassOrNone rows.now) }
 {
     if rows.len() <= FEW {
-        return Ok(edge_scan(rows, order));
+        return Ok(edge_scan(rows));
     }
-    cut_by_tree(alloc, rows, order)
+    let (mut keyed, mut order) = (Vec::new(alloc), Vec::new(alloc));
+    order_by(&mut keyed, &mut order, rows, By::FallingPresent)?;
+    cut_by_tree(alloc, rows, &order)
 }
 
 /// A member that some cut finds, or none finds any.
@@ -216,10 +219,10 @@ pub fn find_edge(
     ensures some { IfOk result (λ o. IfSome o (λ c. IsEdgeFound rows.now c.place c.s.items c.u.items c.v.items)) }
     ensures none { IfOk result (λ o. IfNone o (PassOrNone rows.now None)) }
 {
-    order_by(keyed, order, rows, By::FallingPresent)?;
-    let Some(i) = cut_member(alloc, rows, order)? else {
+    let Some(i) = cut_member(alloc, rows)? else {
         return Ok(None);
     };
+    order_by(keyed, order, rows, By::FallingPresent)?;
     let found = shown_edge(alloc, rows, order, i)?;
     Ok(Some(found))
 }
@@ -269,22 +272,6 @@ fn late_member(alloc: Global, rows: &[Row]) -> Result<Option<u32>, NoMemory>
         return Ok(late_scan(rows));
     }
     late_by_tree(alloc, rows)
-}
-
-/// Whether one member is late behind a set, which is shown then.
-#[tactic(auto, using(crate::proofs::Shown::late_within))]
-pub fn find_late_at(alloc: Global, rows: &[Row], i: u32) -> Result<Option<Behind>, NoMemory>
-    requires few { length rows.now ≤ 500 }
-    requires near { (k : ℕ) → IsNearRow (row_at rows.now k) }
-    requires sorted { IsByEst rows.now }
-    requires within { i < length rows.now }
-    ensures { IfOk result (λ o. IfSome o (λ b. IsLateFound rows.now b.place b.set.items)) }
-{
-    if !is_late_one(rows, i) {
-        return Ok(None);
-    }
-    let found = shown_late(alloc, rows, i)?;
-    Ok(Some(found))
 }
 
 /// A member that is late behind a set, or none is.

@@ -3,17 +3,20 @@ ghost use Rattle.std.specs.Prelude.{◌≡◌, ◌<◌, ◌≤◌, length, true}
 
 use crate::known::{Numbers, numbers_of};
 use crate::numbers::bounds_at;
+use crate::reaches::moments_above;
 use crate::times::{SideTimes, only};
 use region::{Look, Region};
 use sched_base::{Itv, NoMemory};
 use std::alloc::Global;
 use theta_passes::Presence;
 
-/// Who is late, and on which side.
+/// Who is late, on which side, behind whom, and how far it is pushed.
 #[derive(Clone, Copy, Debug)]
 pub struct Hint {
     pub back: bool,
     pub place: usize,
+    pub set: u64,
+    pub far: u64,
 }
 
 /// What a sequence was told to be.
@@ -42,7 +45,6 @@ struct Needs {
 #[derive(Debug, Drop)]
 pub struct Probe {
     numbers: Vec<Numbers>,
-    sizes: Vec<i64>,
     present: u64,
     absent: u64,
     needs: Needs,
@@ -168,6 +170,22 @@ impl Needs {
     }
 }
 
+/// The hint of one who is late on a side behind a set.
+fn hint_of(back: bool, place: usize, on: &SideTimes, set: u64) -> Hint {
+    let part = on.latest_part(set);
+    let start = match on.at_place(place) {
+        None => part.end,
+        // Under the guess that it starts as early as it may, it starts no later than this.
+        Some(one) => one.start.min(one.finish.wrapping_sub(one.size)),
+    };
+    Hint {
+        back,
+        place,
+        set: part.set,
+        far: moments_above(part.end, start),
+    }
+}
+
 /// The set of a place, where another isn't empty.
 fn if_any(set: u64, k: usize) -> u64 {
     if set == 0 { 0 } else { only(k) }
@@ -179,7 +197,6 @@ impl Probe {
         let room = if members > MANY { 0 } else { members };
         Ok(Probe {
             numbers: vec![in alloc; ABSENT; room]?,
-            sizes: vec![in alloc; 0; room]?,
             present: 0,
             absent: u64::MAX,
             needs: Needs::new(alloc, room)?,
@@ -200,17 +217,16 @@ impl Probe {
         if now.presence != old.presence || now.p != old.p {
             self.present = with(self.present, k, now.presence == Presence::Present);
             self.absent = with(self.absent, k, now.presence == Presence::Absent);
-            if k < self.sizes.len() {
-                self.sizes[k] = now.p;
-            }
             self.first.ask_all();
             self.second.ask_all();
         }
         let before = self.needs.note_end(k, now.ect);
         let behind = self.needs.note_start(k, now.lst);
-        self.first.note(k, now.est, self.needs.behind_of(k));
+        let (start, finish) = (now.lct.wrapping_neg(), now.est.wrapping_neg());
+        self.first
+            .note(k, now.est, now.lct, now.p, self.needs.behind_of(k));
         self.second
-            .note(k, now.lct.wrapping_neg(), self.needs.before_of(k));
+            .note(k, start, finish, now.p, self.needs.before_of(k));
         self.first.due |= behind | if_any(before, k);
         self.second.due |= before | if_any(behind, k);
     }
@@ -240,23 +256,19 @@ impl Probe {
         if self.present | self.absent != u64::MAX {
             return Told::Busy;
         }
-        let (present, sizes) = (self.present, self.sizes.as_slice());
-        if self.first.overloads(&self.second, present, sizes)
-            || self.second.overloads(&self.first, present, sizes)
+        let present = self.present;
+        if self.first.overloads(&self.second, present)
+            || self.second.overloads(&self.first, present)
         {
             return Told::Busy;
         }
-        if let Some(at) = self.first.first_late(&self.needs.before, present, sizes) {
-            return Told::Late(Hint {
-                back: false,
-                place: at,
-            });
+        if let Some(at) = self.first.first_late(&self.needs.before, present) {
+            let set = self.needs.before_of(at) & present;
+            return Told::Late(hint_of(false, at, &self.first, set));
         }
-        if let Some(at) = self.second.first_late(&self.needs.behind, present, sizes) {
-            return Told::Late(Hint {
-                back: true,
-                place: at,
-            });
+        if let Some(at) = self.second.first_late(&self.needs.behind, present) {
+            let set = self.needs.behind_of(at) & present;
+            return Told::Late(hint_of(true, at, &self.second, set));
         }
         Told::Still
     }

@@ -1,8 +1,5 @@
 //! How far a guess on a member can likely be moved and stay refuted. No promise hangs on this: it only
 //! tells where to look first.
-use refute_seq::{OnSequence, SeqWitness};
-use region::{Guess, GuessTest, Region, RowTest};
-use sched_model::Model;
 use theta_passes::Row;
 
 /// The earliest completion of the members at these places, which rise.
@@ -29,7 +26,7 @@ fn last_start(rows: &[Row], set: &[u32]) -> i64 {
 }
 
 /// By how many moments less than it is above the other a number can fall and stay above it.
-fn moments_above(high: i64, low: i64) -> u64 {
+pub fn moments_above(high: i64, low: i64) -> u64 {
     u64::try_from(high.saturating_sub(low).saturating_sub(1)).unwrap_or(0)
 }
 
@@ -48,39 +45,4 @@ pub fn end_reach(rows: &[Row], set: &[u32], place: u32) -> u64 {
         return 0;
     }
     moments_above(rows[place as usize].reach, last_start(rows, set))
-}
-
-/// The test by the row of a witness, with the reach that the sets tell.
-#[derive(Drop)]
-pub struct Reaching<'a> {
-    pub model: &'a Model,
-    pub region: &'a Region,
-    pub best: Option<i64>,
-    pub witness: &'a SeqWitness,
-    pub far: u64,
-}
-
-impl<'a> GuessTest for Reaching<'a> {
-    ghost use Rattle.region.specs.Looks.{IsRegionOf, seen_at};
-    ghost use Rattle.refute_seq.specs.OnSequence.{refutes};
-
-    ghost region = { λ t. t.region.now.region };
-
-    ghost is_ready = { λ t. IsRegionOf t.model.now t.region.now.region };
-
-    ghost refuting = { λ t guess. refutes t.model.now (seen_at t.region.now.region t.best guess) t.witness.now };
-
-    fn refutes(&self, guess: Option<Guess>) -> bool {
-        let test = RowTest::<OnSequence> {
-            model: self.model,
-            region: self.region,
-            best: self.best,
-            witness: self.witness,
-        };
-        test.refutes(guess)
-    }
-
-    fn reach(&self, _: Guess) -> Option<u64> {
-        Some(self.far)
-    }
 }

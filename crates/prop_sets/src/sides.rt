@@ -18,7 +18,7 @@ use crate::answering::{answer_detect, answer_edge, answer_not_end, answer_overlo
 use crate::known::Numbers;
 use crate::numbers::rows_of;
 use crate::orders::Keyed;
-use crate::passes::{Behind, find_edge, find_late, find_late_at, find_overload};
+use crate::passes::{Behind, find_edge, find_late, find_overload};
 use crate::reaches::{end_reach, start_reach};
 use findings::Finding;
 use refute_seq::SeqWitness;
@@ -266,67 +266,6 @@ fn detect_of(
         return answer_late(alloc, model, region, best, back, asked, rows, &found);
     }
     Ok(None)
-}
-
-/// The row of the member whose numbers stand at a place.
-fn row_of_place(places: &[Keyed], place: usize) -> usize {
-    for k in 0..places.len() {
-        if places[k].place as usize == place {
-            return k;
-        }
-    }
-    places.len()
-}
-
-/// DETECT of one member alone, whose numbers stand at a place.
-fn detect_one_of(
-    alloc: Global,
-    model: &Model,
-    region: &Region,
-    best: Option<i64>,
-    back: bool,
-    asked: &Asked<'_>,
-    rows: &[Row],
-    place: usize,
-) -> Result<Option<Finding<SeqWitness>>, NoMemory>
-    requires is { IsOf model.now asked.now.c asked.now.p region.now.region asked.now.members.now }
-    requires rowed { IsRowed model.now asked.now.c asked.now.p region.now.region asked.now.members.now back false (not back) rows.now }
-    requires few { length rows.now ≤ 500 }
-    requires near { (k : ℕ) → IsNearRow (row_at rows.now k) }
-    requires sorted { IsByEst rows.now }
-    ensures some { IfOk result (λ o. IfSome o (IsFinding refutes model.now region.now.region best)) }
-    ensures busy { IfOk result (λ o. IfSome o (λ f. quiet false model.now asked.now.c region.now.region best → ⊥)) }
-{
-    let i = row_of_place(asked.places, place);
-    if i >= rows.len() {
-        return Ok(None);
-    }
-    if let Some(found) = find_late_at(alloc, rows, i as u32)? {
-        return answer_late(alloc, model, region, best, back, asked, rows, &found);
-    }
-    Ok(None)
-}
-
-/// The same, where the members stand in the order of their earliest starts on that side.
-pub fn ask_detect(
-    alloc: Global,
-    model: &Model,
-    region: &Region,
-    best: Option<i64>,
-    back: bool,
-    asked: &Asked<'_>,
-    place: usize,
-    spare: &mut Spare,
-) -> Result<Option<Finding<SeqWitness>>, NoMemory>
-    requires is { IsOf model.now asked.now.c asked.now.p region.now.region asked.now.members.now }
-    requires numbers { ArePlacedNumbers region.now.region asked.now.members.now asked.now.places.now asked.now.numbers.now }
-    requires few { length asked.now.members.now ≤ 500 }
-    requires sorted { IsByStart (side_of back) region.now.region asked.now.members.now }
-    ensures some { IfOk result (λ o. IfSome o (IsFinding refutes model.now region.now.region best)) }
-    ensures busy { IfOk result (λ o. IfSome o (λ f. quiet false model.now asked.now.c region.now.region best → ⊥)) }
-{
-    rows_for(&mut spare.rows, model, region, asked, back, false, !back)?;
-    detect_one_of(alloc, model, region, best, back, asked, &spare.rows, place)
 }
 
 /// OVERLOAD and then DETECT on the first side, by the same rows: what OVERLOAD reads is the same under

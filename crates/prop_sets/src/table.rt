@@ -13,10 +13,11 @@ ghost use Rattle.prop_sets.specs.code.Tasks.{size_of, sequence_in, sequence_at, 
 ghost use Rattle.prop_sets.specs.code.Tables.{IsFor};
 ghost use Rattle.prop_sets.specs.code.Known.{IsStill, AreUnknown, AreNumbers};
 
+use crate::answering::answer_hinted;
 use crate::known::{Numbers, is_remembered, numbers_in, remember};
 use crate::orders::{Ordered, by_start};
 use crate::probe::{Hint, Probe, Told};
-use crate::sides::{Asked, Spare, ask_detect, ask_rest, ask_side};
+use crate::sides::{Asked, Spare, ask_rest, ask_side};
 use findings::{Finding, Moves};
 use refute_seq::{SeqWitness, members_of};
 use region::Region;
@@ -131,43 +132,8 @@ fn probes_of(alloc: Global, members: &[List<Itv>]) -> Result<Vec<Probe>, NoMemor
     Ok(probes)
 }
 
-/// What DETECT finds of one member of a sequence.
-fn ask_hinted(
-    alloc: Global,
-    model: &Model,
-    region: &Region,
-    best: Option<i64>,
-    c: u32,
-    p: Seq,
-    numbers: &[Numbers],
-    xs: &mut Ordered,
-    spare: &mut Spare,
-    hint: Hint,
-) -> Result<Option<Finding<SeqWitness>>, NoMemory>
-    requires of { IsRegionOf model.now region.now.region }
-    requires within { c < length model.now.constraints }
-    requires sequence { sequence_at model.now c ≡ Some p }
-    requires are { AreNumbers region.now.region (members_of model.now p) (length (members_of model.now p)) numbers.now }
-    ensures some { IfOk result (λ o. IfSome o (IsFinding refutes model.now region.now.region best)) }
-    ensures busy { IfOk result (λ o. IfSome o (λ f. quiet false model.now c region.now.region best → ⊥)) }
-{
-    let members = few_members(model, p);
-    by_start(xs, region, members, numbers, hint.back)?;
-    let asked = Asked {
-        c,
-        p,
-        members: &xs.members,
-        places: &xs.places,
-        numbers,
-    };
-    let place = hint.place;
-    if let Some(found) = ask_detect(alloc, model, region, best, hint.back, &asked, place, spare)? {
-        return Ok(Some(found));
-    }
-    Ok(None)
-}
-
-/// The same in the first round; the later one doesn't ask for it.
+/// What the first round finds of whom it is told that DETECT finds something; the later one doesn't ask
+/// for it.
 fn ask_told(
     alloc: Global,
     model: &Model,
@@ -175,16 +141,11 @@ fn ask_told(
     best: Option<i64>,
     later: bool,
     c: u32,
-    p: Seq,
-    numbers: &[Numbers],
-    xs: &mut Ordered,
-    spare: &mut Spare,
+    members: &[Itv],
     hint: Option<Hint>,
+    ids: &mut Vec<u32>,
 ) -> Result<Option<Finding<SeqWitness>>, NoMemory>
     requires of { IsRegionOf model.now region.now.region }
-    requires within { c < length model.now.constraints }
-    requires sequence { sequence_at model.now c ≡ Some p }
-    requires are { AreNumbers region.now.region (members_of model.now p) (length (members_of model.now p)) numbers.now }
     ensures some { IfOk result (λ o. IfSome o (IsFinding refutes model.now region.now.region best)) }
     ensures busy { IfOk result (λ o. IfSome o (λ f. quiet later model.now c region.now.region best → ⊥)) }
 {
@@ -194,7 +155,7 @@ fn ask_told(
     let Some(hint) = hint else {
         return Ok(None);
     };
-    ask_hinted(alloc, model, region, best, c, p, numbers, xs, spare, hint)
+    answer_hinted(alloc, model, region, best, c, members, hint, ids)
 }
 
 /// What a round finds of the members of a sequence, whose numbers are given.
@@ -244,39 +205,6 @@ fn ask_members(
         return Ok(Some(found));
     }
     Ok(None)
-}
-
-/// The same; where it is told of whom DETECT finds something, that is asked first.
-fn ask_hint_first(
-    alloc: Global,
-    model: &Model,
-    region: &Region,
-    best: Option<i64>,
-    later: bool,
-    c: u32,
-    p: Seq,
-    numbers: &[Numbers],
-    xs: &mut Ordered,
-    ys: &mut Ordered,
-    spare: &mut Spare,
-    hint: Option<Hint>,
-) -> Result<Option<Finding<SeqWitness>>, NoMemory>
-    requires of { IsRegionOf model.now region.now.region }
-    requires within { c < length model.now.constraints }
-    requires sequence { sequence_at model.now c ≡ Some p }
-    requires are { AreNumbers region.now.region (members_of model.now p) (length (members_of model.now p)) numbers.now }
-    ensures none { IfOk result (λ o. IfNone o (IsStill later region.now.region (members_of model.now p))) }
-    ensures some { IfOk result (λ o. IfSome o (IsFinding refutes model.now region.now.region best)) }
-    ensures busy { IfOk result (λ o. IfSome o (λ f. quiet later model.now c region.now.region best → ⊥)) }
-{
-    if let Some(found) = ask_told(
-        alloc, model, region, best, later, c, p, numbers, xs, spare, hint,
-    )? {
-        return Ok(Some(found));
-    }
-    ask_members(
-        alloc, model, region, best, later, c, p, numbers, xs, ys, spare,
-    )
 }
 
 fn hint_at(hints: &[Option<Hint>], i: usize) -> Option<Hint> {
@@ -340,15 +268,21 @@ impl PropSets {
             return Ok(None);
         };
         let i = k as usize;
-        numbers_in(region, self.members[i].as_slice(), &mut self.numbers)?;
+        let members = self.members[i].as_slice();
+        let (alloc, later) = (self.alloc, self.later);
+        let hint = hint_at(&self.hints, i);
+        let ids = &mut self.spare.order;
+        if let Some(found) = ask_told(alloc, model, region, best, later, k, members, hint, ids)? {
+            return Ok(Some(found));
+        }
+        numbers_in(region, members, &mut self.numbers)?;
         if is_remembered(&self.known[i], &self.numbers) {
             return Ok(None);
         }
         let (xs, ys, spare) = (&mut self.first, &mut self.second, &mut self.spare);
-        let (alloc, later, numbers) = (self.alloc, self.later, &self.numbers);
-        let hint = hint_at(&self.hints, i);
-        let Some(found) = ask_hint_first(
-            alloc, model, region, best, later, k, p, numbers, xs, ys, spare, hint,
+        let numbers = &self.numbers;
+        let Some(found) = ask_members(
+            alloc, model, region, best, later, k, p, numbers, xs, ys, spare,
         )?
         else {
             remember(self.alloc, &mut self.known, i, &mut self.numbers);

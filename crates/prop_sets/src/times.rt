@@ -1,5 +1,5 @@
 //! The members of a sequence on one side, in numbers, and with whose tests are to be made again.
-ghost use Rattle.std.specs.Prelude.{◌≡◌, ◌<◌, ◌≤◌, length};
+ghost use Rattle.std.specs.Prelude.{◌≡◌, ◌<◌, length};
 
 use sched_base::NoMemory;
 use std::alloc::Global;
@@ -13,14 +13,29 @@ pub fn has(set: u64, k: usize) -> bool {
     set & only(k) != 0
 }
 
+/// A member on one side: its place, as a set too, its earliest start, its latest completion and its size.
+#[derive(Clone, Copy, Debug)]
+pub struct Times {
+    pub place: usize,
+    pub bit: u64,
+    pub start: i64,
+    pub finish: i64,
+    pub size: i64,
+}
+
+/// Some members, and the earliest completion of all of them.
+#[derive(Clone, Copy, Debug)]
+pub struct Part {
+    pub set: u64,
+    pub end: i64,
+}
+
 /// The members of a sequence on one side, where time goes on or is turned round. Sets of them are sets of
 /// their places, each a bit.
 #[derive(Debug, Drop)]
 pub struct SideTimes {
-    /// Each one's earliest start.
-    starts: Vec<i64>,
-    /// The places, the earliest start first.
-    order: Vec<usize>,
+    /// The earliest start first.
+    members: Vec<Times>,
     /// Who may be late since for those that must come before it.
     pub due: u64,
     /// With whose earliest start a set may begin that overloads since.
@@ -29,47 +44,41 @@ pub struct SideTimes {
 
 /// Whether a member stands before another in the order: of those with one earliest start, the first place
 /// comes first, as in the rows.
-fn comes_first(start: i64, k: usize, other_start: i64, other: usize) -> bool {
-    start < other_start || start == other_start && k < other
+fn comes_first(one: Times, other: Times) -> bool {
+    one.start < other.start || one.start == other.start && one.place < other.place
 }
 
 /// Moves a member back to its place in the order.
-fn sink(order: &mut [usize], starts: &[i64], at: usize)
-    requires { at < length starts.now }
-    ensures { length order.new ≡ length order.old }
+fn sink(members: &mut [Times], from: usize)
+    requires { from < length members.old }
+    ensures { length members.new ≡ length members.old }
 {
-    let start = starts[at];
-    for k in (1..order.len()).rev() {
-        if order[k] != at {
-            continue;
-        }
-        let next = order[k - 1];
-        if next >= starts.len() || comes_first(starts[next], next, start, at) {
+    for k in (1..=from).rev() {
+        let (before, one) = (members[k - 1], members[k]);
+        if comes_first(before, one) {
             return;
         }
-        order[k] = next;
-        order[k - 1] = at;
+        members[k - 1] = one;
+        members[k] = before;
     }
 }
 
 /// Moves a member on to its place in the order. Those behind which it comes now.
-fn rise(order: &mut [usize], starts: &[i64], at: usize) -> u64
-    requires { at < length starts.now }
-    ensures { length order.new ≡ length order.old }
+fn rise(members: &mut [Times], from: usize) -> u64
+    ensures { length members.new ≡ length members.old }
 {
-    let start = starts[at];
     let mut passed = 0;
-    for k in 1..order.len() {
-        if order[k - 1] != at {
+    for k in 1..members.len() {
+        if k <= from {
             continue;
         }
-        let next = order[k];
-        if next >= starts.len() || comes_first(start, at, starts[next], next) {
+        let (one, behind) = (members[k - 1], members[k]);
+        if comes_first(one, behind) {
             return passed;
         }
-        order[k - 1] = next;
-        order[k] = at;
-        passed |= only(next);
+        members[k - 1] = behind;
+        members[k] = one;
+        passed |= behind.bit;
     }
     passed
 }
@@ -77,13 +86,18 @@ fn rise(order: &mut [usize], starts: &[i64], at: usize) -> u64
 impl SideTimes {
     /// Room for as many members, at most 64.
     pub fn new(alloc: Global, room: usize) -> Result<SideTimes, NoMemory> {
-        let mut order = Vec::new(alloc);
-        for k in 0..room {
-            order.push(k)?;
+        let mut members = Vec::new(alloc);
+        for place in 0..room {
+            members.push(Times {
+                place,
+                bit: only(place),
+                start: 0,
+                finish: 0,
+                size: 0,
+            })?;
         }
         Ok(SideTimes {
-            starts: vec![in alloc; 0; room]?,
-            order,
+            members,
             due: 0,
             begins: 0,
         })
@@ -95,39 +109,58 @@ impl SideTimes {
         self.begins = u64::MAX;
     }
 
-    /// Notes the earliest start of a member, where those are given that it must come before.
-    pub fn note(&mut self, at: usize, start: i64, behind: u64) {
-        if at >= self.starts.len() {
+    /// The member at a place.
+    pub fn at_place(&self, place: usize) -> Option<Times> {
+        for one in &self.members {
+            if one.place == place {
+                return Some(*one);
+            }
+        }
+        None
+    }
+
+    /// Notes the numbers of the member at a place, where those are given that it must come before.
+    pub fn note(&mut self, place: usize, start: i64, finish: i64, size: i64, behind: u64) {
+        for k in 0..self.members.len() {
+            let old = self.members[k];
+            if old.place != place {
+                continue;
+            }
+            self.members[k] = Times {
+                start,
+                finish,
+                size,
+                ..old
+            };
+            if start < old.start {
+                sink(&mut self.members, k);
+                self.due |= old.bit;
+            }
+            if old.start < start {
+                let passed = rise(&mut self.members, k);
+                self.begins |= passed | old.bit;
+                self.due |= behind;
+            }
             return;
-        }
-        let old = std::mem::replace(&mut self.starts[at], start);
-        if start < old {
-            sink(&mut self.order, &self.starts, at);
-            self.due |= only(at);
-        }
-        if old < start {
-            let passed = rise(&mut self.order, &self.starts, at);
-            self.begins |= passed | only(at);
-            self.due |= behind;
         }
     }
 
-    /// Whether a set completes behind the earliest start of a member.
-    fn is_late(&self, at: usize, set: u64, sizes: &[i64]) -> bool
-        requires { at < length self.now.starts.items }
-    {
-        if set == 0 {
-            return false;
-        }
-        let start = self.starts[at];
+    /// Whether a set completes behind a moment.
+    fn is_late(&self, start: i64, set: u64) -> bool {
+        let mut left = set;
         let mut sum: i64 = 0;
-        for k in (0..self.order.len()).rev() {
-            let j = self.order[k];
-            if has(set, j) && j < self.starts.len() && j < sizes.len() {
-                sum = sum.wrapping_add(sizes[j]);
-                if self.starts[j].wrapping_add(sum) > start {
-                    return true;
-                }
+        for k in (0..self.members.len()).rev() {
+            let one = &self.members[k];
+            if left & one.bit == 0 {
+                continue;
+            }
+            sum = sum.wrapping_add(one.size);
+            if one.start.wrapping_add(sum) > start {
+                return true;
+            }
+            left &= !one.bit;
+            if left == 0 {
+                return false;
             }
         }
         false
@@ -135,65 +168,93 @@ impl SideTimes {
 
     /// The first that is present and late for those of the present ones that must come before it; nobody
     /// that was asked about before it is to be asked about again.
-    pub fn first_late(&mut self, before: &[u64], present: u64, sizes: &[i64]) -> Option<usize> {
-        if self.due & present == 0 {
-            self.due = 0;
-            return None;
-        }
-        for k in 0..self.order.len() {
-            let at = self.order[k];
-            if !has(self.due, at) || at >= self.starts.len() || at >= before.len() {
+    pub fn first_late(&mut self, before: &[u64], present: u64) -> Option<usize> {
+        let mut due = self.due;
+        let found = self.late_of(before, present, &mut due);
+        self.due = due;
+        found
+    }
+
+    fn late_of(&self, before: &[u64], present: u64, due: &mut u64) -> Option<usize> {
+        for one in &self.members {
+            if *due & present == 0 {
+                break;
+            }
+            if *due & one.bit == 0 || one.place >= before.len() {
                 continue;
             }
-            if has(present, at) && self.is_late(at, before[at] & present, sizes) {
-                return Some(at);
+            let set = before[one.place] & present;
+            if present & one.bit != 0 && set != 0 && self.is_late(one.start, set) {
+                return Some(one.place);
             }
-            self.due &= !only(at);
+            *due &= !one.bit;
         }
+        *due = 0;
         None
     }
 
-    /// Whether a set of those present that begins with the earliest start of a member overloads.
-    fn overloads_from(&self, other: &SideTimes, at: usize, present: u64, sizes: &[i64]) -> bool
-        requires { at < length self.now.starts.items }
-    {
-        let start = self.starts[at];
+    /// Of a set the part that completes latest: those that start no earlier than one of it.
+    pub fn latest_part(&self, set: u64) -> Part {
+        let mut part = Part {
+            set: 0,
+            end: i64::MIN,
+        };
+        let mut seen = 0;
         let mut sum: i64 = 0;
-        for k in (0..other.order.len()).rev() {
-            let j = other.order[k];
-            if has(present, j)
-                && j < self.starts.len()
-                && j < other.starts.len()
-                && j < sizes.len()
-            {
-                if self.starts[j] < start {
-                    continue;
-                }
-                sum = sum.wrapping_add(sizes[j]);
-                // The other side's earliest start is the latest completion, turned round.
-                if start.wrapping_add(sum).wrapping_add(other.starts[j]) > 0 {
-                    return true;
-                }
+        for k in (0..self.members.len()).rev() {
+            let one = &self.members[k];
+            if set & one.bit == 0 {
+                continue;
+            }
+            seen |= one.bit;
+            sum = sum.wrapping_add(one.size);
+            let end = one.start.wrapping_add(sum);
+            if end > part.end {
+                part = Part { set: seen, end };
+            }
+        }
+        part
+    }
+
+    /// Whether a set of those present that begins at a moment on the other side overloads.
+    fn overloads_from(&self, begin: i64, present: u64) -> bool {
+        let mut end = begin;
+        for k in (0..self.members.len()).rev() {
+            let one = &self.members[k];
+            // On this side time is turned round.
+            if present & one.bit == 0 || one.finish.wrapping_neg() < begin {
+                continue;
+            }
+            end = end.wrapping_add(one.size);
+            if end.wrapping_add(one.start) > 0 {
+                return true;
             }
         }
         false
     }
 
     /// Whether a set of those present overloads.
-    pub fn overloads(&mut self, other: &SideTimes, present: u64, sizes: &[i64]) -> bool {
-        let mut begins = self.begins & present;
-        for _ in 0..self.starts.len() {
-            let at = begins.trailing_zeros() as usize;
-            // None is left.
-            if at >= self.starts.len() {
+    pub fn overloads(&mut self, other: &SideTimes, present: u64) -> bool {
+        let mut begins = self.begins;
+        let found = self.overload_of(other, present, &mut begins);
+        self.begins = begins;
+        found
+    }
+
+    fn overload_of(&self, other: &SideTimes, present: u64, begins: &mut u64) -> bool {
+        for one in &self.members {
+            if *begins & present == 0 {
                 break;
             }
-            if self.overloads_from(other, at, present, sizes) {
+            if *begins & present & one.bit == 0 {
+                continue;
+            }
+            if other.overloads_from(one.start, present) {
                 return true;
             }
-            begins &= begins.wrapping_sub(1);
+            *begins &= !one.bit;
         }
-        self.begins = 0;
+        *begins = 0;
         false
     }
 }

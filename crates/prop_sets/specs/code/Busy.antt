@@ -1,11 +1,13 @@
 -- A witness that refutes where it is asked, without a guess or under one on a member.
-use Rattle.std.specs.Prelude.{◌≡◌, ℕ, ◌<◌, ◌≤◌, ℤ, true, false, List, [], ◌∷◌, map, take, Option}
+use Rattle.std.specs.Prelude.{◌≡◌, ℕ, ◌<◌, ◌≤◌, ℤ, Bool, true, false, List, [], ◌∷◌, map, take, Option}
 use Rattle.sched_base.specs.declared.ids.Itv.{Itv}
 use Rattle.sched_model.specs.Data.{Data}
 use Rattle.region.specs.declared.types.Guess.{Guess}
 use Rattle.region.specs.Cells.{Region}
 use Rattle.region.specs.Guesses.{topic}
 use Rattle.region.specs.Looks.{seen_at}
+use Rattle.findings.specs.declared.likely.Likely.{Likely}
+use Rattle.findings.specs.declared.likely.Likely.TheVariants.{StartsLater, EndsSooner}
 use Rattle.findings.specs.Ends.{is_asked}
 use Rattle.findings.specs.code.Reads.{is_among}
 use Rattle.task_sets.specs.Times.{has, edge_row, overload_row}
@@ -57,3 +59,8 @@ pub record IsOverFound (rows : List Row) (k : ℕ) (set : List ℕ) : Type 0 whe
 pub record IsEdgeFound (rows : List Row) (k : ℕ) (s u v : List ℕ) : Type 0 where
   pub candidate : is_candidate rows k ≡ true
   pub row : edge_row (times_at rows) (with_candidate rows k) k s u v ≡ true
+
+-- that the member is pushed later, or sooner
+abbrev pub likely_pushed : Bool → Itv → Likely
+likely_pushed true i = EndsSooner i
+likely_pushed false i = StartsLater i

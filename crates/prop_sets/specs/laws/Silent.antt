@@ -35,7 +35,7 @@ use Rattle.refute_seq.specs.Listed.{lists, asks_member}
 use Rattle.refute_seq.specs.OnSequence.{refutes}
 use Rattle.prop_sets.specs.code.Tasks.{quiet, IsSilent, looks_after, sequence_at}
 use Rattle.prop_sets.specs.code.Rows.{asks_early, asks_late, chosen_row, AreRows}
-use Rattle.prop_sets.specs.code.Sides.{NoFull, NoEdge, NoDetect, NoNotEnd, IsSideQuiet}
+use Rattle.prop_sets.specs.code.Sides.{NoEdge, NoDetect, NoNotEnd, IsSideQuiet}
 use Rattle.prop_sets.specs.laws.Under.{IsSeen, narrow, seen_plain, seen_topic, seen_asked, starts_told, ends_told}
 use Rattle.prop_sets.specs.code.Reordered.{IsReordered}
 use Rattle.theta_passes.specs.declared.rows.Row.{Row}

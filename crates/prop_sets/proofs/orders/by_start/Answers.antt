@@ -1,4 +1,4 @@
-use Rattle.std.proofs.Common.{List, ℕ, ◌<◌, arith, subst, length, sym}
+use Rattle.std.proofs.Common.{List, ℕ, ◌<◌, subst, length, sym}
 use Rattle.prop_sets.specs.declared.orders.Keyed.{Keyed}
 use Rattle.prop_sets.specs.code.Rows.{side_of}
 use Rattle.prop_sets.specs.code.Orders.{AreNamed, keyed_at}

@@ -22,29 +22,29 @@ returns-then-is_remembered-clause-none c =
     let as_many = known.size in
     let sequence : sequence_at m k ≡ Some c.in-Some.p = search rules in
     let ms = slice_index_or c.self.inside.members.items k [] in
-    let read : c.as_slice.result.now ≡ c.index.result.now = search rules in
-    let at : c.as_slice.result.now ≡ ms = read ∙ c.index.ensures ∙ get_or_default c.self.inside.members.items k c.index.result.now [] within in
+    let read : c.as_slice-members.result.now ≡ c.index.result.now = search rules in
+    let at : c.as_slice-members.result.now ≡ ms = read ∙ c.index.ensures ∙ get_or_default c.self.inside.members.items k c.index.result.now [] within in
     let members : ms ≡ members_of m c.in-Some.p = ap (λ t. slice_index_or t.members k []) c.self.view_is ∙ c.requires.of.members.each k below ∙ ap (members_in m) sequence in
-    let same : slice_index_or c.self.inside.known.items k None ≡ Some c.deref.result.now
+    let same : slice_index_or c.self.inside.known.items k None ≡ Some c.deref-2.result.now
     = sym (c.index-2.ensures ∙ get_or_default c.self.inside.known.items k c.index-2.result.now None (omega (arith, within, as_many))) ∙ c.is_remembered.ensures c.if-is_remembered.true in
-    let numbers = subst (λ (ns : List Numbers). AreNumbers c.args.region.now.region c.as_slice.result.now (length c.as_slice.result.now) ns) (sym c.deref.ensures.value) c.in_ok-numbers_in.ensures in
+    let numbers = subst (λ (ns : List Numbers). AreNumbers c.args.region.now.region c.as_slice-members.result.now (length c.as_slice-members.result.now) ns) (sym c.deref-2.ensures.value) c.in_ok-numbers_in.ensures in
     let later = c.self.inside.later in
     subst (λ t. quiet t m k c.args.region.now.region c.args.best) (ap (λ t. t.later) c.self.view_is)
     (still_quiet later m k c.in-Some.p c.args.region.now.region c.args.best ms c.sequences.ensures.valid c.requires.region sequence members
-    (still_again later c.args.region.now.region ms c.deref.result.now (known_at later c.self.inside.members.items c.self.inside.known.items k c.deref.result.now within same known)
-    (subst (λ (zs : List Itv). AreNumbers c.args.region.now.region zs (length zs) c.deref.result.now) at numbers)))
+    (still_again later c.args.region.now.region ms c.deref-2.result.now (known_at later c.self.inside.members.items c.self.inside.known.items k c.deref-2.result.now within same known)
+    (subst (λ (zs : List Itv). AreNumbers c.args.region.now.region zs (length zs) c.deref-2.result.now) at numbers)))
 
-pub returns-in_default-2-clause-none : goal.returns-in_default-2-clause-none
-returns-in_default-2-clause-none c =
+pub returns-in_default-3-clause-none : goal.returns-in_default-3-clause-none
+returns-in_default-3-clause-none c =
     let m = c.args.model.now in
     let sequence : sequence_at m c.args.k ≡ Some c.in-Some.p = search rules in
     let later = c.self.inside.later in
     subst (λ t. quiet t m c.args.k c.args.region.now.region c.args.best) (ap (λ t. t.later) c.self.view_is)
     (still_quiet later m c.args.k c.in-Some.p c.args.region.now.region c.args.best (members_of m c.in-Some.p) c.sequences.ensures.valid c.requires.region sequence refl
-    (subst (λ o. IfNone o (IsStill later c.args.region.now.region (members_of m c.in-Some.p))) c.in_default-2.is c.in_ok-found.ensures.none))
+    (subst (λ o. IfNone o (IsStill later c.args.region.now.region (members_of m c.in-Some.p))) c.in_default-3.is c.in_ok-found-2.ensures.none))
 
-pub invariant_of-self-in_default-2 : goal.invariant_of-self-in_default-2
-invariant_of-self-in_default-2 c =
+pub invariant_of-self-in_default-3 : goal.invariant_of-self-in_default-3
+invariant_of-self-in_default-3 c =
     let m = c.args.model.now in
     let k = c.args.k in
     let r = c.args.region.now.region in
@@ -56,11 +56,11 @@ invariant_of-self-in_default-2 c =
     let within : k < length all_members = omega (arith, size, all, below) in
     let sequence : sequence_at m k ≡ Some c.in-Some.p = search rules in
     let ms = slice_index_or all_members k [] in
-    let read : c.as_slice.result.now ≡ c.index.result.now = search rules in
-    let at : c.as_slice.result.now ≡ ms = read ∙ c.index.ensures ∙ get_or_default all_members k c.index.result.now [] within in
+    let read : c.as_slice-members.result.now ≡ c.index.result.now = search rules in
+    let at : c.as_slice-members.result.now ≡ ms = read ∙ c.index.ensures ∙ get_or_default all_members k c.index.result.now [] within in
     let members : ms ≡ members_of m c.in-Some.p = ap (λ t. slice_index_or t.members k []) c.self.view_is ∙ c.requires.of.members.each k below ∙ ap (members_in m) sequence in
     let ns = c.numbers_in.new.list.items in
-    let still = subst (λ o. IfNone o (IsStill later r (members_of m c.in-Some.p))) c.in_default-2.is c.in_ok-found.ensures.none in (
+    let still = subst (λ o. IfNone o (IsStill later r (members_of m c.in-Some.p))) c.in_default-3.is c.in_ok-found-2.ensures.none in (
       c.self.invariant.0,
       subst (λ (ks : List (Option (List Numbers))). AreKnown later all_members ks) (sym c.remember.ensures)
           (known_set later all_members c.self.inside.known.items k ns within (record {
