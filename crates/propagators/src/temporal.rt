@@ -49,9 +49,13 @@ impl Propagator for FromTemporal {
         self.0.can_wait(k, model, region)
     }
 
-    fn note_change(&mut self, _: CellName) {}
+    fn note_change(&mut self, cell: CellName) {
+        self.0.note_change(cell);
+    }
 
-    fn forget_changes(&mut self) {}
+    fn forget_changes(&mut self) {
+        self.0.forget_changes();
+    }
 
     #[tactic(auto, using(crate::proofs::Watching::presence_equal))]
     fn watched_presences(&self, k: u32) -> &[Itv] {

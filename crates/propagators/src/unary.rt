@@ -53,8 +53,7 @@ impl Propagator for FromUnary {
 
     fn note_change(&mut self, cell: CellName) {
         if let CellName::Order(_, x, y) = cell {
-            self.0.note_move(x);
-            self.0.note_move(y);
+            self.0.note_turn(x, y);
         }
         if let Some(x) = interval_of(cell) {
             self.0.note_move(x);
