@@ -140,23 +140,6 @@ pub fn ask_by<T: GuessTest>(
     ask_first(test, region, intervals, pairs, None)
 }
 
-/// The same, asked about the likely guess before the others.
-pub fn ask_by_likely<T: GuessTest>(
-    test: &T,
-    region: &Region,
-    intervals: &[Itv],
-    pairs: &[Pair],
-    likely: Likely,
-) -> Option<Option<Guess>>
-    requires ready { T.is_ready test.now }
-    requires of { T.region test.now ≡ region.now.region }
-    ensures none { IfNone result (AreUnrefuted (T.refuting test.now) region.now.region intervals.now pairs.now) }
-    ensures some { IfSome result (IsFound (T.refuting test.now) region.now.region) }
-    ensures busy { IfSome result (λ guess. AreUnrefuted (T.refuting test.now) region.now.region intervals.now pairs.now → ⊥) }
-{
-    ask_first(test, region, intervals, pairs, Some(likely))
-}
-
 /// What a witness gives: nothing, or that it refutes the region as it stands, or the tight guess on
 /// one of these intervals, or on the order of one of these pairs, under which it refutes the region.
 /// It costs up to six tests an interval and two a pair, and those of the halving.

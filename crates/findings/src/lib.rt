@@ -11,7 +11,7 @@ mod moves;
 mod reaching;
 mod searching;
 
-pub use asking::{ask, ask_by, ask_by_likely, ask_end, ask_likely, ask_reaching};
+pub use asking::{ask, ask_by, ask_end, ask_likely, ask_reaching};
 pub use ends::{Ends, ends_at, ends_in};
 pub use finding::{Finding, Pair};
 pub use likely::Likely;
