@@ -1,51 +1,45 @@
 ghost use Rattle.std.specs.Prelude.{◌≡◌, ◌<◌, ◌∷◌, [], slice_get, IfOk, IfNone, IfSome, IsTrue, ◌↔◌};
 ghost use Rattle.iqueue.specs.code.Queue.{AreDistinctBelow, is_in, without, woken};
 
-use crate::node::{Ends, Node, append, first_number, out, unlink};
+use crate::linked::LinkedQueue;
 use sched_base::NoMemory;
 use std::alloc::Global;
 use std::marker::Model;
 
-/// A queue of distinct numbers below a bound. The numbers are linked in place: one node of one block
-/// stands for each, and holds its two neighbours. So every call takes constant time, but for `clear`,
-/// which takes the queue's length.
+/// A queue of distinct numbers below a bound. A byte for each number says whether it is in it, so that a
+/// call that changes nothing reads no node: the bytes of many numbers lie where the node of one does.
+/// Every call takes constant time, but for `clear`, which takes the queue's length.
 #[derive(Drop)]
 pub struct WakeQueue {
-    nodes: Vec<Node>,
-    ends: Ends,
-    /// The number of the first node, where there is one.
-    front: u32,
+    queue: LinkedQueue,
+    marks: Vec<bool>,
 }
 
 impl Model for WakeQueue {
-    ghost use Rattle.std.specs.Prelude.{◌≡◌, length, slice_get};
-    ghost use Rattle.std.specs.Vec.{vec_ptr};
     ghost use Rattle.iqueue.specs.code.Queue.{Queue};
-    ghost use Rattle.iqueue.specs.code.Links.{IsLinked, front_of, numbers};
+    ghost use Rattle.iqueue.specs.code.Marks.{AreMarks};
 
     ghost Value = { Queue };
 
-    ghost view = { λ q. record { below = length q.nodes.items; list = numbers (vec_ptr q.nodes) q.nodes.items q.ends.first } };
+    ghost view = { λ q. q.queue };
 
-    ghost invariant = { λ q. IsLinked (vec_ptr q.nodes) q.nodes.items q.ends.first q.ends.last (numbers (vec_ptr q.nodes) q.nodes.items q.ends.first) × (front_of q.ends.first q.front ≡ slice_get (numbers (vec_ptr q.nodes) q.nodes.items q.ends.first) 0) };
+    ghost invariant = { λ q. AreMarks q.queue q.marks.items };
 }
 
 impl WakeQueue {
     /// An empty queue for the numbers below `n`.
+    #[tactic(auto, using(crate::proofs::Marking::none_are))]
     pub fn new(alloc: Global, n: u32) -> Result<WakeQueue, NoMemory>
         ensures { IfOk result (λ q. q ≡ record { below = n; list = [] }) }
     {
         Ok(WakeQueue {
-            nodes: vec![in alloc; out(); n as usize]?,
-            ends: Ends {
-                first: None,
-                last: None,
-            },
-            front: 0,
+            queue: LinkedQueue::new(alloc, n)?,
+            marks: vec![in alloc; false; n as usize]?,
         })
     }
 
     /// Puts a number last where it isn't in the queue.
+    #[tactic(auto, using(crate::proofs::Marking::woken_marked, crate::proofs::Marking::still_woken))]
     pub fn wake(&mut self, k: u32)
         requires { k < self.old.below }
         ensures { self.new ≡ record self.old { list = woken k self.old.list } }
@@ -53,21 +47,23 @@ impl WakeQueue {
         if self.has(k) {
             return;
         }
-        if self.ends.first.is_none() {
-            self.front = k;
-        }
-        self.ends = append(&mut self.nodes, self.ends, k);
+        self.queue.wake(k);
+        self.marks[k as usize] = true;
     }
 
     /// Takes a number out of the queue, wherever it stands there. The others stay in their order.
+    #[tactic(auto, using(crate::proofs::Marking::unwoken_marked, crate::proofs::Marking::still_without))]
     pub fn unwake(&mut self, k: u32)
         requires { k < self.old.below }
         ensures { self.new ≡ record self.old { list = without k self.old.list } }
     {
-        if self.has(k) {
-            self.ends = unlink(&mut self.nodes, self.ends, k);
-            self.front = first_number(&mut self.nodes, self.ends);
+        if !self.has(k) {
+            return;
         }
+        // Called for its clause alone.
+        let _ = self.queue.first();
+        self.queue.unwake(k);
+        self.marks[k as usize] = false;
     }
 
     /// Removes the first number.
@@ -86,8 +82,7 @@ impl WakeQueue {
         ensures first { result ≡ slice_get self.now.list 0 }
         ensures distinct { AreDistinctBelow self.now.below self.now.list }
     {
-        let _ = self.ends.first?;
-        Some(self.front)
+        self.queue.first()
     }
 
     /// Whether a number is in the queue.
@@ -95,7 +90,7 @@ impl WakeQueue {
         requires { k < self.now.below }
         ensures { result ≡ is_in k self.now.list }
     {
-        self.nodes[k as usize].is_linked
+        self.marks[k as usize]
     }
 
     /// Whether no number is in the queue.
@@ -103,7 +98,7 @@ impl WakeQueue {
         ensures empty { IsTrue result ↔ (self.now.list ≡ []) }
         ensures distinct { AreDistinctBelow self.now.below self.now.list }
     {
-        self.ends.first.is_none()
+        self.queue.first().is_none()
     }
 
     /// Removes every number.
