@@ -1,5 +1,6 @@
-ghost use Rattle.std.specs.Prelude.{◌≡◌, ℕ, ◌<◌, ◌≤◌, ◌+◌, ◌-◌, ◌||◌, ◌&&◌, not, nat_eq, int_lt, length, IfOk, ℤ, pos, ◌+ℤ◌, ◌≤ℤ◌, neg_ℤ, ◌^◌};
+ghost use Rattle.std.specs.Prelude.{◌≡◌, ℕ, ◌<◌, ◌≤◌, ◌+◌, ◌-◌, ◌||◌, ◌&&◌, not, nat_eq, int_lt, cond, length, IfOk, ℤ, pos, ◌+ℤ◌, ◌≤ℤ◌, neg_ℤ, ◌^◌};
 ghost use Rattle.task_sets.specs.laws.Ects.{keep, up_from};
+ghost use Rattle.task_sets.specs.laws.Sums.{pick};
 ghost use Rattle.theta_passes.specs.code.Rows.{row_at, is_present, says_present, IsNearRow};
 ghost use Rattle.theta_passes.specs.code.Parts.{members_with, part_has, cut_has, GivesTop, IsScanned, better_top, scan_with};
 
@@ -51,38 +52,26 @@ fn is_member(row: Row, with: Option<u32>, k: usize) -> bool
 {
     match with {
         None => is_present(row),
-        Some(one) => is_one(one, k) || is_present(row),
+        Some(one) => is_one(one, k) | is_present(row),
     }
 }
 
 fn is_in_cut(row: Row, end: i64) -> bool
     ensures { result ≡ cut_has (says_present row.presence) row end }
 {
-    if !is_present(row) {
-        return false;
-    }
-    row.lct <= end
+    is_present(row) & (row.lct <= end)
 }
 
 fn is_before(row: Row, i: u32, key: i64, k: usize) -> bool
     ensures { result ≡ (says_present row.presence && not (nat_eq k i) && int_lt row.lst key) }
 {
-    if !is_present(row) {
-        return false;
-    }
-    if is_one(i, k) {
-        return false;
-    }
-    row.lst < key
+    is_present(row) & !is_one(i, k) & (row.lst < key)
 }
 
 fn is_with(row: Row, with: Option<u32>, end: i64, k: usize) -> bool
     ensures { result ≡ cut_has (members_with (says_present row.presence) with k) row end }
 {
-    if !is_member(row, with, k) {
-        return false;
-    }
-    row.lct <= end
+    is_member(row, with, k) & (row.lct <= end)
 }
 
 fn has(rows: &[Row], part: Part, k: usize) -> bool
@@ -92,7 +81,7 @@ fn has(rows: &[Row], part: Part, k: usize) -> bool
     let row = rows[k];
     match part {
         Part::Cut(with, end) => is_with(row, with, end, k),
-        Part::CutAnd(end, one) => is_one(one, k) || is_in_cut(row, end),
+        Part::CutAnd(end, one) => is_one(one, k) | is_in_cut(row, end),
         Part::Before(i, key) => is_before(row, i, key, k),
     }
 }
@@ -114,18 +103,36 @@ fn plus(a: i64, b: i64) -> i64
     a + b
 }
 
-/// The scan with one more member.
-fn added(scan: Scan, row: Row, k: usize) -> Scan
+/// A number, where it is taken, and else none of it.
+fn taken(is_taken: bool, n: i64) -> i64
+    requires { pos 0 ≤ℤ n }
+    ensures value { result ≡ pick is_taken n }
+    ensures low { pos 0 ≤ℤ result }
+    ensures high { result ≤ℤ n }
+{
+    if is_taken { n } else { 0 }
+}
+
+fn top_with(is_taken: bool, top: Option<Top>, place: usize, value: i64) -> Option<Top>
+    ensures { result ≡ cond is_taken (better_top top place value) top }
+{
+    let better = better_top(top, place, value);
+    if is_taken { better } else { top }
+}
+
+/// The scan with one more member, if it is one of the part. Who is follows no pattern, so it takes no branch.
+#[tactic(auto, using(crate::proofs::scans::Tops::one_added))]
+fn added(scan: Scan, row: Row, k: usize, is_in: bool) -> Scan
     requires near { IsNearRow row }
     requires from { pos 0 ≤ℤ scan.sum }
     requires to { scan.sum ≤ℤ pos 1000000000000 }
-    ensures { result ≡ scan_with scan row k }
+    ensures { result ≡ cond is_in (scan_with scan row k) scan }
 {
-    let sum = plus(scan.sum, row.p);
+    let sum = plus(scan.sum, taken(is_in, row.p));
     let value = plus(row.est, sum);
     Scan {
         sum,
-        top: better_top(scan.top, k, value),
+        top: top_with(is_in, scan.top, k, value),
     }
 }
 
@@ -136,10 +143,8 @@ fn scan_at(rows: &[Row], part: Part, k: usize, scan: Scan) -> Scan
     requires before { IsScanned rows.now (part_has rows.now part) (k + 1) scan }
     ensures { IsScanned rows.now (part_has rows.now part) k result }
 {
-    if has(rows, part, k) {
-        return added(scan, rows[k], k);
-    }
-    scan
+    let is_in = has(rows, part, k);
+    added(scan, rows[k], k, is_in)
 }
 
 /// Where the set of a part begins that has the latest of the earliest completions; with it go all of

@@ -143,7 +143,7 @@ fn is_pushed(row: Row, level: i64, pushing: Option<Top>) -> bool
     let Some(top) = pushing else {
         return false;
     };
-    level < row.lct && row.lst < top.value
+    (level < row.lct) & (row.lst < top.value)
 }
 
 fn later(a: i64, b: i64) -> i64

@@ -26,7 +26,7 @@ next_load : (rows : List Row) (t : ℕ → Bool) (k : ℕ) (b : Bool) → k < le
     → load (λ y. (row_at rows y).p) t (up_from k (length rows - k)) ≡ pick b (row_at rows k).p +ℤ load (λ y. (row_at rows y).p) t (up_from (k + 1) (length rows - (k + 1)))
 next_load rows t k b within is = load_step (λ y. (row_at rows y).p) t k (length rows) within ∙ ap (λ c. pick c (row_at rows k).p +ℤ load (λ y. (row_at rows y).p) t (up_from (k + 1) (length rows - (k + 1)))) is
 
-pub scan_passed : (rows : List Row) (t : ℕ → Bool) (k : ℕ) (s : Scan) → k < length rows → t k ≡ false → IsScanned rows t (k + 1) s → IsScanned rows t k s
+scan_passed : (rows : List Row) (t : ℕ → Bool) (k : ℕ) (s : Scan) → k < length rows → t k ≡ false → IsScanned rows t (k + 1) s → IsScanned rows t k s
 scan_passed rows t k s within off scanned =
     let step = next_load rows t k false within off in
     let sum = scanned.sum in
@@ -79,8 +79,20 @@ scan_added rows t k s sum value near within on new is scanned = record {
         chosen true less = record { on = top.on; within = top.within; value = top.value; most = λ y from below one. here b.value (le_holds value b.value less) y from below one top.most }
         chosen false more = record { on = on; within = within; value = mine; most = λ y from below one. here value itself y from below one (λ z after under other. let h = top.most z after under other in let up : b.value ≤ℤ value = grind (arith, ints) in omega (arith, ints, h, up)) }
 
-pub scan_more : (rows : List Row) (t : ℕ → Bool) (k : ℕ) (s r : Scan) → ((j : ℕ) → IsNearRow (row_at rows j)) → k < length rows → t k ≡ true → r ≡ scan_with s (row_at rows k) k → IsScanned rows t (k + 1) s → IsScanned rows t k r
+scan_more : (rows : List Row) (t : ℕ → Bool) (k : ℕ) (s r : Scan) → ((j : ℕ) → IsNearRow (row_at rows j)) → k < length rows → t k ≡ true → r ≡ scan_with s (row_at rows k) k → IsScanned rows t (k + 1) s → IsScanned rows t k r
 scan_more rows t k s r near within on is scanned = subst (IsScanned rows t k) (sym is) (scan_added rows t k s (s.sum +ℤ (row_at rows k).p) ((row_at rows k).est +ℤ (s.sum +ℤ (row_at rows k).p)) (near k) within on refl refl scanned)
 
 pub sum_small : (rows : List Row) (t : ℕ → Bool) (k : ℕ) (s : Scan) → length rows ≤ 500 → IsScanned rows t k s → s.sum ≤ℤ pos 1000000000000
 sum_small rows t k s few scanned = let h = scanned.high in let most : length rows - k ≤ 500 = omega (arith, few) in omega (arith, ints, h, most)
+
+abbrev pub scan_of : Option Top → ℤ → Scan
+scan_of top sum = record { sum = sum; top = top }
+
+-- the scan with a member, if it is taken
+pub one_added : (b : Bool) (s : Scan) (row : Row) (k : ℕ) (n sum value : ℤ) (top : Option Top) → n ≡ pick b row.p → sum ≡ s.sum +ℤ n → value ≡ row.est +ℤ sum → top ≡ cond b (better_top s.top k value) s.top → scan_of top sum ≡ cond b (scan_with s row k) s
+one_added true s row k n sum value top one two three four = rw (four, three, two, one) refl
+one_added false s row k n sum value top one two three four = let same : sum ≡ s.sum = (let h = two in let z : n ≡ pos 0 = one in omega (arith, ints, h, z)) in rw (four, same) refl
+
+pub scan_taken : (rows : List Row) (t : ℕ → Bool) (k : ℕ) (b : Bool) (s r : Scan) → ((j : ℕ) → IsNearRow (row_at rows j)) → k < length rows → b ≡ t k → r ≡ cond b (scan_with s (row_at rows k) k) s → IsScanned rows t (k + 1) s → IsScanned rows t k r
+scan_taken rows t k true s r near within on is scanned = scan_more rows t k s r near within (sym on) is scanned
+scan_taken rows t k false s r near within off is scanned = subst (IsScanned rows t k) (sym is) (scan_passed rows t k s within (sym off) scanned)
