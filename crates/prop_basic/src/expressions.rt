@@ -15,6 +15,7 @@ use sched_base::at;
 use sched_model::{Constraint, Model};
 
 /// What EXPR of a constraint finds; nothing where the constraint is no expression.
+#[inline(never)]
 pub fn ask_constraint(
     tree: &mut Option<Scan>,
     model: &Model,
@@ -41,6 +42,7 @@ pub fn ask_constraint(
 }
 
 /// What OBJ finds; nothing where there is no best value or no objective.
+#[inline(never)]
 pub fn ask_objective(
     tree: &mut Option<Scan>,
     model: &Model,

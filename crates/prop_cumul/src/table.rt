@@ -71,6 +71,7 @@ impl PropCumul {
     /// What one of them finds; nothing exactly where it is quiet, at whatever moment. It sorts the
     /// moments at which the parts change once a side, and for each guess steps through the profile
     /// between the changes of the parts of its interval.
+    #[inline(never)]
     pub fn next(
         &mut self,
         k: u32,

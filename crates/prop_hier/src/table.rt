@@ -58,6 +58,7 @@ impl PropHier {
     }
 
     /// What one of them finds; nothing exactly where it is quiet.
+    #[inline(never)]
     pub fn next(
         &mut self,
         k: u32,

@@ -205,6 +205,7 @@ impl PropState {
     }
 
     /// What one of them finds; nothing exactly where it is quiet.
+    #[inline(never)]
     pub fn next(
         &mut self,
         k: u32,

@@ -297,6 +297,7 @@ impl Walks {
     }
 
     /// What CYCLE finds; nothing exactly where it is quiet.
+    #[inline(never)]
     pub fn next(
         &mut self,
         model: &Model,
