@@ -4,7 +4,7 @@ ghost use Rattle.std.specs.Prelude.{◌≡◌, ◌<◌, ◌≤◌, length, true}
 use crate::known::{Numbers, numbers_of};
 use crate::numbers::bounds_at;
 use crate::reaches::moments_above;
-use crate::times::{SideTimes, only};
+use crate::times::{SideTimes, only, without_first};
 use region::{Look, Region};
 use sched_base::{Itv, NoMemory};
 use std::alloc::Global;
@@ -33,8 +33,8 @@ pub enum Told {
 /// Which members of a sequence can't end before which others must start: those must come before them.
 #[derive(Debug, Drop)]
 struct Needs {
-    earliest_ends: Vec<i64>,
-    latest_starts: Vec<i64>,
+    earliest_ends: Vec<i32>,
+    latest_starts: Vec<i32>,
     /// For each member, who must come before it.
     before: Vec<u64>,
     /// For each, before whom it must come.
@@ -44,7 +44,7 @@ struct Needs {
 /// The members of a sequence as they were read last.
 #[derive(Debug, Drop)]
 pub struct Probe {
-    numbers: Vec<Numbers>,
+    numbers: Vec<Noted>,
     present: u64,
     absent: u64,
     needs: Needs,
@@ -55,14 +55,53 @@ pub struct Probe {
 /// The most members that a sequence has of which something is told.
 const MANY: usize = 64;
 
-const ABSENT: Numbers = Numbers {
-    presence: Presence::Absent,
-    est: 0,
-    lct: 0,
-    lst: 0,
-    ect: 0,
-    p: 0,
-};
+/// The numbers of a member, each in 32 bits, so that a sequence takes little room.
+#[derive(Clone, Copy, Debug, PartialEq, Eq)]
+struct Noted {
+    presence: Presence,
+    est: i32,
+    lct: i32,
+    lst: i32,
+    ect: i32,
+    p: i32,
+}
+
+impl Noted {
+    const ABSENT: Noted = Noted {
+        presence: Presence::Absent,
+        est: 0,
+        lct: 0,
+        lst: 0,
+        ect: 0,
+        p: 0,
+    };
+
+    fn from(n: Numbers) -> Noted {
+        Noted {
+            presence: n.presence,
+            est: short(n.est),
+            lct: short(n.lct),
+            lst: short(n.lst),
+            ect: short(n.ect),
+            p: short(n.p),
+        }
+    }
+
+    /// Whether all numbers are the same, told without a branch.
+    fn is_same(self, other: Noted) -> bool {
+        let differ = (self.est ^ other.est)
+            | (self.lct ^ other.lct)
+            | (self.lst ^ other.lst)
+            | (self.ect ^ other.ect)
+            | (self.p ^ other.p);
+        (differ == 0) & (self.presence == other.presence)
+    }
+}
+
+/// A moment, or a sum of two, in 32 bits, where it has room there.
+fn short(n: i64) -> i32 {
+    i32::try_from(n).unwrap_or(if n < 0 { i32::MIN } else { i32::MAX })
+}
 
 fn with(set: u64, k: usize, yes: bool) -> u64 {
     if yes { set | only(k) } else { set & !only(k) }
@@ -76,12 +115,12 @@ fn turn(sets: &mut [u64], places: u64, at: usize) {
         if k < sets.len() {
             sets[k] ^= only(at);
         }
-        places &= places.wrapping_sub(1);
+        places = without_first(places);
     }
 }
 
 /// The places of the numbers below one.
-fn below(numbers: &[i64], n: i64) -> u64
+fn below(numbers: &[i32], n: i32) -> u64
     requires { length numbers.now ≤ 64 }
 {
     let mut set = 0;
@@ -92,7 +131,7 @@ fn below(numbers: &[i64], n: i64) -> u64
 }
 
 /// The places of the numbers above one.
-fn above(numbers: &[i64], n: i64) -> u64
+fn above(numbers: &[i32], n: i32) -> u64
     requires { length numbers.now ≤ 64 }
 {
     let mut set = 0;
@@ -130,7 +169,7 @@ impl Needs {
     }
 
     /// Notes the earliest end of a member. Who must come before it since.
-    fn note_end(&mut self, at: usize, end: i64) -> u64 {
+    fn note_end(&mut self, at: usize, end: i32) -> u64 {
         if !self.has_room(at) || self.earliest_ends[at] == end {
             return 0;
         }
@@ -142,7 +181,7 @@ impl Needs {
     }
 
     /// Notes the latest start of a member. Before whom it must come since.
-    fn note_start(&mut self, at: usize, start: i64) -> u64 {
+    fn note_start(&mut self, at: usize, start: i32) -> u64 {
         if !self.has_room(at) || self.latest_starts[at] == start {
             return 0;
         }
@@ -176,7 +215,7 @@ fn hint_of(back: bool, place: usize, on: &SideTimes, set: u64) -> Hint {
     let start = match on.at_place(place) {
         None => part.end,
         // Under the guess that it starts as early as it may, it starts no later than this.
-        Some(one) => one.start.min(one.finish.wrapping_sub(one.size)),
+        Some(one) => i64::from(one.start.min(one.finish.saturating_sub(one.size))),
     };
     Hint {
         back,
@@ -196,7 +235,7 @@ impl Probe {
     pub fn new(alloc: Global, members: usize) -> Result<Probe, NoMemory> {
         let room = if members > MANY { 0 } else { members };
         Ok(Probe {
-            numbers: vec![in alloc; ABSENT; room]?,
+            numbers: vec![in alloc; Noted::ABSENT; room]?,
             present: 0,
             absent: u64::MAX,
             needs: Needs::new(alloc, room)?,
@@ -206,12 +245,12 @@ impl Probe {
     }
 
     /// Notes the numbers of a member.
-    fn note(&mut self, k: usize, now: Numbers) {
+    fn note(&mut self, k: usize, now: Noted) {
         if k >= self.numbers.len() {
             return;
         }
         let old = std::mem::replace(&mut self.numbers[k], now);
-        if now == old {
+        if now.is_same(old) {
             return;
         }
         if now.presence != old.presence || now.p != old.p {
@@ -240,8 +279,8 @@ impl Probe {
             if k >= members.len() {
                 return;
             }
-            self.note(k, numbers_of(bounds_at(look, members[k])));
-            places &= places.wrapping_sub(1);
+            self.note(k, Noted::from(numbers_of(bounds_at(look, members[k]))));
+            places = without_first(places);
         }
     }
 

@@ -159,6 +159,7 @@ fn ask_told(
 }
 
 /// What a round finds of the members of a sequence, whose numbers are given.
+#[inline(never)]
 #[tactic(auto, using(crate::proofs::Making::is_of))]
 fn ask_members(
     alloc: Global,

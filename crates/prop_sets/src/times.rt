@@ -1,5 +1,5 @@
 //! The members of a sequence on one side, in numbers, and with whose tests are to be made again.
-ghost use Rattle.std.specs.Prelude.{◌≡◌, ◌<◌, length};
+ghost use Rattle.std.specs.Prelude.{◌≡◌, ◌<◌, ◌+◌, length};
 
 use sched_base::NoMemory;
 use std::alloc::Global;
@@ -13,14 +13,31 @@ pub fn has(set: u64, k: usize) -> bool {
     set & only(k) != 0
 }
 
-/// A member on one side: its place, as a set too, its earliest start, its latest completion and its size.
+/// The set without its first place.
+pub fn without_first(set: u64) -> u64 {
+    set & set.wrapping_sub(1)
+}
+
+/// A member on one side: its place, its earliest start, its latest completion and its size. Each has 32
+/// bits, so that a sequence takes little room.
 #[derive(Clone, Copy, Debug)]
 pub struct Times {
-    pub place: usize,
-    pub bit: u64,
-    pub start: i64,
-    pub finish: i64,
-    pub size: i64,
+    pub place: u32,
+    pub start: i32,
+    pub finish: i32,
+    pub size: i32,
+}
+
+impl Times {
+    /// The place.
+    fn at(&self) -> usize {
+        self.place as usize
+    }
+
+    /// The set of the place.
+    fn bit(&self) -> u64 {
+        only(self.at())
+    }
 }
 
 /// Some members, and the earliest completion of all of them.
@@ -36,6 +53,8 @@ pub struct Part {
 pub struct SideTimes {
     /// The earliest start first.
     members: Vec<Times>,
+    /// Where the member at each place stands in that order.
+    spots: Vec<u32>,
     /// Who may be late since for those that must come before it.
     pub due: u64,
     /// With whose earliest start a set may begin that overloads since.
@@ -48,56 +67,82 @@ fn comes_first(one: Times, other: Times) -> bool {
     one.start < other.start || one.start == other.start && one.place < other.place
 }
 
+/// Changes the places of two neighbours in the order, and notes where they stand now.
+fn swap(members: &mut [Times], spots: &mut [u32], k: usize)
+    requires { k + 1 < length members.old }
+    ensures { length members.new ≡ length members.old }
+{
+    let (one, other) = (members[k], members[k + 1]);
+    members[k] = other;
+    members[k + 1] = one;
+    note_spot(spots, other, k);
+    note_spot(spots, one, k + 1);
+}
+
+/// Notes where a member stands in the order.
+fn note_spot(spots: &mut [u32], one: Times, k: usize) {
+    if let Some(spot) = spots.get_mut(one.at()) {
+        *spot = u32::try_from(k).unwrap_or(0);
+    }
+}
+
 /// Moves a member back to its place in the order.
-fn sink(members: &mut [Times], from: usize)
+fn sink(members: &mut [Times], spots: &mut [u32], from: usize)
     requires { from < length members.old }
     ensures { length members.new ≡ length members.old }
 {
-    for k in (1..=from).rev() {
-        let (before, one) = (members[k - 1], members[k]);
-        if comes_first(before, one) {
+    for k in (0..from).rev() {
+        if comes_first(members[k], members[k + 1]) {
             return;
         }
-        members[k - 1] = one;
-        members[k] = before;
+        swap(members, spots, k);
     }
 }
 
 /// Moves a member on to its place in the order. Those behind which it comes now.
-fn rise(members: &mut [Times], from: usize) -> u64
+fn rise(members: &mut [Times], spots: &mut [u32], from: usize) -> u64
+    requires { from < length members.old }
     ensures { length members.new ≡ length members.old }
 {
     let mut passed = 0;
-    for k in 1..members.len() {
-        if k <= from {
-            continue;
-        }
-        let (one, behind) = (members[k - 1], members[k]);
-        if comes_first(one, behind) {
+    for k in from..members.len() - 1 {
+        if comes_first(members[k], members[k + 1]) {
             return passed;
         }
-        members[k - 1] = behind;
-        members[k] = one;
-        passed |= behind.bit;
+        swap(members, spots, k);
+        passed |= members[k].bit();
     }
     passed
+}
+
+/// Each bit where a place is in a set, and none where it isn't. Who is in a set follows no pattern, so sums
+/// over sets are made without a branch.
+fn mask_of(set: u64, place: u32) -> i64 {
+    set.wrapping_shl(!place).cast_signed() >> 63
+}
+
+/// Each bit where a number isn't positive, and none where it is.
+fn mask_unless_positive(n: i64) -> i64 {
+    n.wrapping_sub(1) >> 63
 }
 
 impl SideTimes {
     /// Room for as many members, at most 64.
     pub fn new(alloc: Global, room: usize) -> Result<SideTimes, NoMemory> {
         let mut members = Vec::new(alloc);
-        for place in 0..room {
+        let mut spots = Vec::new(alloc);
+        for place in 0..u32::try_from(room).unwrap_or(0) {
             members.push(Times {
                 place,
-                bit: only(place),
                 start: 0,
                 finish: 0,
                 size: 0,
             })?;
+            spots.push(place)?;
         }
         Ok(SideTimes {
             members,
+            spots,
             due: 0,
             begins: 0,
         })
@@ -109,87 +154,105 @@ impl SideTimes {
         self.begins = u64::MAX;
     }
 
+    /// Where the member at a place stands in the order.
+    fn spot(&self, place: usize) -> usize {
+        match self.spots.get(place) {
+            None => usize::MAX,
+            Some(spot) => *spot as usize,
+        }
+    }
+
     /// The member at a place.
     pub fn at_place(&self, place: usize) -> Option<Times> {
-        for one in &self.members {
-            if one.place == place {
-                return Some(*one);
-            }
-        }
-        None
+        let one = self.members.get(self.spot(place))?;
+        Some(*one)
     }
 
     /// Notes the numbers of the member at a place, where those are given that it must come before.
-    pub fn note(&mut self, place: usize, start: i64, finish: i64, size: i64, behind: u64) {
-        for k in 0..self.members.len() {
-            let old = self.members[k];
-            if old.place != place {
-                continue;
-            }
-            self.members[k] = Times {
-                start,
-                finish,
-                size,
-                ..old
-            };
-            if start < old.start {
-                sink(&mut self.members, k);
-                self.due |= old.bit;
-            }
-            if old.start < start {
-                let passed = rise(&mut self.members, k);
-                self.begins |= passed | old.bit;
-                self.due |= behind;
-            }
+    pub fn note(&mut self, place: usize, start: i32, finish: i32, size: i32, behind: u64) {
+        let k = self.spot(place);
+        if k >= self.members.len() {
             return;
+        }
+        let old = self.members[k];
+        self.members[k] = Times {
+            start,
+            finish,
+            size,
+            ..old
+        };
+        if start < old.start {
+            sink(&mut self.members, &mut self.spots, k);
+            self.due |= old.bit();
+        }
+        if old.start < start {
+            let passed = rise(&mut self.members, &mut self.spots, k);
+            self.begins |= passed | old.bit();
+            self.due |= behind;
         }
     }
 
     /// Whether a set completes behind a moment.
-    fn is_late(&self, start: i64, set: u64) -> bool {
-        let mut left = set;
+    fn is_late(&self, start: i32, set: u64) -> bool {
         let mut sum: i64 = 0;
+        let mut room: i64 = 0;
         for k in (0..self.members.len()).rev() {
             let one = &self.members[k];
-            if left & one.bit == 0 {
-                continue;
-            }
-            sum = sum.wrapping_add(one.size);
-            if one.start.wrapping_add(sum) > start {
-                return true;
-            }
-            left &= !one.bit;
-            if left == 0 {
-                return false;
-            }
+            let mask = mask_of(set, one.place);
+            sum = sum.wrapping_add(i64::from(one.size) & mask);
+            let end = sum.wrapping_add(i64::from(one.start));
+            room |= i64::from(start).wrapping_sub(end) & mask;
         }
-        false
+        room < 0
     }
 
-    /// The first that is present and late for those of the present ones that must come before it; nobody
-    /// that was asked about before it is to be asked about again.
+    /// The first that is present and late for those of the present ones that must come before it. Whoever
+    /// isn't late is not to be asked about again.
     pub fn first_late(&mut self, before: &[u64], present: u64) -> Option<usize> {
-        let mut due = self.due;
-        let found = self.late_of(before, present, &mut due);
-        self.due = due;
-        found
+        let late = self.late_of(before, present);
+        self.due = late;
+        if late == 0 {
+            return None;
+        }
+        self.first_of(late)
     }
 
-    fn late_of(&self, before: &[u64], present: u64, due: &mut u64) -> Option<usize> {
-        for one in &self.members {
-            if *due & present == 0 {
-                break;
-            }
-            if *due & one.bit == 0 || one.place >= before.len() {
+    /// Who of those that may be late since is.
+    fn late_of(&self, before: &[u64], present: u64) -> u64 {
+        let mut due = self.due & present;
+        let mut late = 0;
+        for _ in 0..due.count_ones() {
+            let at = due.trailing_zeros() as usize;
+            due = without_first(due);
+            if at >= before.len() {
                 continue;
             }
-            let set = before[one.place] & present;
-            if present & one.bit != 0 && set != 0 && self.is_late(one.start, set) {
-                return Some(one.place);
+            let set = before[at] & present;
+            if self.is_behind(at, set) {
+                late |= only(at);
             }
-            *due &= !one.bit;
         }
-        *due = 0;
+        late
+    }
+
+    /// Whether a set completes behind the start of a member.
+    fn is_behind(&self, place: usize, set: u64) -> bool {
+        if set == 0 {
+            return false;
+        }
+        match self.at_place(place) {
+            None => false,
+            Some(one) => self.is_late(one.start, set),
+        }
+    }
+
+    /// The first of a set in the order.
+    fn first_of(&self, set: u64) -> Option<usize> {
+        for one in &self.members {
+            if set & one.bit() != 0 {
+                return Some(one.at());
+            }
+        }
         None
     }
 
@@ -203,12 +266,12 @@ impl SideTimes {
         let mut sum: i64 = 0;
         for k in (0..self.members.len()).rev() {
             let one = &self.members[k];
-            if set & one.bit == 0 {
+            if set & one.bit() == 0 {
                 continue;
             }
-            seen |= one.bit;
-            sum = sum.wrapping_add(one.size);
-            let end = one.start.wrapping_add(sum);
+            seen |= one.bit();
+            sum = sum.wrapping_add(i64::from(one.size));
+            let end = sum.wrapping_add(i64::from(one.start));
             if end > part.end {
                 part = Part { set: seen, end };
             }
@@ -216,45 +279,48 @@ impl SideTimes {
         part
     }
 
-    /// Whether a set of those present that begins at a moment on the other side overloads.
-    fn overloads_from(&self, begin: i64, present: u64) -> bool {
+    /// Whether a set of those present that begins at a moment on the other side overloads. On this side time
+    /// is turned round.
+    fn overloads_from(&self, begin: i32, present: u64) -> bool {
+        let begin = i64::from(begin);
         let mut end = begin;
+        let mut room: i64 = 0;
         for k in (0..self.members.len()).rev() {
             let one = &self.members[k];
-            // On this side time is turned round.
-            if present & one.bit == 0 || one.finish.wrapping_neg() < begin {
-                continue;
-            }
-            end = end.wrapping_add(one.size);
-            if end.wrapping_add(one.start) > 0 {
-                return true;
-            }
+            let starts = mask_unless_positive(begin.wrapping_add(i64::from(one.finish)));
+            let mask = mask_of(present, one.place) & starts;
+            end = end.wrapping_add(i64::from(one.size) & mask);
+            room |= i64::from(one.start).wrapping_add(end).wrapping_neg() & mask;
         }
-        false
+        room < 0
     }
 
     /// Whether a set of those present overloads.
     pub fn overloads(&mut self, other: &SideTimes, present: u64) -> bool {
-        let mut begins = self.begins;
-        let found = self.overload_of(other, present, &mut begins);
-        self.begins = begins;
-        found
+        let overloading = self.overloading(other, present);
+        self.begins = overloading;
+        overloading != 0
     }
 
-    fn overload_of(&self, other: &SideTimes, present: u64, begins: &mut u64) -> bool {
-        for one in &self.members {
-            if *begins & present == 0 {
-                break;
+    /// With whose earliest start a set begins that overloads, of those with whom one may since.
+    fn overloading(&self, other: &SideTimes, present: u64) -> u64 {
+        let mut begins = self.begins & present;
+        let mut overloading = 0;
+        for _ in 0..begins.count_ones() {
+            let at = begins.trailing_zeros() as usize;
+            begins = without_first(begins);
+            if self.begins_overload(other, at, present) {
+                overloading |= only(at);
             }
-            if *begins & present & one.bit == 0 {
-                continue;
-            }
-            if other.overloads_from(one.start, present) {
-                return true;
-            }
-            *begins &= !one.bit;
         }
-        *begins = 0;
-        false
+        overloading
+    }
+
+    /// Whether a set of those present that begins with the earliest start of a member overloads.
+    fn begins_overload(&self, other: &SideTimes, place: usize, present: u64) -> bool {
+        match self.at_place(place) {
+            None => false,
+            Some(one) => other.overloads_from(one.start, present),
+        }
     }
 }
