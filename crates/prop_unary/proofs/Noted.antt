@@ -122,11 +122,15 @@ new_place : (k n : ℕ) (t : Bool) → (k ≡ n → t ≡ true) → (nat_eq k n 
 new_place k n true on = grind (arith, nat_tests)
 new_place k n false on = grind (arith, nat_tests)
 
-pub row_passes : (r : Region) (p : Seq) (x : Itv) (ys : List Itv) (n : ℕ) (s : Places) → IsFilled r p x ys n s → may_stand r p x (member_at ys n) ≡ false → IsFilled r p x ys (n + 1) s
-row_passes r p x ys n s before off k = before k ∙ more_place k n (may_stand r p x (member_at ys k)) (λ e. ap (λ i. may_stand r p x (member_at ys i)) e ∙ off)
+row_passes : (r : Region) (p : Seq) (x : Itv) (ys : List Itv) (n : ℕ) (s t : Places) → IsFilled r p x ys n s → ((k : ℕ) → has_place t k ≡ has_place s k) → may_stand r p x (member_at ys n) ≡ false → IsFilled r p x ys (n + 1) t
+row_passes r p x ys n s t before is off k = is k ∙ before k ∙ more_place k n (may_stand r p x (member_at ys k)) (λ e. ap (λ i. may_stand r p x (member_at ys i)) e ∙ off)
 
-pub row_takes : (r : Region) (p : Seq) (x : Itv) (ys : List Itv) (n : ℕ) (s t : Places) → IsFilled r p x ys n s → ((k : ℕ) → has_place t k ≡ (nat_eq k n || has_place s k)) → may_stand r p x (member_at ys n) ≡ true → IsFilled r p x ys (n + 1) t
+row_takes : (r : Region) (p : Seq) (x : Itv) (ys : List Itv) (n : ℕ) (s t : Places) → IsFilled r p x ys n s → ((k : ℕ) → has_place t k ≡ (nat_eq k n || has_place s k)) → may_stand r p x (member_at ys n) ≡ true → IsFilled r p x ys (n + 1) t
 row_takes r p x ys n s t before is on k = is k ∙ ap (λ b. nat_eq k n || b) (before k) ∙ new_place k n (may_stand r p x (member_at ys k)) (λ e. ap (λ i. may_stand r p x (member_at ys i)) e ∙ on)
+
+pub row_puts : (r : Region) (p : Seq) (x : Itv) (ys : List Itv) (n : ℕ) (s t : Places) (b : Bool) → IsFilled r p x ys n s → ((k : ℕ) → has_place t k ≡ ((b && nat_eq k n) || has_place s k)) → b ≡ may_stand r p x (member_at ys n) → IsFilled r p x ys (n + 1) t
+row_puts r p x ys n s t true before is told = row_takes r p x ys n s t before is (sym told)
+row_puts r p x ys n s t false before is told = row_passes r p x ys n s t before is (sym told)
 
 pub row_ends : (r : Region) (p : Seq) (x : Itv) (ys : List Itv) (n : ℕ) (s : Places) → length ys ≤ n → IsFilled r p x ys n s → IsRow r p x ys s
 row_ends r p x ys n s all filled k below = filled k ∙ ap (λ t. t && may_stand r p x (member_at ys k)) (is_below k (omega (arith, all, below)))

@@ -1,5 +1,5 @@
 -- Sets of places: what one more place, and the comparison of two words, does to them.
-use Rattle.std.specs.Prelude.{◌≡◌, ℕ, ◌<◌, ◌≤◌, ◌*◌, ◌/◌, ◌%◌, ◌^◌, Bool, true, false, ◌||◌, List, length, nat_eq, nat_lt, min, max}
+use Rattle.std.specs.Prelude.{◌≡◌, ℕ, ◌<◌, ◌≤◌, ◌*◌, ◌/◌, ◌%◌, ◌^◌, Bool, true, false, ◌&&◌, ◌||◌, List, length, nat_eq, nat_lt, min, max}
 use Rattle.std.specs.Int.{bit_at}
 use Rattle.std.specs.Int.Bits.{bit_and}
 use Rattle.std.specs.Int.RustNames.{bit_or}
@@ -47,13 +47,25 @@ same_word j k e = grind (arith, nat_tests)
 abbrev in_words : List ℕ → ℕ → Bool
 in_words ws k = has_word (get_or ws (k / 64) 0) (k % 64)
 
-pub insert_is : (ws : List ℕ) (k j v : ℕ) → k / 64 < length ws → ((i : ℕ) → has_word v i ≡ (nat_eq i (k % 64) || has_word (get_or ws (k / 64) 0) i)) → in_words (set ws (k / 64) v) j ≡ (nat_eq j k || in_words ws j)
+insert_is : (ws : List ℕ) (k j v : ℕ) → k / 64 < length ws → ((i : ℕ) → has_word v i ≡ (nat_eq i (k % 64) || has_word (get_or ws (k / 64) 0) i)) → in_words (set ws (k / 64) v) j ≡ (nat_eq j k || in_words ws j)
 insert_is ws k j v within is = elim (cases_eq (j / 64) (k / 64)) [
   | inl e ↦ (
       let there : get_or (set ws (k / 64) v) (j / 64) 0 ≡ v = ap (λ i. get_or (set ws (k / 64) v) i 0) e ∙ get_or-set_same ws (k / 64) v 0 within in
       ap (λ w. has_word w (j % 64)) there ∙ is (j % 64) ∙ ap (λ t. t || has_word (get_or ws (k / 64) 0) (j % 64)) (same_word j k e) ∙ ap (λ i. nat_eq j k || has_word (get_or ws i 0) (j % 64)) (sym e))
   | inr other ↦ ap (λ w. has_word w (j % 64)) (get_or-set_other ws (k / 64) (j / 64) v 0 other) ∙ sym (ap (λ t. t || in_words ws j) (differs j k (λ e. other (ap (λ n. n / 64) e))))
 ]
+
+still_in : (ws : List ℕ) (k j v : ℕ) → k / 64 < length ws → ((i : ℕ) → has_word v i ≡ has_word (get_or ws (k / 64) 0) i) → in_words (set ws (k / 64) v) j ≡ in_words ws j
+still_in ws k j v within is = elim (cases_eq (j / 64) (k / 64)) [
+  | inl e ↦ (
+      let there : get_or (set ws (k / 64) v) (j / 64) 0 ≡ v = ap (λ i. get_or (set ws (k / 64) v) i 0) e ∙ get_or-set_same ws (k / 64) v 0 within in
+      ap (λ w. has_word w (j % 64)) there ∙ is (j % 64) ∙ ap (λ i. has_word (get_or ws i 0) (j % 64)) (sym e))
+  | inr other ↦ ap (λ w. has_word w (j % 64)) (get_or-set_other ws (k / 64) (j / 64) v 0 other)
+]
+
+pub put_is : (b : Bool) (ws : List ℕ) (k j v : ℕ) → k / 64 < length ws → ((i : ℕ) → has_word v i ≡ ((b && nat_eq i (k % 64)) || has_word (get_or ws (k / 64) 0) i)) → in_words (set ws (k / 64) v) j ≡ ((b && nat_eq j k) || in_words ws j)
+put_is true ws k j v within is = insert_is ws k j v within is
+put_is false ws k j v within is = still_in ws k j v within is
 
 pub none_in : (k : ℕ) (ws : List ℕ) → ((i : ℕ) → get_or ws i 0 ≡ 0) → in_words ws k ≡ false
 none_in k ws none = ap (λ w. has_word w (k % 64)) (none (k / 64)) ∙ ap (λ n. nat_eq n 1) (bit_at-zero (k % 64))

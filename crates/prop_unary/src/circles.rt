@@ -167,10 +167,7 @@ fn ask_behind(
 fn may_stand(look: &Look<'_>, p: Seq, x: Itv, y: Itv) -> bool
     ensures { result ≡ may_stand look.now.region p x y }
 {
-    if !precedes(look, p, x, y) {
-        return false;
-    }
-    !is_away(look, x) && !is_away(look, y)
+    !is_away(look, x) & !is_away(look, y) & precedes(look, p, x, y)
 }
 
 /// The places of the members that one may stand before.
@@ -181,10 +178,7 @@ fn row_of(look: &Look<'_>, p: Seq, x: Itv, members: &[Itv]) -> Places
 {
     let mut row = Places::none();
     for k in 0..members.len() {
-        if !may_stand(look, p, x, members[k]) {
-            continue;
-        }
-        row.insert(k);
+        row.put(k, may_stand(look, p, x, members[k]));
     }
     row
 }
@@ -250,6 +244,7 @@ fn ask_around(
 /// What TRIPLE finds of a sequence, whose members these are. It reads the order of each two members
 /// once, and compares the rows of two of which one is told to stand before the other; members are
 /// looked at three at a time where their rows leave something to find.
+#[inline(never)]
 pub fn ask_circles(
     model: &Model,
     region: &Region,

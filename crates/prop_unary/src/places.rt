@@ -19,12 +19,13 @@ fn is_part(word: u64, of: u64) -> bool
     word & of == word
 }
 
-/// A word with one more bit.
-fn with_bit(word: u64, b: usize) -> u64
+/// A word with one more bit, if that is set.
+fn with_bit(word: u64, b: usize, is_set: bool) -> u64
     requires { b < 64 }
-    ensures { (i : ℕ) → has_word result i ≡ (nat_eq i b || has_word word i) }
+    ensures { (i : ℕ) → has_word result i ≡ ((is_set && nat_eq i b) || has_word word i) }
 {
-    word | (1 << b)
+    let with = word | (1 << b);
+    if is_set { with } else { word }
 }
 
 fn has_bit(word: u64, b: usize) -> bool
@@ -42,12 +43,12 @@ impl Places {
         Places { words: [0; WORDS] }
     }
 
-    /// Puts a place into the set.
-    pub fn insert(&mut self, k: usize)
+    /// Puts a place into the set, if it is to be in it: which are follows no pattern, so it takes no branch.
+    pub fn put(&mut self, k: usize, is_in: bool)
         requires { k < 512 }
-        ensures { (j : ℕ) → has_place self.new j ≡ (nat_eq j k || has_place self.old j) }
+        ensures { (j : ℕ) → has_place self.new j ≡ ((is_in && nat_eq j k) || has_place self.old j) }
     {
-        self.words[k / BITS] = with_bit(self.words[k / BITS], k % BITS);
+        self.words[k / BITS] = with_bit(self.words[k / BITS], k % BITS, is_in);
     }
 
     /// Whether a place is in the set.
@@ -62,11 +63,10 @@ impl Places {
     pub fn is_within(&self, other: &Places) -> bool
         ensures { result ≡ true → (k : ℕ) → has_place self.now k ≡ true → has_place other.now k ≡ true }
     {
+        let mut is_within = true;
         for w in 0..WORDS {
-            if !is_part(self.words[w], other.words[w]) {
-                return false;
-            }
+            is_within &= is_part(self.words[w], other.words[w]);
         }
-        true
+        is_within
     }
 }

@@ -33,7 +33,7 @@ fn fits(end: i64, n: i64, start: i64) -> bool
 fn are_keys_in_time(c: Front, d: Back, n: i64) -> bool
     ensures { result ≡ are_keys_in_time c d n }
 {
-    fits(c.present_ect, n, d.lowest_start) && fits(c.highest_end, n, d.present_lst)
+    fits(c.present_ect, n, d.lowest_start) & fits(c.highest_end, n, d.present_lst)
 }
 
 fn are_silent_keys(order: OrderCell, c: Front, d: Back, n: i64) -> bool
@@ -50,7 +50,7 @@ fn are_silent_keys(order: OrderCell, c: Front, d: Back, n: i64) -> bool
 fn are_silent_orders(c: Front, d: Back, n: i64) -> bool
     ensures { result ≡ (int_le (c.ect +ℤ n) d.lst && are_keys_in_time c d n) }
 {
-    fits(c.ect, n, d.lst) && are_keys_in_time(c, d, n)
+    fits(c.ect, n, d.lst) & are_keys_in_time(c, d, n)
 }
 
 /// The greatest distance that may bind two members. Most sequences keep none, so it stays out of the

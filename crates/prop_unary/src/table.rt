@@ -45,7 +45,8 @@ pub struct PropUnary {
     starts: Vec<usize>,
     /// What was read of each constraint when it was asked whether it can wait. Nothing hangs on it.
     waiting: Vec<Waiting>,
-    /// Which members have moved since they were read, and which have another order with one.
+    /// Which members of each constraint have moved since they were read, and which have another order with
+    /// one.
     moves: Moves,
     turns: Moves,
 }
@@ -219,8 +220,9 @@ impl PropUnary {
         let n = constraints + model.sequences().len() as u32;
         let members = members_of_each(alloc, model, n)?;
         let sequences = sequence_of_each(alloc, model, n)?;
-        let moves = Moves::new(alloc, &members)?;
-        let turns = Moves::new(alloc, &members)?;
+        let asked = &members[..constraints as usize];
+        let moves = Moves::new(alloc, asked)?;
+        let turns = Moves::new(alloc, asked)?;
         Ok(PropUnary {
             constraints,
             members,

@@ -6,111 +6,86 @@ use region::{Look, OrderCell, Presence, Region};
 use sched_base::{Itv, NoMemory, Seq};
 use std::alloc::Global;
 
-/// What is known of a member that may change.
-#[derive(Clone, Copy, Debug, PartialEq, Eq)]
-struct Cells {
-    presence: Presence,
-    smin: i64,
-    smax: i64,
-    emin: i64,
-    emax: i64,
-}
-
-/// What is compared of a member, in moments. Where one who is absent, or isn't known to be present, isn't
-/// asked for a number, it is one that is never too late, or too soon, for another.
-#[derive(Clone, Copy, Debug, PartialEq, Eq)]
+/// What is compared of a member, in moments, each in 32 bits, so that a sequence takes little room. Where
+/// one who is absent, or isn't known to be present, isn't asked for a number, it is one that is never too
+/// late, or too soon, for another.
+#[derive(Clone, Copy, Debug)]
 struct Window {
     /// The earliest completion.
-    ect: i64,
+    ect: i32,
     /// The same where the member is present.
-    present_ect: i64,
+    present_ect: i32,
     /// The latest end.
-    emax: i64,
+    emax: i32,
     /// The latest start.
-    lst: i64,
+    lst: i32,
     /// The same where the member is present.
-    present_lst: i64,
+    present_lst: i32,
     /// The earliest start.
-    smin: i64,
+    smin: i32,
 }
 
 impl Window {
     /// That of a member that is absent.
     const ABSENT: Window = Window {
-        ect: i64::MIN,
-        present_ect: i64::MIN,
-        emax: i64::MIN,
-        lst: i64::MAX,
-        present_lst: i64::MAX,
-        smin: i64::MAX,
+        ect: i32::MIN,
+        present_ect: i32::MIN,
+        emax: i32::MIN,
+        lst: i32::MAX,
+        present_lst: i32::MAX,
+        smin: i32::MAX,
     };
-}
 
-/// A member as it was read last.
-#[derive(Clone, Copy, Debug)]
-struct Noted {
-    cells: Cells,
-    window: Window,
-}
-
-impl Noted {
-    /// An absent one.
-    const ABSENT: Noted = Noted {
-        cells: Cells {
-            presence: Presence::Absent,
-            smin: 0,
-            smax: 0,
-            emin: 0,
-            emax: 0,
-        },
-        window: Window::ABSENT,
-    };
-}
-
-fn cells_at(look: &Look<'_>, x: Itv) -> Cells
-    requires { x.0 < length look.now.region.bounds }
-{
-    Cells {
-        presence: look.presence(x),
-        smin: look.smin(x),
-        smax: look.smax(x),
-        emin: look.emin(x),
-        emax: look.emax(x),
+    /// Whether all numbers are the same, told without a branch.
+    fn is_same(self, other: Window) -> bool {
+        let differ = (self.ect ^ other.ect)
+            | (self.present_ect ^ other.present_ect)
+            | (self.emax ^ other.emax)
+            | (self.lst ^ other.lst)
+            | (self.present_lst ^ other.present_lst)
+            | (self.smin ^ other.smin);
+        differ == 0
     }
 }
 
-fn window_at(look: &Look<'_>, x: Itv, cells: Cells) -> Window
+/// A moment, or a sum of two, in 32 bits, where it has room there.
+fn short(n: i64) -> i32 {
+    i32::try_from(n).unwrap_or(if n < 0 { i32::MIN } else { i32::MAX })
+}
+
+fn window_at(look: &Look<'_>, x: Itv) -> Window
     requires { x.0 < length look.now.region.bounds }
 {
-    if cells.presence == Presence::Absent {
+    let presence = look.presence(x);
+    if presence == Presence::Absent {
         return Window::ABSENT;
     }
-    let (ect, lst) = (look.ect(x), look.lst(x));
-    let is_there = cells.presence == Presence::Present;
+    let (ect, lst) = (short(look.ect(x)), short(look.lst(x)));
+    let is_there = presence == Presence::Present;
     Window {
         ect,
-        present_ect: if is_there { ect } else { i64::MIN },
-        emax: cells.emax,
+        present_ect: if is_there { ect } else { i32::MIN },
+        emax: short(look.emax(x)),
         lst,
-        present_lst: if is_there { lst } else { i64::MAX },
-        smin: cells.smin,
+        present_lst: if is_there { lst } else { i32::MAX },
+        smin: short(look.smin(x)),
     }
 }
 
 /// Whether two don't fit as they are if the first stands before the second: the first pushes the second
 /// to a later start, or the second the first to a sooner end, or both can't be.
 fn is_pushed(c: Window, d: Window) -> bool {
-    c.present_ect > d.smin || c.emax > d.present_lst || c.ect > d.lst
+    (c.present_ect > d.smin) | (c.emax > d.present_lst) | (c.ect > d.lst)
 }
 
 /// Whether two fit as they are in neither order.
 fn are_tight(c: Window, d: Window) -> bool {
-    is_pushed(c, d) && is_pushed(d, c)
+    is_pushed(c, d) & is_pushed(d, c)
 }
 
 /// Whether two that are there fit in neither order.
 fn do_clash(c: Window, d: Window) -> bool {
-    c.present_ect > d.present_lst && d.present_ect > c.present_lst
+    (c.present_ect > d.present_lst) & (d.present_ect > c.present_lst)
 }
 
 /// The set of one place.
@@ -150,23 +125,6 @@ impl Table {
         }
     }
 
-    /// Empties the rows of some, and takes them out of the others.
-    fn clear(&mut self, places: u64) {
-        for k in 0..self.rows.len() {
-            self.rows[k] = if places & only(k) != 0 {
-                0
-            } else {
-                self.rows[k] & !places
-            };
-        }
-    }
-
-    /// Puts two into one another's rows.
-    fn join(&mut self, at: usize, k: usize) {
-        put_into(&mut self.rows, at, k);
-        put_into(&mut self.rows, k, at);
-    }
-
     /// Turns two in one another's rows.
     fn turn(&mut self, at: usize, row: u64) {
         if at >= self.rows.len() {
@@ -197,22 +155,18 @@ impl Table {
 }
 
 /// The members of a sequence as they were read last, and for each, as a set of places, those with whom it
-/// fits in neither order as they are, and of these those with whom it can't be, those with whom its order
-/// is open, and those that it is told to stand before. Two are compared where one of them may have moved,
-/// and their order is read where it may be another.
+/// fits in neither order as they are, of these those with whom it can't be, those with whom its order was
+/// read since one of them had another, and of these those that it is told to stand before. Two are compared
+/// where one of them may have moved, and their order is read where it may be another.
 #[derive(Debug, Drop)]
 pub struct Waiting {
-    noted: Vec<Noted>,
+    noted: Vec<Window>,
     tight: Table,
     clashing: Table,
-    unknown: Table,
-    /// Those before whom it is told to stand, and those that are told to stand before it.
+    known: Vec<u64>,
     before: Vec<u64>,
-    behind: Vec<u64>,
     /// Who is told to stand before some with whom it fits in neither order.
     telling: u64,
-    /// With whom orders are to be read.
-    due: u64,
 }
 
 /// The places of two of whom the first is told to stand before the second.
@@ -230,14 +184,12 @@ impl Waiting {
     pub fn new(alloc: Global, members: usize) -> Result<Waiting, NoMemory> {
         let room = if members > MANY { 0 } else { members };
         Ok(Waiting {
-            noted: vec![in alloc; Noted::ABSENT; room]?,
+            noted: vec![in alloc; Window::ABSENT; room]?,
             tight: Table::new(alloc, room)?,
             clashing: Table::new(alloc, room)?,
-            unknown: Table::new(alloc, room)?,
+            known: vec![in alloc; 0; room]?,
             before: vec![in alloc; 0; room]?,
-            behind: vec![in alloc; 0; room]?,
             telling: 0,
-            due: 0,
         })
     }
 
@@ -261,12 +213,12 @@ impl Waiting {
         }
         let look = region.look(None, None);
         if turned != 0 {
-            self.unknown.clear(turned);
-            self.due = u64::MAX;
+            take_out(&mut self.known, turned);
+            take_out(&mut self.before, turned);
         }
         let moved = note_members(&look, members, moved, &mut self.noted);
         compare_moved(moved, n, &self.noted, &mut self.tight, &mut self.clashing);
-        self.read_orders(&look, p, members);
+        self.read_orders(&look, p, members, turned);
         self.clashing.filled == 0 && self.telling == 0
     }
 
@@ -284,16 +236,15 @@ impl Waiting {
             self.telling
         };
         let first = rows.trailing_zeros() as usize;
-        let second = self.before.get(first)?.trailing_zeros() as usize;
+        let behind = *self.before.get(first)? & self.tight.row(first);
+        let second = behind.trailing_zeros() as usize;
         Some(Told { first, second })
     }
 
-    /// Reads the orders of those that fit in neither as they are and whose order isn't known to be open,
-    /// where one of the two is due. Where two fit in one order alone, it is mostly the one that is told,
-    /// so the orders of no others are read.
-    fn read_orders(&mut self, look: &Look<'_>, p: Seq, members: &[Itv]) {
-        let mut due = self.due | self.tight.touched;
-        self.due = 0;
+    /// Reads the orders that aren't known of those that fit in neither as they are. Where two fit in one
+    /// order alone, it is mostly the one that is told, so the orders of no others are read.
+    fn read_orders(&mut self, look: &Look<'_>, p: Seq, members: &[Itv], turned: u64) {
+        let mut due = self.tight.touched | turned;
         self.tight.touched = 0;
         if due == 0 {
             return;
@@ -304,47 +255,35 @@ impl Waiting {
             if k >= members.len() {
                 break;
             }
-            if set_at(&self.before, k) | set_at(&self.behind, k) != 0 {
-                self.forget_told(k);
-            }
             self.read_row(look, p, k, members);
             due = without_first(due);
         }
+        self.telling = telling_of(&self.before, &self.tight);
     }
 
-    /// Forgets whom a member is told to stand before, and who it.
-    fn forget_told(&mut self, at: usize) {
-        take_out(&mut self.behind, set_at(&self.before, at), at);
-        take_out(&mut self.before, set_at(&self.behind, at), at);
-        self.telling &= !(set_at(&self.behind, at) | only(at));
-        self.telling |= filled_of(&self.before, set_at(&self.behind, at));
-        empty(&mut self.before, at);
-        empty(&mut self.behind, at);
-    }
-
-    /// Notes that the first of two is told to stand before the second.
-    fn tell(&mut self, first: usize, second: usize) {
-        put_into(&mut self.before, first, second);
-        put_into(&mut self.behind, second, first);
-        self.telling |= only(first);
+    /// Notes the order of two.
+    fn note_order(&mut self, at: usize, k: usize, order: OrderCell) {
+        put_into(&mut self.known, at, k);
+        put_into(&mut self.known, k, at);
+        match order {
+            OrderCell::Unknown => {}
+            OrderCell::Forward => put_into(&mut self.before, at, k),
+            OrderCell::Backward => put_into(&mut self.before, k, at),
+        }
     }
 
     /// Reads the orders of one member.
     fn read_row(&mut self, look: &Look<'_>, p: Seq, at: usize, members: &[Itv])
         requires { at < length members.now }
     {
-        let mut others = self.tight.row(at) & !self.unknown.row(at);
+        let mut others = self.tight.row(at) & !set_at(&self.known, at);
         for _ in 0..members.len() {
             let k = others.trailing_zeros() as usize;
             // None is left.
             if k >= members.len() {
                 return;
             }
-            match look.order(p, members[at], members[k]) {
-                OrderCell::Unknown => self.unknown.join(at, k),
-                OrderCell::Forward => self.tell(at, k),
-                OrderCell::Backward => self.tell(k, at),
-            }
+            self.note_order(at, k, look.order(p, members[at], members[k]));
             others = without_first(others);
         }
     }
@@ -361,56 +300,36 @@ fn set_at(sets: &[u64], at: usize) -> u64 {
     if at < sets.len() { sets[at] } else { 0 }
 }
 
-fn empty(sets: &mut [u64], at: usize) {
-    if at < sets.len() {
-        sets[at] = 0;
+/// Empties the sets of some, and takes them out of the others.
+fn take_out(sets: &mut [u64], places: u64) {
+    for k in 0..sets.len() {
+        let left = sets[k] & !places;
+        sets[k] = if places & only(k) != 0 { 0 } else { left };
     }
 }
 
-/// Takes a member out of the sets of some.
-fn take_out(sets: &mut [u64], places: u64, at: usize) {
-    let mut places = places;
-    for _ in 0..places.count_ones() {
-        let k = places.trailing_zeros() as usize;
-        if k < sets.len() {
-            sets[k] &= !only(at);
-        }
-        places = without_first(places);
+/// Who is told to stand before some with whom it fits in neither order.
+fn telling_of(before: &[u64], tight: &Table) -> u64 {
+    let mut telling = 0;
+    for k in 0..before.len() {
+        telling |= u64::from(before[k] & tight.row(k) != 0) << (k % 64);
     }
-}
-
-/// Which of some have a set that isn't empty.
-fn filled_of(sets: &[u64], places: u64) -> u64 {
-    let mut filled = 0;
-    let mut places = places;
-    for _ in 0..places.count_ones() {
-        let k = places.trailing_zeros() as usize;
-        if set_at(sets, k) != 0 {
-            filled |= only(k);
-        }
-        places = without_first(places);
-    }
-    filled
+    telling
 }
 
 /// Reads a member. Whether something else is known of it than before.
-fn note_member(look: &Look<'_>, x: Itv, noted: &mut Noted) -> bool {
+fn note_member(look: &Look<'_>, x: Itv, noted: &mut Window) -> bool {
     if x.0 as usize >= look.len() {
         return false;
     }
-    let cells = cells_at(look, x);
-    if cells == noted.cells {
-        return false;
-    }
-    *noted = Noted {
-        cells,
-        window: window_at(look, x, cells),
-    };
-    true
+    let window = window_at(look, x);
+    let is_new = !window.is_same(*noted);
+    *noted = window;
+    is_new
 }
 
 /// Reads the members at these places. The places of those of which something else is known than before.
-fn note_members(look: &Look<'_>, members: &[Itv], places: u64, noted: &mut [Noted]) -> u64
+fn note_members(look: &Look<'_>, members: &[Itv], places: u64, noted: &mut [Window]) -> u64
     requires room { length members.now ≤ length noted.old }
     requires few { length members.now ≤ 64 }
     ensures { length noted.new ≡ length noted.old }
@@ -439,28 +358,29 @@ struct Rows {
 }
 
 /// Those of the member at a place.
-fn rows_of(at: usize, n: usize, noted: &[Noted]) -> Rows
+fn rows_of(at: usize, n: usize, noted: &[Window]) -> Rows
     requires here { at < n }
     requires room { n ≤ length noted.now }
     requires few { n ≤ 64 }
 {
-    let window = noted[at].window;
+    let window = noted[at];
     let mut rows = Rows {
         tight: 0,
         clashing: 0,
     };
     for k in 0..n {
-        let other = noted[k].window;
-        if k != at && are_tight(window, other) {
-            rows.tight |= 1 << k;
-            rows.clashing |= u64::from(do_clash(window, other)) << k;
-        }
+        let other = noted[k];
+        rows.tight |= u64::from(are_tight(window, other)) << k;
+        rows.clashing |= u64::from(do_clash(window, other)) << k;
     }
-    rows
+    Rows {
+        tight: rows.tight & !only(at),
+        clashing: rows.clashing & rows.tight & !only(at),
+    }
 }
 
 /// Compares those at these places with each.
-fn compare_moved(moved: u64, n: usize, noted: &[Noted], tight: &mut Table, clashing: &mut Table)
+fn compare_moved(moved: u64, n: usize, noted: &[Window], tight: &mut Table, clashing: &mut Table)
     requires room { n ≤ length noted.now }
     requires few { n ≤ 64 }
 {
