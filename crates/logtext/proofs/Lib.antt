@@ -1,6 +1,7 @@
 pub mod Spaced
 pub mod Values
 pub mod Guesses
+pub mod Digits
 pub mod Fails
 pub mod Rows
 pub mod Assignments

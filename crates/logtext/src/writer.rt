@@ -69,7 +69,18 @@ impl LogWriter {
     {
         let mut buffer = Buffer::new();
         self.put(b" ", desk)?;
-        self.put(buffer.format(n).as_bytes(), desk)
+        self.put_digits(buffer.format(n).as_bytes(), desk)
+    }
+
+    /// The bytes of a number, one by one: they are few, and to have them copied costs more than they do.
+    fn put_digits<D: Desk>(&mut self, digits: &[u8], desk: &mut D) -> Result<(), Failed>
+        requires { (D.state desk.old).created ≡ true }
+        ensures { Gathers Log digits.now result self.old self.new (D.state desk.old) (D.state desk.new) }
+    {
+        for digit in digits {
+            self.put(&[*digit], desk)?;
+        }
+        Ok(())
     }
 
     fn put_derive<W: Numbers, D: Desk>(
