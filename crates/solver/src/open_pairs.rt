@@ -4,7 +4,7 @@ use crate::guide::Guide;
 use crate::order::{is_open_order, is_there};
 use crate::weights::Weights;
 use refute_seq::members_of;
-use region::Look;
+use region::{Look, OrderCell};
 use sched_base::{Itv, NoMemory, Seq};
 use sched_model::{Constraint, Model};
 use std::alloc::Global;
@@ -76,7 +76,11 @@ pub struct View<'a> {
 #[tactic(auto, using(region::specs::laws::Present::there_within))]
 fn open_pair(view: &View<'_>, p: Seq, x: Itv, y: Itv) -> Option<Candidate> {
     let look = view.look;
-    if !is_there(look, x) || !is_there(look, y) || !is_open_order(look, p, x, y) {
+    // Most orders are known, so the order is read first.
+    if look.order(p, x, y) != OrderCell::Unknown {
+        return None;
+    }
+    if !is_there(look, x) || !is_there(look, y) {
         return None;
     }
     let forth = slack(look, x, y).saturating_add(1);
