@@ -1,5 +1,5 @@
 ghost use Rattle.std.specs.Prelude.{◌≡◌, ◌<◌, [], ◌∷◌, ℕ, length, map, replicate, All, IsTrue, IfOk, IfSome};
-ghost use Rattle.wake_levels.specs.code.Queues.{AreBelow, queue_without};
+ghost use Rattle.wake_levels.specs.code.Queues.{AreBelow, lists_of, queue_without};
 ghost use Rattle.wake_levels.specs.code.Waking.{is_awake, first_turn, without_on_all, woken_on};
 ghost use Rattle.wake_levels.specs.code.Calm.{WakesEach};
 
@@ -55,6 +55,20 @@ fn unwake_each(queues: &mut [WakeQueue], k: u32)
     }
 }
 
+/// The first number of the first queue that has one.
+fn first_on(queues: &mut [WakeQueue]) -> Option<Turn>
+    ensures turn { result ≡ first_turn (lists_of queues.old) }
+    ensures same { queues.new ≡ queues.old }
+    ensures below { (n : ℕ) → AreBelow n queues.old → IfSome result (λ t. t.k < n) }
+{
+    for level in 0..queues.len() {
+        if let Some(k) = queues[level].first() {
+            return Some(Turn { k, level });
+        }
+    }
+    None
+}
+
 impl WakeLevels {
     /// No number below `n` awake, on so many levels.
     pub fn new(alloc: Global, n: u32, levels: usize) -> Result<WakeLevels, NoMemory>
@@ -83,16 +97,12 @@ impl WakeLevels {
     }
 
     /// The first number of the first level that has one. It stays where it is.
-    pub fn first(&self) -> Option<Turn>
-        ensures turn { result ≡ first_turn self.now.levels }
-        ensures below { IfSome result (λ t. t.k < self.now.below) }
+    pub fn first(&mut self) -> Option<Turn>
+        ensures turn { result ≡ first_turn self.old.levels }
+        ensures same { self.new ≡ self.old }
+        ensures below { IfSome result (λ t. t.k < self.old.below) }
     {
-        for level in 0..self.queues.len() {
-            if let Some(k) = self.queues[level].first() {
-                return Some(Turn { k, level });
-            }
-        }
-        None
+        first_on(&mut self.queues)
     }
 
     /// Puts a number last on a level, where it isn't on it.
