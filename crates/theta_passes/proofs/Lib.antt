@@ -1,3 +1,4 @@
+pub mod Sets
 pub mod trees
 pub mod scans
 pub mod shown

@@ -1,6 +1,8 @@
+pub mod Bound
 pub mod CutScans
 pub mod Lowest
 pub mod OneMore
+pub mod Pushed
 pub mod Reached
 pub mod Scanned
 pub mod Scanning

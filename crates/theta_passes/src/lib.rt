@@ -11,6 +11,7 @@ pub mod laws;
 pub mod leaves;
 pub mod over;
 pub mod parts;
+mod places;
 mod rows;
 pub mod scan;
 pub mod witnesses;

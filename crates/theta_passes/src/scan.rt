@@ -2,11 +2,13 @@ ghost use Rattle.std.specs.Prelude.{◌≡◌, ℕ, ◌<◌, ◌≤◌, ◌+ℤ�
 ghost use Rattle.std.specs.Int.{int_max};
 ghost use Rattle.theta_passes.specs.code.Rows.{row_at, is_candidate, is_present, IsNearRow, IsByEst};
 ghost use Rattle.theta_passes.specs.code.Parts.{part_has, GivesTop};
-ghost use Rattle.theta_passes.specs.code.Late.{LateAt, LateCandidate, LatePass, late_by, with_row, is_free, AreLows};
+ghost use Rattle.theta_passes.specs.code.Late.{LateAt, LateCandidate, LatePass, late_by, with_row, is_free, AreLows, AreLeft};
 ghost use Rattle.theta_passes.specs.declared.parts.Part.TheVariants.{Before, Cut};
-ghost use Rattle.theta_passes.specs.code.Edge.{is_pushed, is_over_with, FoundBy, FoundOrNone, ByMember, IsMember, PassOrNone};
+ghost use Rattle.theta_passes.specs.code.Places.{has_place};
+ghost use Rattle.theta_passes.specs.code.Edge.{is_pushed, is_pushed_at, is_over_with, FoundBy, FoundOrNone, ByMember, IsMember, PassOrNone};
 
 use crate::parts::{Part, Top, top_of};
+use crate::places::{ROOM, first_of, with, without};
 use crate::{Presence, Row};
 
 /// Of the others that must start before a member can end, where those begin that complete latest.
@@ -115,15 +117,47 @@ fn is_free(lows: Lows, row: Row, k: usize) -> bool
     row.reach <= lows.first
 }
 
-/// What `late_pass` finds, without a tree: of few members it is the sooner one.
-#[tactic(auto, using(crate::proofs::scans::Scanned::none_scanned, crate::proofs::scans::Scanned::more_scanned, crate::proofs::scans::Scanned::all_scanned, crate::proofs::scans::Scanned::scan_found))]
-pub fn late_scan(rows: &[Row]) -> Option<u32>
+/// The places of those before whom another must start.
+fn bound_of(rows: &[Row], lows: Lows) -> u64
+    requires few { length rows.now ≤ 64 }
+    requires lows { AreLows rows.now (length rows.now) lows }
+    ensures { AreLeft rows.now result }
+{
+    let mut bound = 0;
+    for k in 0..rows.len() {
+        bound = with(bound, k, !is_free(lows, rows[k], k));
+    }
+    bound
+}
+
+/// Of those at some places the first that is late; nobody else is.
+fn late_of(rows: &[Row], places: u64) -> Option<u32>
     requires few { length rows.now ≤ 500 }
     requires near { (k : ℕ) → IsNearRow (row_at rows.now k) }
     requires sorted { IsByEst rows.now }
+    requires left { AreLeft rows.now places }
     ensures { LatePass rows.now result }
 {
-    let lows = lows_of(rows);
+    let mut left = places;
+    while left != 0 {
+        let i = first_of(left);
+        if is_found(rows, i) {
+            return Some(i);
+        }
+        left = without(left, i);
+    }
+    None
+}
+
+/// The first that is late, where there are too many for a set of places.
+#[tactic(auto, using(crate::proofs::scans::Scanned::none_scanned, crate::proofs::scans::Scanned::more_scanned, crate::proofs::scans::Scanned::all_scanned, crate::proofs::scans::Scanned::scan_found))]
+fn late_of_many(rows: &[Row], lows: Lows) -> Option<u32>
+    requires few { length rows.now ≤ 500 }
+    requires near { (k : ℕ) → IsNearRow (row_at rows.now k) }
+    requires sorted { IsByEst rows.now }
+    requires lows { AreLows rows.now (length rows.now) lows }
+    ensures { LatePass rows.now result }
+{
     for k in 0..rows.len() {
         if is_free(lows, rows[k], k) {
             continue;
@@ -134,6 +168,21 @@ pub fn late_scan(rows: &[Row]) -> Option<u32>
         }
     }
     None
+}
+
+/// What `late_pass` finds, without a tree: of few members it is the sooner one. Before whom another must
+/// start is told for all first, without a branch.
+pub fn late_scan(rows: &[Row]) -> Option<u32>
+    requires few { length rows.now ≤ 500 }
+    requires near { (k : ℕ) → IsNearRow (row_at rows.now k) }
+    requires sorted { IsByEst rows.now }
+    ensures { LatePass rows.now result }
+{
+    let lows = lows_of(rows);
+    if rows.len() > ROOM {
+        return late_of_many(rows, lows);
+    }
+    late_of(rows, bound_of(rows, lows))
 }
 
 /// Whether a cut starts a member too late that may end after its moment.
@@ -191,8 +240,62 @@ fn finds(rows: &[Row], i: u32, level: i64, pushing: Option<Top>) -> bool
     is_late_by(level, top_of(rows, Part::CutAnd(level, i)))
 }
 
-/// A member that the cut at a moment finds.
+/// The places of those that the cut pushes.
+#[tactic(auto, using(crate::proofs::scans::Pushed::none_pushed))]
+fn pushed_of(rows: &[Row], level: i64, top: Top) -> u64
+    requires { length rows.now ≤ 64 }
+    ensures { (k : ℕ) → has_place result k ≡ is_pushed_at rows.now level (Some top) k }
+{
+    let mut pushed = 0;
+    for k in 0..rows.len() {
+        pushed = with(pushed, k, is_pushed(rows[k], level, Some(top)));
+    }
+    pushed
+}
+
+/// Of those at some places one that the cut finds; it finds nobody else.
+#[tactic(auto, using(crate::proofs::scans::CutScans::one_tried))]
+fn found_of(rows: &[Row], level: i64, top: Top, places: u64) -> Option<u32>
+    requires few { length rows.now ≤ 500 }
+    requires near { (k : ℕ) → IsNearRow (row_at rows.now k) }
+    requires sorted { IsByEst rows.now }
+    requires member { IsMember rows.now level }
+    requires pushing { GivesTop rows.now (part_has rows.now (Cut None level)) 0 (Some top) }
+    requires pushed { (k : ℕ) → has_place places k ≡ is_pushed_at rows.now level (Some top) k }
+    ensures { FoundOrNone rows.now level result }
+{
+    let mut left = places;
+    while left != 0 {
+        let i = first_of(left);
+        if finds(rows, i, level, Some(top)) {
+            return Some(i);
+        }
+        left = without(left, i);
+    }
+    None
+}
+
+/// A member that the cut at a moment finds, where there are too many for a set of places.
 #[tactic(auto, using(crate::proofs::scans::CutScans::none_tried, crate::proofs::scans::CutScans::one_tried))]
+fn found_of_many(rows: &[Row], level: i64, pushing: Option<Top>) -> Option<u32>
+    requires few { length rows.now ≤ 500 }
+    requires near { (k : ℕ) → IsNearRow (row_at rows.now k) }
+    requires sorted { IsByEst rows.now }
+    requires member { IsMember rows.now level }
+    requires pushing { GivesTop rows.now (part_has rows.now (Cut None level)) 0 pushing }
+    ensures { FoundOrNone rows.now level result }
+{
+    for k in 0..rows.len() {
+        let i = k as u32;
+        if finds(rows, i, level, pushing) {
+            return Some(i);
+        }
+    }
+    None
+}
+
+/// A member that the cut at a moment finds. Whom the cut pushes is told for all first, without a branch:
+/// they are few, and who they are follows no pattern.
 fn found_at(rows: &[Row], level: i64) -> Option<u32>
     requires few { length rows.now ≤ 500 }
     requires near { (k : ℕ) → IsNearRow (row_at rows.now k) }
@@ -201,13 +304,13 @@ fn found_at(rows: &[Row], level: i64) -> Option<u32>
     ensures { FoundOrNone rows.now level result }
 {
     let pushing = top_of(rows, Part::Cut(None, level));
-    for k in 0..rows.len() {
-        let i = k as u32;
-        if finds(rows, i, level, pushing) {
-            return Some(i);
-        }
+    if rows.len() > ROOM {
+        return found_of_many(rows, level, pushing);
     }
-    None
+    match pushing {
+        None => None,
+        Some(top) => found_of(rows, level, top, pushed_of(rows, level, top)),
+    }
 }
 
 /// Whether a member is present, so that a cut ends with it.

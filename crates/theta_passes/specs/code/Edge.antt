@@ -1,5 +1,5 @@
 -- The pass of EDGE: the cuts of the present members, and the candidates that a cut finds.
-use Rattle.std.specs.Prelude.{Bool, List, None, Option, Some, [], false, int_le, int_lt, length, slice_index_or, suc, true, ◌&&◌, ℕ, ℤ, ◌+ℤ◌, ◌<ℤ◌, ◌<◌, ◌∷◌, ◌≡◌, ◌≢◌, ◌≤ℤ◌, ◌≤◌, ◌⊎◌}
+use Rattle.std.specs.Prelude.{Bool, List, None, Option, Some, [], false, int_le, int_lt, length, nat_lt, slice_index_or, suc, true, ◌&&◌, ℕ, ℤ, ◌+ℤ◌, ◌<ℤ◌, ◌<◌, ◌∷◌, ◌≡◌, ◌≢◌, ◌≤ℤ◌, ◌≤◌, ◌⊎◌}
 use Rattle.std.specs.Int.{int_max}
 use Rattle.task_sets.specs.Times.{IsEdgeCut, in_cut, overload_row}
 use Rattle.thetatree.specs.code.Leaves.{Leaves, colour_at}
@@ -24,6 +24,9 @@ IsFound rows k = (is_candidate rows k ≡ true) × (end : ℤ) × (z : ℤ) × (
 abbrev pub is_pushed : Row → ℤ → Option Top → Bool
 is_pushed r level None = false
 is_pushed r level (Some v) = int_lt level r.lct && int_lt r.lst v.value
+
+abbrev pub is_pushed_at : List Row → ℤ → Option Top → ℕ → Bool
+is_pushed_at rows level pushing k = nat_lt k (length rows) && is_pushed (row_at rows k) level pushing
 
 -- whether its numbers tell that the cut with the member is over by then
 abbrev pub is_over_with : Row → ℤ → Option Top → Bool

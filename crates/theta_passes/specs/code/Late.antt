@@ -3,6 +3,7 @@ use Rattle.std.specs.Prelude.{Bool, List, None, Option, Some, cond, false, int_l
 use Rattle.task_sets.specs.Times.{IsEct}
 use Rattle.thetatree.specs.code.Leaves.{Leaves, colour_at}
 use Rattle.thetatree.specs.declared.leaves.Colour.TheVariants.{White}
+use Rattle.theta_passes.specs.code.Places.{has_place}
 use Rattle.theta_passes.specs.code.Rows.{is_candidate, is_present, row_at, says_present, times_at}
 use Rattle.theta_passes.specs.declared.rows.Row.{Row}
 use Rattle.theta_passes.specs.declared.parts.Top.{Top}
@@ -88,3 +89,8 @@ pub record IsLatePassed (t : Leaves) (rows : List Row) (order : List ℕ) (key :
   pub at : (k : ℕ) → IsFilled t rows key k
   pub met : (n : ℕ) → n < done → LateAt rows (slice_index_or order n 0) false
   pub rises : (n : ℕ) → done ≤ n → n < length order → key ≤ℤ key_in rows order n
+
+-- whoever is at none of these places isn't late
+pub record AreLeft (rows : List Row) (left : ℕ) : Type 0 where
+  pub within : (k : ℕ) → has_place left k ≡ true → k < length rows
+  pub rest : (k : ℕ) → has_place left k ≡ false → LateCandidate rows k false

@@ -1,0 +1,5 @@
+use Rattle.theta_passes.proofs.scans.Bound.{AreBound}
+use Rattle.theta_passes.proofs.scan.bound_of.Given as goal
+
+abbrev pub invariant-loop-k : goal.invariant-loop-k
+invariant-loop-k l = AreBound l.rows l.lows l.k l.bound
