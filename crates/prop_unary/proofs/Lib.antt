@@ -3,3 +3,5 @@ pub mod Asked
 pub mod Watching
 pub mod Sets
 pub mod Noted
+pub mod Hearing
+pub mod Reading

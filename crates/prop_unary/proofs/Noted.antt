@@ -1,8 +1,7 @@
 -- The numbers and the rows of members, noted one after the other.
-use Rattle.std.specs.Prelude.{◌≡◌, ℕ, ◌+◌, ◌<◌, ◌≤◌, ℤ, ◌+ℤ◌, pos, Bool, true, false, not, ◌||◌, ◌&&◌, int_le, List, length, nat_eq, nat_lt, Option, Some, None, is_none}
-use Rattle.std.proofs.Common.{◌≢◌, refl, sym, ap, subst, ◌∙◌, arith, inl, inr, get_or, set}
+use Rattle.std.specs.Prelude.{◌≡◌, ℕ, ◌+◌, ◌<◌, ℤ, ◌+ℤ◌, pos, Bool, true, false, not, ◌||◌, ◌&&◌, int_le, List, length, Option, Some, None, is_none}
+use Rattle.std.proofs.Common.{◌≢◌, refl, sym, subst, ◌∙◌, arith, inl, inr, get_or, set}
 use Rattle.std.proofs.lemmas.Bool.{cases_eq}
-use Rattle.std.proofs.lemmas.Bool.Decides.{nat_tests}
 use Rattle.std.proofs.lemmas.List.{get_or-set_same, get_or-set_other}
 use Rattle.sched_base.specs.declared.ids.Itv.{Itv}
 use Rattle.sched_base.specs.declared.ids.Seq.{Seq}
@@ -18,10 +17,8 @@ use Rattle.findings.specs.code.Numbers.{ends_of, highest_end, lowest_start}
 use Rattle.prop_unary.specs.declared.keys.Front.{Front}
 use Rattle.prop_unary.specs.declared.keys.Back.{Back}
 use Rattle.prop_unary.specs.declared.keys.Keys.{Keys}
-use Rattle.prop_unary.specs.declared.places.Places.{Places}
 use Rattle.prop_unary.specs.declared.disjunctive.Disjunctive.{Disjunctive}
-use Rattle.prop_unary.specs.code.Silence.{IsDisjunctive, IsFront, IsBack, IsKeyed, AreKeyed, are_silent_ends, are_silent_keys, are_keys_in_time, is_silent_two, AreSilentOrders, reach, AreSilentWhere}
-use Rattle.prop_unary.specs.code.Rows.{has_place, may_stand, member_at, IsRow}
+use Rattle.prop_unary.specs.code.Silence.{IsDisjunctive, IsFront, IsBack, IsKeyed, are_silent_ends, are_silent_keys, are_keys_in_time, is_silent_two, AreSilentOrders, reach, AreSilentWhere}
 use Rattle.prop_unary.proofs.Asked.{silent_same, silent_tested}
 
 -- one more at its place
@@ -41,14 +38,6 @@ HasKeys r xs i k = (x : Itv) → IsKeyed (ends_of (bounds_of r (get_or xs i x)))
 pub keys_set : (r : Region) (xs : List Itv) (ks : List Keys) (n : ℕ) (k : Keys) → n < length ks → ((i : ℕ) → i < n → (d : Keys) (x : Itv) → IsKeyed (ends_of (bounds_of r (get_or xs i x))) (get_or ks i d)) → ((x : Itv) → IsKeyed (ends_of (bounds_of r (get_or xs n x))) k)
     → (i : ℕ) → i < n + 1 → (d : Keys) (x : Itv) → IsKeyed (ends_of (bounds_of r (get_or xs i x))) (get_or (set ks n k) i d)
 keys_set r xs ks n k within before here = each_set (HasKeys r xs) ks n k within before here
-
-pub rows_set : (r : Region) (p : Seq) (xs ys : List Itv) (rows : List Places) (n : ℕ) (row : Places) → n < length rows → ((k : ℕ) → k < n → (d : Places) → IsRow r p (member_at xs k) ys (get_or rows k d)) → IsRow r p (member_at xs n) ys row
-    → (k : ℕ) → k < n + 1 → (d : Places) → IsRow r p (member_at xs k) ys (get_or (set rows n row) k d)
-rows_set r p xs ys rows n row within before here = each_set (λ k. IsRow r p (member_at xs k) ys) rows n row within before here
-
-pub keyed_at : (r : Region) (xs : List Itv) (ks : List Keys) (i : ℕ) (x d : Itv) (k e : Keys) → AreKeyed r xs ks → i < length xs → x ≡ get_or xs i d → k ≡ get_or ks i e → IsKeyed (ends_of (bounds_of r x)) k
-keyed_at r xs ks i x d k e noted within at is =
-    subst (λ (y : Itv). IsKeyed (ends_of (bounds_of r y)) k) (sym at) (subst (λ (j : Keys). IsKeyed (ends_of (bounds_of r (get_or xs i d))) j) (sym is) (noted i within e d))
 
 -- what the keys of two show
 unless : (p q s : Bool) → (p ≡ false → q ≡ false → s ≡ true) → (p || q || s) ≡ true
@@ -100,40 +89,3 @@ silent_by_test m r best d o a b is test = elim (cases_eq a.0 b.0) [
   | inl same ↦ silent_same m r best d o a b is same
   | inr apart ↦ silent_tested m r best d o a b is apart test
 ]
-
--- a row, one place after the other
-abbrev pub IsFilled : Region → Seq → Itv → List Itv → ℕ → Places → Type 0
-IsFilled r p x ys n s = (k : ℕ) → has_place s k ≡ (nat_lt k n && may_stand r p x (member_at ys k))
-
-pub row_begins : (r : Region) (p : Seq) (x : Itv) (ys : List Itv) (s : Places) → ((k : ℕ) → has_place s k ≡ false) → IsFilled r p x ys 0 s
-row_begins r p x ys s none k = none k ∙ sym (never k)
-  where
-    never : (k : ℕ) → (nat_lt k 0 && may_stand r p x (member_at ys k)) ≡ false
-    never k = ap (λ t. t && may_stand r p x (member_at ys k)) (not_below k)
-      where
-        not_below : (k : ℕ) → nat_lt k 0 ≡ false
-        not_below k = grind (arith, nat_tests)
-
-more_place : (k n : ℕ) (t : Bool) → (k ≡ n → t ≡ false) → (nat_lt k n && t) ≡ (nat_lt k (n + 1) && t)
-more_place k n true off = grind (arith, nat_tests)
-more_place k n false off = grind (arith, nat_tests)
-
-new_place : (k n : ℕ) (t : Bool) → (k ≡ n → t ≡ true) → (nat_eq k n || (nat_lt k n && t)) ≡ (nat_lt k (n + 1) && t)
-new_place k n true on = grind (arith, nat_tests)
-new_place k n false on = grind (arith, nat_tests)
-
-row_passes : (r : Region) (p : Seq) (x : Itv) (ys : List Itv) (n : ℕ) (s t : Places) → IsFilled r p x ys n s → ((k : ℕ) → has_place t k ≡ has_place s k) → may_stand r p x (member_at ys n) ≡ false → IsFilled r p x ys (n + 1) t
-row_passes r p x ys n s t before is off k = is k ∙ before k ∙ more_place k n (may_stand r p x (member_at ys k)) (λ e. ap (λ i. may_stand r p x (member_at ys i)) e ∙ off)
-
-row_takes : (r : Region) (p : Seq) (x : Itv) (ys : List Itv) (n : ℕ) (s t : Places) → IsFilled r p x ys n s → ((k : ℕ) → has_place t k ≡ (nat_eq k n || has_place s k)) → may_stand r p x (member_at ys n) ≡ true → IsFilled r p x ys (n + 1) t
-row_takes r p x ys n s t before is on k = is k ∙ ap (λ b. nat_eq k n || b) (before k) ∙ new_place k n (may_stand r p x (member_at ys k)) (λ e. ap (λ i. may_stand r p x (member_at ys i)) e ∙ on)
-
-pub row_puts : (r : Region) (p : Seq) (x : Itv) (ys : List Itv) (n : ℕ) (s t : Places) (b : Bool) → IsFilled r p x ys n s → ((k : ℕ) → has_place t k ≡ ((b && nat_eq k n) || has_place s k)) → b ≡ may_stand r p x (member_at ys n) → IsFilled r p x ys (n + 1) t
-row_puts r p x ys n s t true before is told = row_takes r p x ys n s t before is (sym told)
-row_puts r p x ys n s t false before is told = row_passes r p x ys n s t before is (sym told)
-
-pub row_ends : (r : Region) (p : Seq) (x : Itv) (ys : List Itv) (n : ℕ) (s : Places) → length ys ≤ n → IsFilled r p x ys n s → IsRow r p x ys s
-row_ends r p x ys n s all filled k below = filled k ∙ ap (λ t. t && may_stand r p x (member_at ys k)) (is_below k (omega (arith, all, below)))
-  where
-    is_below : (k : ℕ) → k < n → nat_lt k n ≡ true
-    is_below k h = grind (arith, nat_tests)

@@ -1,4 +1,5 @@
 pub mod Circles
+pub mod Heard
 pub mod Rows
 pub mod Silence
 pub mod Tables

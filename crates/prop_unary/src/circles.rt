@@ -11,7 +11,7 @@ ghost use Rattle.refute_seq.specs.declared.witness.SeqWitness.TheVariants as wit
 ghost use Rattle.refute_seq.specs.Standing.{precedes};
 ghost use Rattle.refute_seq.specs.OnSequence.{refutes};
 ghost use Rattle.prop_unary.specs.code.Tasks.{IsSilent, quiet};
-ghost use Rattle.prop_unary.specs.code.Rows.{has_place, may_stand, member_at, IsRow, AreRows};
+ghost use Rattle.prop_unary.specs.code.Rows.{has_place, member_at, AreRows, AreEmpty, AreRead, IsOrderNoted};
 ghost use Rattle.prop_unary.specs.code.Circles.{EachOf, IsMet, SilentBehind, SilentAround, SilentAt};
 
 use crate::places::Places;
@@ -162,36 +162,65 @@ fn ask_behind(
     None
 }
 
-/// Whether the first of two members of a sequence may stand before the second, as the region tells:
-/// neither is absent, and it is told to.
-fn may_stand(look: &Look<'_>, p: Seq, x: Itv, y: Itv) -> bool
-    ensures { result ≡ may_stand look.now.region p x y }
+/// Puts an empty row at each place below one.
+fn clear_rows(n: usize, rows: &mut [Places])
+    requires { n ≤ length rows.old }
+    ensures same { length rows.new ≡ length rows.old }
+    ensures cleared { AreEmpty rows.new n }
 {
-    !is_away(look, x) & !is_away(look, y) & precedes(look, p, x, y)
-}
-
-/// The places of the members that one may stand before.
-#[tactic(auto, using(crate::proofs::Noted::row_begins, crate::proofs::Noted::row_ends))]
-fn row_of(look: &Look<'_>, p: Seq, x: Itv, members: &[Itv]) -> Places
-    requires { length members.now ≤ 500 }
-    ensures { IsRow look.now.region p x members.now result }
-{
-    let mut row = Places::none();
-    for k in 0..members.len() {
-        row.put(k, may_stand(look, p, x, members[k]));
+    for i in 0..n {
+        rows[i] = Places::none();
     }
-    row
 }
 
-/// Puts the row of each member at its place.
+/// Puts the order of the members at two places into their rows.
+fn note_order(order: OrderCell, i: usize, k: usize, rows: &mut [Places])
+    requires first { i < length rows.old }
+    requires second { k < length rows.old }
+    requires first_few { i < 512 }
+    requires second_few { k < 512 }
+    ensures same { length rows.new ≡ length rows.old }
+    ensures noted { IsOrderNoted order i k rows.old rows.new }
+{
+    match order {
+        OrderCell::Unknown => {}
+        OrderCell::Forward => rows[i].put(k, true),
+        OrderCell::Backward => rows[k].put(i, true),
+    }
+}
+
+/// Puts the orders of a member and those at later places into their rows. One who is absent stands in
+/// none.
+fn note_row(look: &Look<'_>, p: Seq, members: &[Itv], i: usize, rows: &mut [Places])
+    requires few { length members.now ≤ 500 }
+    requires room { length members.now ≤ length rows.old }
+    requires here { i < length members.now }
+    requires before { AreRead look.now.region p members.now rows.old i 0 }
+    ensures same { length rows.new ≡ length rows.old }
+    ensures noted { AreRead look.now.region p members.now rows.new (i + 1) 0 }
+{
+    if is_away(look, members[i]) {
+        return;
+    }
+    for k in i + 1..members.len() {
+        if is_away(look, members[k]) {
+            continue;
+        }
+        note_order(look.order(p, members[i], members[k]), i, k, rows);
+    }
+}
+
+/// Puts the row of each member at its place: the places of the members that it may stand before. The
+/// order of two is read once for both.
 fn note_rows(look: &Look<'_>, p: Seq, members: &[Itv], rows: &mut [Places])
     requires few { length members.now ≤ 500 }
     requires room { length members.now ≤ length rows.old }
     ensures same { length rows.new ≡ length rows.old }
     ensures noted { AreRows look.now.region p members.now members.now rows.new }
 {
+    clear_rows(members.len(), rows);
     for i in 0..members.len() {
-        rows[i] = row_of(look, p, members[i], members);
+        note_row(look, p, members, i, rows);
     }
 }
 

@@ -1,10 +1,11 @@
 //! Sets of places among the members of a sequence, a bit for each.
-ghost use Rattle.std.specs.Prelude.{◌≡◌, ◌<◌, ◌≤◌, ℕ, true, false, ◌||◌, ◌&&◌, length, nat_eq, nat_lt};
+ghost use Rattle.std.specs.Prelude.{◌≡◌, ◌<◌, ◌≤◌, ℕ, true, false, not, ◌||◌, ◌&&◌, length, nat_eq, nat_lt};
 ghost use Rattle.prop_unary.specs.code.Rows.{has_place, has_word};
 
 const WORDS: usize = 8;
 
-const BITS: usize = 64;
+/// How many places have room in a word.
+pub const BITS: usize = 64;
 
 /// A set of places below 512.
 #[derive(Clone, Copy, Debug)]
@@ -19,13 +20,31 @@ fn is_part(word: u64, of: u64) -> bool
     word & of == word
 }
 
-/// A word with one more bit, if that is set.
-fn with_bit(word: u64, b: usize, is_set: bool) -> u64
+/// A word with one more bit, if that is set: which are follows no pattern, so it takes no branch.
+pub fn with_bit(word: u64, b: usize, is_set: bool) -> u64
     requires { b < 64 }
     ensures { (i : ℕ) → has_word result i ≡ ((is_set && nat_eq i b) || has_word word i) }
 {
-    let with = word | (1 << b);
-    if is_set { with } else { word }
+    word | (u64::from(is_set) << b)
+}
+
+/// The first bit of a word.
+pub fn first_bit(word: u64) -> usize
+    requires { 0 < word }
+    ensures room { result < 64 }
+    ensures there { has_word word result ≡ true }
+{
+    word.trailing_zeros() as usize
+}
+
+/// A word without one of its bits.
+pub fn without_bit(word: u64, b: usize) -> u64
+    requires room { b < 64 }
+    requires there { has_word word b ≡ true }
+    ensures less { result < word }
+    ensures rest { (i : ℕ) → has_word result i ≡ (not (nat_eq i b) && has_word word i) }
+{
+    word & !(1 << b)
 }
 
 fn has_bit(word: u64, b: usize) -> bool
@@ -43,7 +62,7 @@ impl Places {
         Places { words: [0; WORDS] }
     }
 
-    /// Puts a place into the set, if it is to be in it: which are follows no pattern, so it takes no branch.
+    /// Puts a place into the set, if it is to be in it.
     pub fn put(&mut self, k: usize, is_in: bool)
         requires { k < 512 }
         ensures { (j : ℕ) → has_place self.new j ≡ ((is_in && nat_eq j k) || has_place self.old j) }
