@@ -47,8 +47,9 @@ fn start_heights(look: &Look<'_>, heights: &mut Vec<i64>) -> Result<(), NoMemory
     first_heights(look, heights)
 }
 
-/// Whether the kept heights fall along all arcs that the look shows, or else the first ones, which are
-/// kept then: these mostly do where precedences and orders have pushed all moments that they push.
+/// Whether the first heights fall along all arcs that the look shows, or else the kept ones; those that do
+/// are kept. The first ones mostly do where precedences and orders have pushed all moments that they push,
+/// and the kept ones, which are older, hardly ever where these don't.
 fn settle(
     model: &Model,
     look: &Look<'_>,
@@ -62,15 +63,12 @@ fn settle(
 {
     // Called for its clause alone.
     let _ = model.intervals();
-    if all_fall(model, look, heights) {
+    first_heights(look, first)?;
+    if all_fall(model, look, first) {
+        std::mem::swap(heights, first);
         return Ok(true);
     }
-    first_heights(look, first)?;
-    if !all_fall(model, look, first) {
-        return Ok(false);
-    }
-    std::mem::swap(heights, first);
-    Ok(true)
+    Ok(all_fall(model, look, heights))
 }
 
 /// The heights that the last search ended with in place of those that it began with.
