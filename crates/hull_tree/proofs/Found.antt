@@ -55,7 +55,7 @@ has_still (w ∷ ws) x z h = by_case (same z w) (has_still ws x z) h
     by_case true f h = refl
     by_case false f h = f h
 
-default : (ats : List Atom) (n : ℕ) (d e : Atom) → n < length ats → get_or ats n d ≡ get_or ats n e
+pub default : (ats : List Atom) (n : ℕ) (d e : Atom) → n < length ats → get_or ats n d ≡ get_or ats n e
 default [] n d e h = absurd (omega (arith, h))
 default (z ∷ zs) zero d e h = refl
 default (z ∷ zs) (suc n) d e h = default zs n d e (omega (arith, h))
@@ -73,7 +73,7 @@ intervals_more n ats xs ys a before kept at within noted i b below is = elim (ca
 abbrev pub IsPoint : List Atom → ℕ → ℕ → Type 0
 IsPoint ats f k = IsPartitionPoint (λ a. nat_lt (key_of a) f ≡ true) (λ a. nat_lt (key_of a) f ≡ false) ats k
 
-not_before : (ats : List Atom) (x : Itv) (first f k i j : ℕ) → f ≡ key_at x first → IsPoint ats f k → first ≤ i → get_or ats j (atom_at x i) ≡ atom_at x i → k ≤ j
+pub not_before : (ats : List Atom) (x : Itv) (first f k i j : ℕ) → f ≡ key_at x first → IsPoint ats f k → first ≤ i → get_or ats j (atom_at x i) ≡ atom_at x i → k ≤ j
 not_before ats x first f k i j f_is point from is = decided (nat_lt j k) refl
   where
     below : (a b : ℕ) → nat_lt a b ≡ true → a < b

@@ -3,3 +3,4 @@ pub mod Placing
 pub mod Meant
 pub mod Found
 pub mod Whole
+pub mod Reaching

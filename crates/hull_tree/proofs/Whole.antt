@@ -96,8 +96,9 @@ same_but g r = by_topic (topic g)
 pub differ_at : (m : Data) (t : Tree) (g : Guess) (r q : Region) (w : Itv × Itv) → w ≡ changed (topic g) → q ≡ looked_at (Some g) r → IsEvaluated m r t → DifferAt m t.nodes w.0 w.1 t.ends q
 differ_at m t g r q w is look ends = record { before = r; ends = ends; same = subst (λ p. AreSameBut w.0 w.1 r p) (sym look) (subst (λ (v : Itv × Itv). AreSameBut v.0 v.1 r (looked_at (Some g) r)) (sym is) (same_but g r)) }
 
-pub kept_differ : (m : Data) (t : Tree) (g : Guess) (r q : Region) (w : Itv × Itv) (ns : List Node) (es : List Ends) → w ≡ changed (topic g) → q ≡ looked_at (Some g) r → IsEvaluated m r t → ns ≡ t.nodes → es ≡ t.ends → DifferAt m ns w.0 w.1 es q
-kept_differ m t g r q w ns es is look ends nodes same = rw (nodes, same) (differ_at m t g r q w is look ends)
+pub walk_differs : (m : Data) (t : Tree) (g : Guess) (r q : Region) (w : Itv × Itv) (ns : List Node) (es : List Ends) (x y : Itv) → w ≡ changed (topic g) → q ≡ looked_at (Some g) r → IsEvaluated m r t → ns ≡ t.nodes → es ≡ t.ends → x ≡ w.0 → y ≡ w.1
+    → DifferAt m ns x y es q
+walk_differs m t g r q w ns es x y is look ends nodes same first second = rw (nodes, same, first, second) (differ_at m t g r q w is look ends)
 
 -- the tree of nodes that mean an expression
 listed : (ns : List Node) (ats : List Atom) (xs : List Itv) (x : Itv) → AreAtoms ns ats → HasIntervals (length ats) ats xs → IsNamed ns x → has xs x ≡ true

@@ -1,5 +1,5 @@
 //! Where the intervals of an expression stand among its nodes.
-ghost use Rattle.std.specs.Prelude.{◌≡◌, ◌<◌, ◌+◌, ◌^◌, length, true, false, IfOk, OnOk, IsTrue, nat_lt};
+ghost use Rattle.std.specs.Prelude.{◌≡◌, ◌≤◌, ◌<◌, ◌+◌, ◌^◌, length, true, false, IfOk, OnOk, IsTrue, nat_lt};
 ghost use Rattle.std.specs.List.Sorted.{IsNonDecreasingBy, IsPartitionPoint, IsPermutation};
 ghost use Rattle.sched_model.specs.Data.{has};
 ghost use Rattle.hull_tree.specs.code.Atoms.{AreAtoms, HasAtomsBelow, HasIntervals, IsClear, key_at, key_of};
@@ -17,13 +17,13 @@ pub struct Atom {
 }
 
 /// Atoms are in the order of their intervals, and those of one interval in that of their places.
-fn key_at(x: Itv, place: u32) -> u64
+pub fn key_at(x: Itv, place: u32) -> u64
     ensures { result ≡ key_at x place }
 {
     u64::from(x.0) * 4_294_967_296 + u64::from(place)
 }
 
-fn key_of(atom: Atom) -> u64
+pub fn key_of(atom: Atom) -> u64
     ensures { result ≡ key_of atom }
 {
     key_at(atom.interval, atom.place)
@@ -88,14 +88,16 @@ pub fn intervals_of(alloc: Global, atoms: &[Atom]) -> Result<Vec<Itv>, NoMemory>
 }
 
 /// How many atoms have a key below this one. They come first, and are counted by halving.
-fn count_below(atoms: &[Atom], key: u64) -> usize
+pub fn count_below(atoms: &[Atom], key: u64) -> usize
     requires { IsNonDecreasingBy key_of atoms.now }
-    ensures { IsPartitionPoint (λ a. nat_lt (key_of a) key ≡ true) (λ a. nat_lt (key_of a) key ≡ false) atoms.now result }
+    ensures bound { result ≤ length atoms.now }
+    ensures point { IsPartitionPoint (λ a. nat_lt (key_of a) key ≡ true) (λ a. nat_lt (key_of a) key ≡ false) atoms.now result }
 {
     atoms.partition_point(|a| key_of(*a) < key)
 }
 
-/// Whether an interval has an atom in a span.
+/// Whether an interval has an atom in a span, by a search among all atoms.
+#[inline(never)]
 #[tactic(auto, using(crate::proofs::Found::clear_end))]
 pub fn reaches(atoms: &[Atom], x: Itv, span: Span) -> bool
     requires { IsNonDecreasingBy key_of atoms.now }

@@ -8,6 +8,7 @@ mod building;
 mod combine;
 mod nodes;
 mod put;
+mod reach;
 mod tree;
 mod walk;
 

@@ -7,14 +7,15 @@ ghost use Rattle.region.specs.Guesses.{admits, looked_at, topic};
 ghost use Rattle.region.specs.Looks.{IsRegionOf};
 ghost use Rattle.look_hull.specs.LookHull.{look_hull};
 ghost use Rattle.hull_tree.specs.code.Nodes.{AreNodes, DifferAt};
-ghost use Rattle.hull_tree.specs.code.Atoms.{AreAtoms};
+ghost use Rattle.hull_tree.specs.code.Atoms.{AreAtoms, HasReach};
 ghost use Rattle.hull_tree.specs.code.Trees.{IsTreeOf, IsEvaluated, IsRootRange, changed};
 
 use crate::atoms::{Atom, atoms_of, intervals_of};
 use crate::building::build;
 use crate::combine::{Ends, narrowed};
 use crate::nodes::{Node, Op, Span};
-use crate::walk::{Kept, evaluate, under};
+use crate::reach::{other_reach, reach_of};
+use crate::walk::{Walk, evaluate, under};
 use region::{Guess, Look, Region};
 use sched_base::{Itv, NoMemory};
 use sched_model::{CompareOp, Expr, Model};
@@ -118,18 +119,25 @@ impl HullTree {
         );
     }
 
-    /// All nodes with what is kept of them.
-    fn kept(&self) -> Kept<'_>
+    /// All nodes with what is kept of them, and where two intervals stand.
+    fn walk(&self, x: Itv, y: Itv) -> Walk<'_>
         ensures nodes { result.nodes.now ≡ self.now.nodes }
         ensures ends { result.ends.now ≡ self.now.ends }
         ensures spans { AreNodes result.nodes.now result.spans.now }
         ensures atoms { AreAtoms result.nodes.now result.atoms.now }
+        ensures intervals { (result.x.interval ≡ x) × (result.y.interval ≡ y) }
+        ensures reaches { HasReach result.atoms.now result.x × HasReach result.atoms.now result.y }
     {
-        Kept {
+        let atoms = self.atoms.as_slice();
+        let of_x = reach_of(atoms, x);
+        let of_y = other_reach(atoms, of_x, y);
+        Walk {
             nodes: self.nodes.as_slice(),
             spans: self.spans.as_slice(),
-            atoms: self.atoms.as_slice(),
+            atoms,
             ends: self.ends.as_slice(),
+            x: of_x,
+            y: of_y,
         }
     }
 
@@ -139,8 +147,8 @@ impl HullTree {
         requires differ { DifferAt model.now self.now.nodes x y self.now.ends look.now.region }
         ensures { IsRootRange model.now self.now look.now.region result }
     {
-        let kept = self.kept();
-        under(model, look, &kept, x, y, self.root)
+        let walk = self.walk(x, y);
+        under(model, look, &walk, self.root)
     }
 
     fn root_ends(&self, model: &Model, region: &Region, guess: Option<Guess>) -> Ends
@@ -184,11 +192,11 @@ impl HullTree {
         };
         let (x, y) = changed(guess);
         let look = region.look(Some(guess), None);
-        let kept = self.kept();
+        let walk = self.walk(x, y);
         Some(Sides {
             op,
-            left: narrowed(under(model, &look, &kept, x, y, a)),
-            right: narrowed(under(model, &look, &kept, x, y, b)),
+            left: narrowed(under(model, &look, &walk, a)),
+            right: narrowed(under(model, &look, &walk, b)),
         })
     }
 }

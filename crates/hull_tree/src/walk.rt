@@ -4,13 +4,13 @@ ghost use Rattle.region.specs.Looks.{IsRegionOf};
 ghost use Rattle.hull_tree.specs.code.Nodes.{AreNodes, AreEnds, DifferAt, IsEndsOf, IsThere, node_ends};
 ghost use Rattle.std.specs.Prelude.{true};
 ghost use Rattle.std.specs.List.Sorted.{IsNonDecreasingBy};
-ghost use Rattle.hull_tree.specs.code.Atoms.{AreAtoms, IsClear, key_of};
+ghost use Rattle.hull_tree.specs.code.Atoms.{AreAtoms, HasReach, IsClear, key_of};
 
-use crate::atoms::{Atom, reaches};
+use crate::atoms::Atom;
 use crate::combine::{Ends, combine, leaf_ends};
 use crate::nodes::{Node, Span};
+use crate::reach::{Reach, is_clear_of};
 use region::Look;
-use sched_base::Itv;
 use sched_model::Model;
 
 fn of_node(model: &Model, look: &Look<'_>, ends: &[Ends], node: Node) -> Ends
@@ -38,51 +38,72 @@ pub fn evaluate(model: &Model, look: &Look<'_>, nodes: &[Node], spans: &[Span], 
     }
 }
 
-/// Nodes with what is kept of them.
+/// What a walk goes by: nodes with what is kept of them, and from where to where the two intervals
+/// stand that are changed. These are looked up once, and not at each node.
 #[derive(Drop)]
-pub struct Kept<'a> {
+pub struct Walk<'a> {
     pub nodes: &'a [Node],
     pub spans: &'a [Span],
     pub atoms: &'a [Atom],
     pub ends: &'a [Ends],
+    pub x: Reach,
+    pub y: Reach,
 }
 
 /// Whether nothing at these places tells of either interval.
-fn is_clear(atoms: &[Atom], x: Itv, y: Itv, span: Span) -> bool
-    requires { IsNonDecreasingBy key_of atoms.now }
-    ensures { result ≡ true → IsClear atoms.now x span × IsClear atoms.now y span }
+fn is_clear(walk: &Walk<'_>, span: Span) -> bool
+    requires rising { IsNonDecreasingBy key_of walk.now.atoms.now }
+    requires reaches { HasReach walk.now.atoms.now walk.now.x × HasReach walk.now.atoms.now walk.now.y }
+    ensures { result ≡ true → IsClear walk.now.atoms.now walk.now.x.interval span × IsClear walk.now.atoms.now walk.now.y.interval span }
 {
-    if reaches(atoms, x, span) {
+    if !is_clear_of(walk.atoms, walk.x, span) {
         return false;
     }
-    if x.0 == y.0 {
+    if walk.x.interval.0 == walk.y.interval.0 {
         return true;
     }
-    !reaches(atoms, y, span)
+    is_clear_of(walk.atoms, walk.y, span)
 }
 
 /// The range of a node in a look that tells the same as before but of two intervals. It turns back at
-/// every node under which none of these is told of.
-pub fn under(model: &Model, look: &Look<'_>, kept: &Kept<'_>, x: Itv, y: Itv, i: u32) -> Ends
+/// every node under which none of these is told of, which takes no call.
+#[cycle(under)]
+#[inline(always)]
+pub fn under(model: &Model, look: &Look<'_>, walk: &Walk<'_>, i: u32) -> Ends
     requires of { IsRegionOf model.now look.now.region }
-    requires nodes { AreNodes kept.now.nodes.now kept.now.spans.now }
-    requires atoms { AreAtoms kept.now.nodes.now kept.now.atoms.now }
-    requires differ { DifferAt model.now kept.now.nodes.now x y kept.now.ends.now look.now.region }
-    requires within { i < length kept.now.nodes.now }
-    ensures { IsEndsOf model.now kept.now.nodes.now look.now.region i result }
+    requires nodes { AreNodes walk.now.nodes.now walk.now.spans.now }
+    requires atoms { AreAtoms walk.now.nodes.now walk.now.atoms.now }
+    requires reaches { HasReach walk.now.atoms.now walk.now.x × HasReach walk.now.atoms.now walk.now.y }
+    requires differ { DifferAt model.now walk.now.nodes.now walk.now.x.interval walk.now.y.interval walk.now.ends.now look.now.region }
+    requires within { i < length walk.now.nodes.now }
+    ensures { IsEndsOf model.now walk.now.nodes.now look.now.region i result }
 {
     let n = i as usize;
-    if is_clear(kept.atoms, x, y, kept.spans[n]) {
-        return kept.ends[n];
+    if is_clear(walk, walk.spans[n]) {
+        return walk.ends[n];
     }
-    match kept.nodes[n] {
+    visited(model, look, walk, i)
+}
+
+/// The range of a node under which one of them is told of.
+#[cycle(under)]
+fn visited(model: &Model, look: &Look<'_>, walk: &Walk<'_>, i: u32) -> Ends
+    requires of { IsRegionOf model.now look.now.region }
+    requires nodes { AreNodes walk.now.nodes.now walk.now.spans.now }
+    requires atoms { AreAtoms walk.now.nodes.now walk.now.atoms.now }
+    requires reaches { HasReach walk.now.atoms.now walk.now.x × HasReach walk.now.atoms.now walk.now.y }
+    requires differ { DifferAt model.now walk.now.nodes.now walk.now.x.interval walk.now.y.interval walk.now.ends.now look.now.region }
+    requires within { i < length walk.now.nodes.now }
+    ensures { IsEndsOf model.now walk.now.nodes.now look.now.region i result }
+{
+    match walk.nodes[i as usize] {
         Node::Leaf(leaf) => leaf_ends(model, look, leaf),
         Node::Pair(op, a, b) => {
-            let r = under(model, look, kept, x, y, a);
+            let r = under(model, look, walk, a);
             if a == b {
                 return combine(op, r, r);
             }
-            let s = under(model, look, kept, x, y, b);
+            let s = under(model, look, walk, b);
             combine(op, r, s)
         }
     }

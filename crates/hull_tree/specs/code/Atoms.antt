@@ -7,6 +7,7 @@ use Rattle.sched_model.specs.Data.{has}
 use Rattle.hull_tree.specs.declared.atoms.Atom.{Atom}
 use Rattle.hull_tree.specs.declared.nodes.Node.{Node}
 use Rattle.hull_tree.specs.declared.nodes.Span.{Span}
+use Rattle.hull_tree.specs.declared.reach.Reach.{Reach}
 use Rattle.hull_tree.specs.code.Nodes.{node_at, named}
 
 abbrev pub atom_at : Itv → ℕ → Atom
@@ -34,3 +35,7 @@ HasIntervals n ats xs = (i : ℕ) (a : Atom) → i < n → slice_index_or ats i 
 -- the interval has no atom in the span
 abbrev pub IsClear : List Atom → Itv → Span → Type 0
 IsClear ats x s = (i : ℕ) → s.first ≤ i → i ≤ s.last → Contains ats (atom_at x i) → ⊥
+
+-- no atom of the interval stands before the first place of its reach, or behind the last
+abbrev pub HasReach : List Atom → Reach → Type 0
+HasReach ats r = (i : ℕ) → i < 2 ^ 32 → Contains ats (atom_at r.interval i) → (r.first ≤ i) × (i ≤ r.last)
