@@ -299,14 +299,7 @@ pub fn answer_edge(
     let u = few_ids(alloc, model, members, &found.u)?;
     let v = few_ids(alloc, model, members, &found.v)?;
     let i = member_at(members, found.place);
-    let w = SeqWitness::Edge {
-        c,
-        side: side_of(back),
-        i: i.0,
-        s,
-        u,
-        v,
-    };
+    let w = SeqWitness::edge(alloc, c, side_of(back), i.0, s, u, v)?;
     Ok(answer_reaching(model, region, best, c, i, far, likely_pushed(back, i), w))
 }
 

@@ -62,8 +62,8 @@ fn row(model: &Model, look: &Look<'_>, w: &SeqWitness) -> bool
             *side,
             *i,
             s.as_slice(),
-            u.as_slice(),
-            v.as_slice(),
+            u.get().as_slice(),
+            v.get().as_slice(),
         ),
         SeqWitness::NotEnd { c, side, i, s } => {
             not_end(model, look, *c, *side, *i, s.as_slice())

@@ -56,9 +56,9 @@ impl Numbers for SeqWitness {
             } => {
                 are_numbers(*c, *side, *i)
                     && is_number_set(s.as_slice())
-                    && is_number_set(u.as_slice())
-                    && is_number_set(v.as_slice())
-                    && is_count(edge_count(s.as_slice(), u.as_slice(), v.as_slice()))
+                    && is_number_set(u.get().as_slice())
+                    && is_number_set(v.get().as_slice())
+                    && is_count(edge_count(s.as_slice(), u.get().as_slice(), v.get().as_slice()))
             }
             SeqWitness::NotEnd { c, side, i, s } => {
                 are_numbers(*c, *side, *i)
@@ -95,7 +95,7 @@ impl Numbers for SeqWitness {
                 s,
                 u,
                 v,
-            } => edge_count(s.as_slice(), u.as_slice(), v.as_slice()),
+            } => edge_count(s.as_slice(), u.get().as_slice(), v.get().as_slice()),
             SeqWitness::NotEnd {
                 c: _,
                 side: _,
@@ -144,7 +144,7 @@ impl Numbers for SeqWitness {
                 1 => i64::from(*c),
                 2 => i64::from(*side),
                 3 => i64::from(*i),
-                _ => number_in_three(s.as_slice(), u.as_slice(), v.as_slice(), n - 4),
+                _ => number_in_three(s.as_slice(), u.get().as_slice(), v.get().as_slice(), n - 4),
             },
             SeqWitness::NotEnd { c, side, i, s } => match n {
                 0 => NOT_END,
@@ -272,14 +272,8 @@ fn edge(
     if !is_count(4 + numbers.len()) {
         return Ok(None);
     }
-    Ok(Some(SeqWitness::Edge {
-        c: f.c,
-        side: f.side,
-        i: f.i,
-        s,
-        u,
-        v,
-    }))
+    let witness = SeqWitness::edge(alloc, f.c, f.side, f.i, s, u, v)?;
+    Ok(Some(witness))
 }
 
 fn not_end(

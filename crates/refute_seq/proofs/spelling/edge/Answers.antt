@@ -1,7 +1,8 @@
-use Rattle.std.specs.Prelude.{◌≡◌, ◌+◌, ◌++◌, drop, length, IsTrue, true}
-use Rattle.std.proofs.Common.{rules}
+use Rattle.std.specs.Prelude.{◌≡◌, ◌+◌, ◌++◌, ◌∷◌, pos, drop, length, IsTrue, true}
+use Rattle.std.proofs.Common.{rules, sym, subst}
 use Rattle.sched_model.specs.Bounds.{is_number}
-use Rattle.refute_seq.specs.Witness.{set_numbers, is_number_set}
+use Rattle.refute_seq.specs.declared.witness.SeqWitness.{SeqWitness}
+use Rattle.refute_seq.specs.Witness.{numbers_of, is_valid, set_numbers, is_number_set}
 use Rattle.refute_seq.proofs.KindReading.{HeadIs, no_head, no_second, no_third, three_read, none_of, some_of, edge_said, edge_made}
 use Rattle.refute_seq.proofs.spelling.edge.Goals as goal
 
@@ -38,4 +39,5 @@ returns-clause-some c =
     let last : c.behind.result.now ≡ drop (1 + length u) c.behind-parts.result.now = search rules in
     let head : HeadIs c.args.c c.args.side c.args.i c.in-Some.f = record { first = search rules; second = search rules; third = search rules; small = search rules } in
     let count : true ≡ is_number (4 + length c.args.numbers.now) = search rules in
-    edge_made c.args.c c.args.side c.args.i c.in-Some.f s u v c.args.numbers.now head (three_read s u v c.args.numbers.now c.behind-parts.result.now c.behind.result.now first.0 parts second.0 last third.0) first.1 second.1 third.1 count
+    subst (λ (w : SeqWitness). (numbers_of w ≡ pos 3 ∷ c.args.c ∷ c.args.side ∷ c.args.i ∷ c.args.numbers.now) × IsTrue (is_valid w)) (sym c.in_ok-witness.ensures)
+    (edge_made c.args.c c.args.side c.args.i c.in-Some.f s u v c.args.numbers.now head (three_read s u v c.args.numbers.now c.behind-parts.result.now c.behind.result.now first.0 parts second.0 last third.0) first.1 second.1 third.1 count)
