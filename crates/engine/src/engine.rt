@@ -93,17 +93,6 @@ impl<P: Propagator> Engine<P> {
             .wake_each(self.watchers.of(cell), self.homes.as_slice());
     }
 
-    /// Wakes whoever watches the cell. So where a region differs in it alone from another for which
-    /// all that weren't awake were quiet, all that aren't awake now are quiet for it.
-    pub fn wake(&mut self, cell: CellName)
-        ensures made { (m : Data) → IsFor P.Propagator m self.old → IsFor P.Propagator m self.new }
-        ensures kept { (k : ℕ) → IsTrue (is_awake self.old.waking k) → IsTrue (is_awake self.new.waking k) }
-        ensures calm { (m : Data) (r q : Cells) (best : Option ℤ) → IsFor P.Propagator m self.old → IsRegionOf m r → IsRegionOf m q → AreSameBut cell r q
-            → IsCalm P.Propagator m r best self.old → IsCalm P.Propagator m q best self.new }
-    {
-        self.plain_wake(cell);
-    }
-
     fn plain_wake_best(&mut self)
         ensures same { self.new ≡ record self.old { waking = self.new.waking } }
         ensures wakes { WakesEach self.old.watching.by_best self.old.waking self.new.waking }
@@ -143,25 +132,30 @@ impl<P: Propagator> Engine<P> {
     /// Tells the propagators of a cell that isn't as it was.
     #[tactic(auto, using(crate::proofs::Waking::told_for, crate::proofs::Waking::told_calm))]
     fn note_change(&mut self, cell: CellName)
+        ensures same { self.new.waking ≡ self.old.waking }
         ensures made { (m : Data) → IsFor P.Propagator m self.old → IsFor P.Propagator m self.new }
         ensures calm { (m : Data) (r : Cells) (best : Option ℤ) → IsCalm P.Propagator m r best self.old → IsCalm P.Propagator m r best self.new }
     {
         self.propagators.note_change(cell);
     }
 
-    /// Wakes whoever watches a cell, and tells all that it isn't as it was.
-    fn tell(&mut self, cell: CellName)
+    /// Wakes whoever watches the cell, which isn't as it was, and tells all of it. So where a region
+    /// differs in it alone from another for which all that weren't awake were quiet, all that aren't awake
+    /// now are quiet for it.
+    pub fn wake(&mut self, cell: CellName)
         ensures made { (m : Data) → IsFor P.Propagator m self.old → IsFor P.Propagator m self.new }
+        ensures kept { (k : ℕ) → IsTrue (is_awake self.old.waking k) → IsTrue (is_awake self.new.waking k) }
         ensures calm { (m : Data) (r q : Cells) (best : Option ℤ) → IsFor P.Propagator m self.old → IsRegionOf m r → IsRegionOf m q → AreSameBut cell r q
             → IsCalm P.Propagator m r best self.old → IsCalm P.Propagator m q best self.new }
     {
-        self.wake(cell);
+        self.plain_wake(cell);
         self.note_change(cell);
     }
 
-    /// Tells them that cells may have changed of which they were told nothing.
+    /// Tells the propagators that cells may have changed of which they were told nothing, as where a region
+    /// is gone back to.
     #[tactic(auto, using(crate::proofs::Waking::told_for, crate::proofs::Waking::told_calm))]
-    fn forget_changes(&mut self)
+    pub fn forget_changes(&mut self)
         ensures made { (m : Data) → IsFor P.Propagator m self.old → IsFor P.Propagator m self.new }
         ensures calm { (m : Data) (r : Cells) (best : Option ℤ) → IsCalm P.Propagator m r best self.old → IsCalm P.Propagator m r best self.new }
     {
@@ -213,7 +207,7 @@ impl<P: Propagator> Engine<P> {
         let _ = model.intervals();
         lines.put(&Line::Derive(g, witness))?;
         let cell = region.learn(Fact(g))?;
-        self.tell(cell);
+        self.wake(cell);
         Ok(())
     }
 
@@ -329,7 +323,6 @@ impl<P: Propagator> Engine<P> {
         ensures fault { result ≡ Err fault.Lines → Rose (L.faults lines.old) (L.faults lines.new) × (L.calm lines.old ≡ true → ⊥) }
         ensures awake { OnErr result (AreAwake P.Propagator model.now self.new) }
     {
-        self.forget_changes();
         let answer = self.drive(model, region, best, lines);
         if answer.is_err() {
             self.wake_all();

@@ -96,6 +96,7 @@ impl<P: Propagator> Search<P> {
         self.region = Region::root(alloc, model)?;
         self.pending = Pending::new(alloc);
         self.marks = Vec::new(alloc);
+        self.engine.forget_changes();
         self.engine.wake_all();
         self.intervals.reopen(alloc, model)?;
         self.nodes = 0;
@@ -290,6 +291,7 @@ impl<P: Propagator> Search<P> {
         ensures calm { (m : Data) (r : Cells) → IsFor P.Propagator m self.old.engine → IsRegionOf m r → (mark.capped ≡ false → AreQuiet P.Propagator m r mark.best)
             → IsCalm P.Propagator m r (best_of self.new.found) self.new.engine }
     {
+        self.engine.forget_changes();
         if mark.capped {
             self.engine.wake_all();
             return;
