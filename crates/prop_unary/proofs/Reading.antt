@@ -1,16 +1,22 @@
 -- The rows of members, while the order of each two is read once for both.
+use denote.Enum.Bare.{sameb}
 use Rattle.std.specs.Prelude.{◌≡◌, ℕ, ◌+◌, ◌<◌, ◌≤◌, Bool, true, false, not, ◌||◌, ◌&&◌, List, length, nat_eq}
-use Rattle.std.proofs.Common.{refl, sym, ap, ◌∙◌, arith}
+use Rattle.std.proofs.Common.{refl, sym, ap, ap₂, ◌∙◌, arith, inl, inr, get_or, set}
+use Rattle.std.proofs.lemmas.Bool.{cases_eq}
 use Rattle.std.proofs.lemmas.Bool.Decides.{nat_tests}
+use Rattle.std.proofs.lemmas.List.{get_or_default, get_or-set_same, get_or-set_other, length-set}
+use Rattle.base_laws.specs.laws.Numbers.{differs}
 use Rattle.sched_base.specs.declared.ids.Itv.{Itv}
 use Rattle.sched_base.specs.declared.ids.Seq.{Seq}
 use Rattle.region.specs.declared.types.OrderCell.{OrderCell}
+use Rattle.region.specs.declared.types.OrderCell.TheVariants.{Unknown, Forward, Backward}
+use Rattle.region.specs.contracts.types.OrderCell.{the_type}
 use Rattle.region.specs.Cells.{Region, cells_of}
 use Rattle.region.specs.Orders.{known_order, order_in, says_forward, says_backward}
 use Rattle.refute_seq.specs.Standing.{is_away, precedes}
 use Rattle.refute_seq.specs.laws.Ordered.{one_way}
 use Rattle.prop_unary.specs.declared.places.Places.{Places}
-use Rattle.prop_unary.specs.code.Rows.{may_stand, member_at, is_read, AreRead, IsOrderNoted}
+use Rattle.prop_unary.specs.code.Rows.{has_place, may_stand, member_at, is_read, AreRead, IsOrderNoted}
 
 number_itself : (n : ℕ) → nat_eq n n ≡ true
 number_itself n = grind (arith, nat_tests)
@@ -45,6 +51,46 @@ stands_forward r p x y o is one other = ap says_forward is ∙ forward_is (prece
 
 stands_backward : (r : Region) (p : Seq) (x y : Itv) (o : OrderCell) → o ≡ order_in (cells_of r p) x y → is_away r x ≡ false → is_away r y ≡ false → says_backward o ≡ may_stand r p y x
 stands_backward r p x y o is one other = ap says_backward is ∙ backward_is (precedes r p x y) (precedes r p y x) (one_way (cells_of r p) x y) ∙ sym (both_here r p y x other one)
+
+-- one place of one row
+pub put_at : (rows : List Places) (i k : ℕ) (is_in : Bool) (row e : Places) → i < length rows → ((b : ℕ) → has_place row b ≡ ((is_in && nat_eq b k) || has_place (get_or rows i e) b)) → (a b : ℕ) (d : Places) → has_place (get_or (set rows i row) a d) b ≡ ((is_in && nat_eq a i && nat_eq b k) || has_place (get_or rows a d) b)
+put_at rows i k is_in row e within is a b d = elim (cases_eq a i) [
+  | inl same ↦ ap (λ j. has_place (get_or (set rows i row) j d) b) same ∙ ap (λ s. has_place s b) (get_or-set_same rows i row d within) ∙ is b ∙ ap (λ s. (is_in && nat_eq b k) || has_place s b) (get_or_default rows i e d within)
+      ∙ sym (ap (λ j. (is_in && nat_eq j i && nat_eq b k) || has_place (get_or rows j d) b) same ∙ ap (λ t. t || has_place (get_or rows i d) b) (with_itself is_in (nat_eq i i) (nat_eq b k) (number_itself i)))
+  | inr other ↦ ap (λ s. has_place s b) (get_or-set_other rows i a row d other) ∙ sym (ap (λ t. t || has_place (get_or rows a d) b) (with_other is_in (nat_eq a i) (nat_eq b k) (differs a i other)))
+]
+  where
+    with_itself : (s t u : Bool) → t ≡ true → (s && t && u) ≡ (s && u)
+    with_itself true t u on = ap (λ x. x && u) on
+    with_itself false t u on = refl
+
+    with_other : (s t u : Bool) → t ≡ false → (s && t && u) ≡ false
+    with_other true t u off = ap (λ x. x && u) off
+    with_other false t u off = refl
+
+pub order_put : (o : OrderCell) (rows : List Places) (i k : ℕ) (f g : Bool) (row next e : Places) → i < length rows → k < length rows → f ≡ sameb the_type o Forward → g ≡ sameb the_type o Backward
+    → ((b : ℕ) → has_place row b ≡ ((f && nat_eq b k) || has_place (get_or rows i e) b)) → ((b : ℕ) → has_place next b ≡ ((g && nat_eq b i) || has_place (get_or (set rows i row) k e) b)) → IsOrderNoted o i k rows (set (set rows i row) k next)
+order_put o rows i k f g row next e first second forward backward one two a b d =
+    put_at (set rows i row) k i g next e (omega (arith, length-set rows i row, second)) two a b d
+    ∙ ap (λ t. (g && nat_eq a k && nat_eq b i) || t) (put_at rows i k f row e first one a b d)
+    ∙ turned (g && nat_eq a k && nat_eq b i) (f && nat_eq a i && nat_eq b k) (has_place (get_or rows a d) b)
+    ∙ ap₂ (λ s t. (s && nat_eq a i && nat_eq b k) || (t && nat_eq a k && nat_eq b i) || has_place (get_or rows a d) b) (forward ∙ is_forward o) (backward ∙ is_backward o)
+  where
+    turned : (s t u : Bool) → (s || (t || u)) ≡ (t || s || u)
+    turned true true u = refl
+    turned true false u = refl
+    turned false true u = refl
+    turned false false u = refl
+
+    is_forward : (o : OrderCell) → sameb the_type o Forward ≡ says_forward o
+    is_forward Unknown = refl
+    is_forward Forward = refl
+    is_forward Backward = refl
+
+    is_backward : (o : OrderCell) → sameb the_type o Backward ≡ says_backward o
+    is_backward Unknown = refl
+    is_backward Forward = refl
+    is_backward Backward = refl
 
 -- which are read
 row_read : (i n a b : ℕ) → a < n → b < n → is_read i n a b ≡ is_read (i + 1) 0 a b

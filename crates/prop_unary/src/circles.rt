@@ -173,7 +173,8 @@ fn clear_rows(n: usize, rows: &mut [Places])
     }
 }
 
-/// Puts the order of the members at two places into their rows.
+/// Puts the order of the members at two places into their rows. Which it is follows no pattern, so it
+/// takes no branch.
 fn note_order(order: OrderCell, i: usize, k: usize, rows: &mut [Places])
     requires first { i < length rows.old }
     requires second { k < length rows.old }
@@ -182,11 +183,8 @@ fn note_order(order: OrderCell, i: usize, k: usize, rows: &mut [Places])
     ensures same { length rows.new ≡ length rows.old }
     ensures noted { IsOrderNoted order i k rows.old rows.new }
 {
-    match order {
-        OrderCell::Unknown => {}
-        OrderCell::Forward => rows[i].put(k, true),
-        OrderCell::Backward => rows[k].put(i, true),
-    }
+    rows[i].put(k, order == OrderCell::Forward);
+    rows[k].put(i, order == OrderCell::Backward);
 }
 
 /// Puts the orders of a member and those at later places into their rows. One who is absent stands in

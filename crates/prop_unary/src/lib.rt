@@ -4,6 +4,7 @@
 
 mod circles;
 mod disjunctive;
+mod heard;
 mod keys;
 mod likely;
 mod members;

@@ -300,11 +300,11 @@ fn set_at(sets: &[u64], at: usize) -> u64 {
     if at < sets.len() { sets[at] } else { 0 }
 }
 
-/// Empties the sets of some, and takes them out of the others.
+/// Takes some out of the sets of each of them: an order that is another is of two of them.
 fn take_out(sets: &mut [u64], places: u64) {
     for k in 0..sets.len() {
         let left = sets[k] & !places;
-        sets[k] = if places & only(k) != 0 { 0 } else { left };
+        sets[k] = if places & only(k) != 0 { left } else { sets[k] };
     }
 }
 

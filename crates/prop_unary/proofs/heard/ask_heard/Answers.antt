@@ -1,6 +1,6 @@
 use Rattle.std.proofs.Common.{◌≡◌, true, false, rules}
 use Rattle.prop_unary.proofs.Asked.{none_to, open_told, silent_told}
-use Rattle.prop_unary.proofs.pairs.ask_heard.Goals as goal
+use Rattle.prop_unary.proofs.heard.ask_heard.Goals as goal
 
 pub returns-then-not-is_told-clause-none : goal.returns-then-not-is_told-clause-none
 returns-then-not-is_told-clause-none c = let off : c.is_told.result ≡ false = search rules in c.is_told.ensures.other c.args.best off

@@ -2,7 +2,7 @@ use Rattle.std.proofs.Common.{length}
 use Rattle.region.specs.declared.types.OrderCell.TheVariants.{Forward, Unknown}
 use Rattle.prop_unary.specs.code.Silence.{AreSilentWhere}
 use Rattle.prop_unary.proofs.Hearing.{all_outside, less_outside, less_within}
-use Rattle.prop_unary.proofs.pairs.ask_heard_row.Goals as goal
+use Rattle.prop_unary.proofs.heard.ask_heard_row.Goals as goal
 
 pub loop-left-init : goal.loop-left-init
 loop-left-init c = record {

@@ -3,7 +3,7 @@ use Rattle.region.specs.declared.types.OrderCell.TheVariants.{Forward, Unknown}
 use Rattle.prop_unary.specs.code.Heard.{EachOutside}
 use Rattle.prop_unary.specs.code.Rows.{has_word}
 use Rattle.prop_unary.specs.code.Silence.{AreSilentWhere}
-use Rattle.prop_unary.proofs.pairs.ask_heard_row.Given as goal
+use Rattle.prop_unary.proofs.heard.ask_heard_row.Given as goal
 
 abbrev pub invariant-loop-left : goal.invariant-loop-left
 invariant-loop-left l = record {
