@@ -19,7 +19,7 @@ import sys
 import tempfile
 from collections import Counter, namedtuple
 
-TOOL = os.path.join(os.path.dirname(os.path.abspath(__file__)), "../crates/schedtool/out/schedtool")
+TOOL = os.environ.get("TOOL") or os.path.join(os.path.dirname(os.path.abspath(__file__)), "../crates/schedtool/out/schedtool")
 FREE = (0, 1_000_000_000)
 
 # An expression: its text, how tightly it holds together, and its value where each interval is None or (start, end).
