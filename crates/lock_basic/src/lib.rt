@@ -1,0 +1,7 @@
+//! The lock of the first refuters. A lock states the public contracts of a layer once more, word for word,
+//! each on a function whose body is that one call. Where a contract becomes weaker than its copy, the
+//! lock is not proved any more; and each edit in `must-fail/` puts a wrong answer in the place of a call.
+#![tactic(auto)]
+
+pub mod of_refute_basic;
+pub mod of_refute_hier;
