@@ -248,19 +248,12 @@ pub fn test_refutes<T: GuessTest>(test: &T, guess: Option<Guess>) -> bool
     test.refutes(guess)
 }
 
-/// A law of every refuter: what refutes is valid.
-pub fn refutes_by_valid<X: Refuter>(model: &Model, look: &Look<'_>, w: &X::Witness) -> bool
-    requires { IsRegionOf model.now look.now.region }
-    ensures { IsTrue result → IsTrue (X.Witness.is_valid w.now) }
-{
-    X::refutes(model, look, w)
-}
-
-/// A law of every refuter: where a witness refutes, no better solution is allowed.
+/// Laws of every refuter: what refutes is valid, and leaves no better solution.
 pub fn refutes_soundly<X: Refuter>(model: &Model, look: &Look<'_>, w: &X::Witness) -> bool
     requires of { IsRegionOf model.now look.now.region }
     requires valid { IsValid model.now }
-    ensures { IsTrue result → HasNone model.now look.now }
+    ensures valid { IsTrue result → IsTrue (X.Witness.is_valid w.now) }
+    ensures sound { IsTrue result → HasNone model.now look.now }
 {
     X::refutes(model, look, w)
 }
