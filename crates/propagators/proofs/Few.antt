@@ -1,5 +1,5 @@
 -- A valid model has few propagators.
-use Rattle.std.specs.Prelude.{ℕ, ◌+◌, ◌≤◌, ◌^◌}
+use Rattle.std.specs.Prelude.{ℕ, ◌+◌, ◌<◌, ◌≤◌, ◌^◌}
 use Rattle.std.proofs.Common.{arith}
 use Rattle.sched_model.specs.Data.{Data}
 use Rattle.sched_model.specs.Valid.{IsValid}
@@ -12,11 +12,11 @@ use Rattle.prop_sets.specs.code.Tasks.{size_of as size_of_sets}
 use Rattle.prop_cumul.specs.code.Tasks.{size_of as size_of_cumul}
 use Rattle.prop_state.specs.code.Tasks.{size_of as size_of_state}
 
-pub not_too_many : (m : Data) → IsValid m → (n : ℕ) → n ≤ size_of m + (size_of_temporal m + (size_of_hier m + (size_of_unary m + (size_of_sets m + (size_of_sets m + (size_of_cumul m + size_of_state m)))))) → (2 ^ 32) ≤ n → ⊥
-not_too_many m valid n all many =
+pub few : (m : Data) → IsValid m → (n : ℕ) → n ≤ size_of m + (size_of_temporal m + (size_of_hier m + (size_of_unary m + (size_of_sets m + (size_of_sets m + (size_of_cumul m + size_of_state m)))))) → n < 2 ^ 32
+few m valid n all =
     let limits = limits_of m valid.limits in
     let intervals = limits.intervals in
     let constraints = limits.constraints in
     let sequences = limits.sequences in
     let states = limits.states in
-    omega (arith, all, many, intervals, constraints, sequences, states)
+    omega (arith, all, intervals, constraints, sequences, states)

@@ -1,4 +1,4 @@
-ghost use Rattle.std.specs.Prelude.{ℤ, Option, IfOk};
+ghost use Rattle.std.specs.Prelude.{◌+◌, ◌<◌, ◌^◌, ℤ, Option, IfOk};
 ghost use Rattle.sched_model.specs.Data.{Data};
 ghost use Rattle.sched_model.specs.Valid.{IsValid};
 ghost use Rattle.region.specs.Cells.{Region};
@@ -14,13 +14,6 @@ use crate::state::FromState;
 use crate::temporal::FromTemporal;
 use crate::unary::FromUnary;
 use engine::{Both, Engine, Propagator};
-use prop_basic::PropBasic;
-use prop_cumul::PropCumul;
-use prop_hier::PropHier;
-use prop_sets::PropSets;
-use prop_state::PropState;
-use prop_temporal::PropTemporal;
-use prop_unary::PropUnary;
 use sched_base::NoMemory;
 use sched_model::Model;
 use std::alloc::Global;
@@ -40,6 +33,30 @@ pub type OfGroups = Both<FromHier, OfMany>;
 /// All propagators. A further crate of propagators is joined to these by `engine::Both`.
 pub type All = Both<FromBasic, Both<FromTemporal, OfGroups>>;
 
+/// The propagators of one kind and then those of another, unless memory was refused for some.
+///
+/// In a function that knows of neither kind what it is, since each way out of one that does lets go
+/// of all their parts.
+fn joined<A: Propagator, B: Propagator>(
+    model: &Model,
+    first: Result<A, NoMemory>,
+    second: Result<B, NoMemory>,
+) -> Result<Both<A, B>, NoMemory>
+    requires few { A.size model.now + B.size model.now < 2 ^ 32 }
+    requires first { IfOk first (λ p. A.is_of p model.now) }
+    requires second { IfOk second (λ p. B.is_of p model.now) }
+    ensures { IfOk result (λ p. ⟦<Both<A, B> as Propagator>⟧.is_of p model.now) }
+{
+    // It is named for the clauses alone.
+    let _ = model;
+    let first = first?;
+    let second = second?;
+    match Both::new(first, second) {
+        Some(both) => Ok(both),
+        None => unreachable!(),
+    }
+}
+
 /// The engine over all propagators of a model, each of them awake.
 pub fn start(alloc: Global, model: &Model) -> Result<Engine<All>, NoMemory>
     ensures made { IfOk result (IsFor ⟦<All as Propagator>⟧ model.now) }
@@ -47,35 +64,17 @@ pub fn start(alloc: Global, model: &Model) -> Result<Engine<All>, NoMemory>
 {
     // The model is valid by its type, so it has few intervals, constraints and sequences.
     let _ = model.intervals();
-    let basic = FromBasic(PropBasic::new(alloc, model)?);
-    let temporal = FromTemporal(PropTemporal::new(alloc, model)?);
-    let hier = FromHier(PropHier::new(alloc, model)?);
-    let unary = FromUnary(PropUnary::new(alloc, model)?);
-    let sets = FromSets(PropSets::new(alloc, model, false)?);
-    let later = FromLaterSets(PropSets::new(alloc, model, true)?);
-    let cumul = FromCumul(PropCumul::new(alloc, model)?);
-    let state = FromState(PropState::new(alloc, model)?);
-    let Some(functions) = Both::new(cumul, state) else {
-        unreachable!();
-    };
-    let Some(behind) = Both::new(later, functions) else {
-        unreachable!();
-    };
-    let Some(many) = Both::new(sets, behind) else {
-        unreachable!();
-    };
-    let Some(grouped) = Both::new(unary, many) else {
-        unreachable!();
-    };
-    let Some(last) = Both::new(hier, grouped) else {
-        unreachable!();
-    };
-    let Some(others) = Both::new(temporal, last) else {
-        unreachable!();
-    };
-    let Some(all) = Both::new(basic, others) else {
-        unreachable!();
-    };
+    let functions = joined(
+        model,
+        FromCumul::new(alloc, model),
+        FromState::new(alloc, model),
+    );
+    let behind = joined(model, FromLaterSets::new(alloc, model), functions);
+    let many = joined(model, FromSets::new(alloc, model), behind);
+    let grouped = joined(model, FromUnary::new(alloc, model), many);
+    let last = joined(model, FromHier::new(alloc, model), grouped);
+    let others = joined(model, FromTemporal::new(alloc, model), last);
+    let all = joined(model, FromBasic::new(alloc, model), others)?;
     Engine::new(alloc, all, model)
 }
 

@@ -5,10 +5,23 @@ use prop_basic::PropBasic;
 use region::{CellName, Region};
 use sched_base::{Itv, NoMemory, Seq};
 use sched_model::Model;
+use std::alloc::Global;
 
 /// The propagators of sizes, expressions and the objective, with their witnesses as a log has them.
 #[derive(Debug, Drop)]
 pub struct FromBasic(pub PropBasic);
+
+impl FromBasic {
+    ghost use Rattle.std.specs.Prelude.{IfOk};
+    ghost use Rattle.prop_basic.specs.code.Tables.{IsFor};
+
+    /// Those of a model.
+    pub(crate) fn new(alloc: Global, model: &Model) -> Result<FromBasic, NoMemory>
+        ensures { IfOk result (λ p. IsFor p.0 model.now) }
+    {
+        Ok(FromBasic(PropBasic::new(alloc, model)?))
+    }
+}
 
 impl Propagator for FromBasic {
     ghost use Rattle.prop_basic.specs.code.Tables.{IsFor};

@@ -5,10 +5,23 @@ use prop_cumul::PropCumul;
 use region::{CellName, Region};
 use sched_base::{Itv, NoMemory, Seq};
 use sched_model::Model;
+use std::alloc::Global;
 
 /// The propagators of cumulative functions, with their witnesses as a log has them.
 #[derive(Debug, Drop)]
 pub struct FromCumul(pub PropCumul);
+
+impl FromCumul {
+    ghost use Rattle.std.specs.Prelude.{IfOk};
+    ghost use Rattle.prop_cumul.specs.code.Tables.{IsFor};
+
+    /// Those of a model.
+    pub(crate) fn new(alloc: Global, model: &Model) -> Result<FromCumul, NoMemory>
+        ensures { IfOk result (λ p. IsFor p.0 model.now) }
+    {
+        Ok(FromCumul(PropCumul::new(alloc, model)?))
+    }
+}
 
 impl Propagator for FromCumul {
     ghost use Rattle.prop_cumul.specs.code.Tables.{IsFor};

@@ -5,11 +5,24 @@ use prop_hier::PropHier;
 use region::{CellName, Region};
 use sched_base::{Itv, NoMemory, Seq};
 use sched_model::Model;
+use std::alloc::Global;
 
 /// The propagators of spans, alternatives and synchronizations, and of relations of the members of
 /// sequences, with their witnesses as a log has them.
 #[derive(Debug, Drop)]
 pub struct FromHier(pub PropHier);
+
+impl FromHier {
+    ghost use Rattle.std.specs.Prelude.{IfOk};
+    ghost use Rattle.prop_hier.specs.code.Tables.{IsFor};
+
+    /// Those of a model.
+    pub(crate) fn new(alloc: Global, model: &Model) -> Result<FromHier, NoMemory>
+        ensures { IfOk result (λ p. IsFor p.0 model.now) }
+    {
+        Ok(FromHier(PropHier::new(alloc, model)?))
+    }
+}
 
 impl Propagator for FromHier {
     ghost use Rattle.prop_hier.specs.code.Tables.{IsFor};

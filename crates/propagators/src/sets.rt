@@ -6,11 +6,24 @@ use prop_sets::PropSets;
 use region::{CellName, Region};
 use sched_base::{Itv, NoMemory, Seq};
 use sched_model::Model;
+use std::alloc::Global;
 
 /// The propagators of sets of members of sequences without overlap, with their witnesses as a log has
 /// them: of the first round.
 #[derive(Drop)]
 pub struct FromSets(pub PropSets);
+
+impl FromSets {
+    ghost use Rattle.std.specs.Prelude.{◌≡◌, false, IfOk};
+    ghost use Rattle.prop_sets.specs.code.Tables.{IsFor};
+
+    /// Those of a model.
+    pub(crate) fn new(alloc: Global, model: &Model) -> Result<FromSets, NoMemory>
+        ensures { IfOk result (λ p. IsFor p.0 model.now × (p.0.later ≡ false)) }
+    {
+        Ok(FromSets(PropSets::new(alloc, model, false)?))
+    }
+}
 
 impl Propagator for FromSets {
     ghost use Rattle.std.specs.Prelude.{◌≡◌, false};
@@ -92,6 +105,18 @@ impl Propagator for FromSets {
 /// Those of the later round.
 #[derive(Drop)]
 pub struct FromLaterSets(pub PropSets);
+
+impl FromLaterSets {
+    ghost use Rattle.std.specs.Prelude.{◌≡◌, true, IfOk};
+    ghost use Rattle.prop_sets.specs.code.Tables.{IsFor};
+
+    /// Those of a model.
+    pub(crate) fn new(alloc: Global, model: &Model) -> Result<FromLaterSets, NoMemory>
+        ensures { IfOk result (λ p. IsFor p.0 model.now × (p.0.later ≡ true)) }
+    {
+        Ok(FromLaterSets(PropSets::new(alloc, model, true)?))
+    }
+}
 
 impl Propagator for FromLaterSets {
     ghost use Rattle.std.specs.Prelude.{◌≡◌, true};

@@ -5,10 +5,23 @@ use prop_state::PropState;
 use region::{CellName, Region};
 use sched_base::{Itv, NoMemory, Seq};
 use sched_model::Model;
+use std::alloc::Global;
 
 /// The propagators of state functions, with their witnesses as a log has them.
 #[derive(Drop)]
 pub struct FromState(pub PropState);
+
+impl FromState {
+    ghost use Rattle.std.specs.Prelude.{IfOk};
+    ghost use Rattle.prop_state.specs.code.Tables.{IsFor};
+
+    /// Those of a model.
+    pub(crate) fn new(alloc: Global, model: &Model) -> Result<FromState, NoMemory>
+        ensures { IfOk result (λ p. IsFor p.0 model.now) }
+    {
+        Ok(FromState(PropState::new(alloc, model)?))
+    }
+}
 
 impl Propagator for FromState {
     ghost use Rattle.prop_state.specs.code.Tables.{IsFor};

@@ -5,10 +5,23 @@ use prop_temporal::PropTemporal;
 use region::{CellName, Region};
 use sched_base::{Itv, NoMemory, Seq};
 use sched_model::Model;
+use std::alloc::Global;
 
 /// The propagators of precedences, with their witnesses as a log has them.
 #[derive(Drop)]
 pub struct FromTemporal(pub PropTemporal);
+
+impl FromTemporal {
+    ghost use Rattle.std.specs.Prelude.{IfOk};
+    ghost use Rattle.prop_temporal.specs.code.Tables.{IsFor};
+
+    /// Those of a model.
+    pub(crate) fn new(alloc: Global, model: &Model) -> Result<FromTemporal, NoMemory>
+        ensures { IfOk result (λ p. IsFor p.0 model.now) }
+    {
+        Ok(FromTemporal(PropTemporal::new(alloc, model)?))
+    }
+}
 
 impl Propagator for FromTemporal {
     ghost use Rattle.prop_temporal.specs.code.Tables.{IsFor};

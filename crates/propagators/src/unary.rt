@@ -6,11 +6,24 @@ use prop_unary::PropUnary;
 use region::{CellName, Region};
 use sched_base::{Itv, NoMemory, Seq};
 use sched_model::Model;
+use std::alloc::Global;
 
 /// The propagators of sequences without overlap and of the orders of sequences, with their witnesses
 /// as a log has them.
 #[derive(Debug, Drop)]
 pub struct FromUnary(pub PropUnary);
+
+impl FromUnary {
+    ghost use Rattle.std.specs.Prelude.{IfOk};
+    ghost use Rattle.prop_unary.specs.code.Tables.{IsFor};
+
+    /// Those of a model.
+    pub(crate) fn new(alloc: Global, model: &Model) -> Result<FromUnary, NoMemory>
+        ensures { IfOk result (λ p. IsFor p.0 model.now) }
+    {
+        Ok(FromUnary(PropUnary::new(alloc, model)?))
+    }
+}
 
 impl Propagator for FromUnary {
     ghost use Rattle.prop_unary.specs.code.Tables.{IsFor};
