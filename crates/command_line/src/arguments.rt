@@ -16,19 +16,14 @@ fn matched<'a>(alloc: Global, words: &'a [String]) -> Result<ArgMatches<'a>, Err
     ensures err { IfErr result (λ e. (kind_of e ≡ ErrorKind.OutOfMemory)
         ⊎ ((v : Verb) → command_by v (map string_bytes words.entry.now) ≡ None)) }
 {
-    let first = Arg::new(alloc, "first");
-    let second = Arg::new(alloc, "second");
-    let third = Arg::new(alloc, "third");
-    let fourth = Arg::new(alloc, "fourth");
-    let nodes = Arg::new(alloc, "nodes").long("nodes");
     let command = Command::new(alloc, "schedtool")
         .no_binary_name(true)
         .disable_help_flag(true)
-        .arg(first)?
-        .arg(second)?
-        .arg(third)?
-        .arg(fourth)?
-        .arg(nodes)?;
+        .arg(Arg::new(alloc, "first"))?
+        .arg(Arg::new(alloc, "second"))?
+        .arg(Arg::new(alloc, "third"))?
+        .arg(Arg::new(alloc, "fourth"))?
+        .arg(Arg::new(alloc, "nodes").long("nodes"))?;
     command.try_get_matches_from(words)
 }
 

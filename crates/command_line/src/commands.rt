@@ -17,7 +17,7 @@ pub enum WordsFault {
 }
 
 /// The first word of a command.
-#[derive(Clone, Copy, Debug, PartialEq, Eq)]
+#[derive(Clone, Copy, PartialEq, Eq)]
 pub enum Verb {
     Solve,
     Check,
@@ -28,7 +28,7 @@ pub enum Verb {
 }
 
 /// What the program is asked to do. `model`, `log` and `schedule` name files.
-#[derive(Clone, Copy, Debug)]
+#[derive(Clone, Copy)]
 pub enum Command<'a> {
     /// Solve the model, open at most this many nodes, and write the log.
     Solve {

@@ -19,15 +19,15 @@ returns-in_err-arg-4-clause-err c =
 
 pub returns : goal.returns
 returns c =
-    let nodes_is : rule_of c.long-nodes.result ≡ nodes_arg = search rules in
+    let nodes_is : rule_of c.long.result ≡ nodes_arg = search rules in
     let start_is : app_of c.disable_help_flag.result ≡ starts (new_app (codes "schedtool")) =
     ap app_of_fields (c.disable_help_flag.ensures ∙ ap (λ (f : Command-F Command). record f { disable_help_flag = true }) c.no_binary_name.ensures)
-    ∙ ap starts c.new-2.ensures.app in
+    ∙ ap starts c.new.ensures.app in
     let command_is : app_of c.in_ok-command.command ≡ app = c.in_ok-command.ensures.shape (search rules)
     ∙ ap₂ with_rule (c.in_ok-arg-4.ensures.shape (search rules)
     ∙ ap₂ with_rule (c.in_ok-arg-3.ensures.shape (search rules)
     ∙ ap₂ with_rule (c.in_ok-arg-2.ensures.shape (search rules)
-    ∙ ap₂ with_rule (c.in_ok-arg.ensures.shape (search rules) ∙ ap₂ with_rule start_is c.new-first.ensures.rule) c.new-second.ensures.rule) c.new-third.ensures.rule) c.new-fourth.ensures.rule) nodes_is in
+    ∙ ap₂ with_rule (c.in_ok-arg.ensures.shape (search rules) ∙ ap₂ with_rule start_is c.new-2.ensures.rule) c.new-3.ensures.rule) c.new-4.ensures.rule) c.new-5.ensures.rule) nodes_is in
     let words = map string_bytes c.args.words.now in
     let parse = c.try_get_matches_from in
     let fails : FailsBy (fault_of app words) parse.result =
