@@ -1,9 +1,10 @@
 //! Atoms that have no expression in them.
-ghost use Rattle.cpo_text.specs.code.Levels.{measured_at, gathered_none};
+ghost use Rattle.cpo_text.specs.code.Levels.{measured_at, presence_at, gathered_none, gathered_some};
 ghost use Rattle.cpo_text.specs.code.Gives.{ahead, GivesOne};
 
 use crate::expression::{Gather, Logic, Measure};
 use crate::fault::Fault;
+use crate::grammar::enclosed;
 use crate::parts::{copy, int_behind, name, sign};
 use crate::place::Place;
 use sched_base::List;
@@ -23,6 +24,26 @@ pub fn measured(
     let rest = sign(b")", rest)?;
     let interval = copy(alloc, interval)?;
     Ok((Logic::Measured(measure, interval, absent), rest))
+}
+
+/// The presence of an interval, behind its word.
+pub fn presence(alloc: Global, place: Place<'_>) -> Result<(Logic, Place<'_>), Fault>
+    ensures { GivesOne result (presence_at (ahead place.entry)) }
+{
+    let (interval, rest) = enclosed(alloc, place)?;
+    Ok((Logic::PresenceOf(interval), rest))
+}
+
+/// What is made of these expressions, from the closing bracket on.
+pub fn gathered_some(
+    gather: Gather,
+    operands: List<Logic>,
+    place: Place<'_>,
+) -> Result<(Logic, Place<'_>), Fault>
+    ensures { GivesOne result (gathered_some gather operands (ahead place.entry)) }
+{
+    let rest = sign(b")", sign(b"]", place)?)?;
+    Ok((Logic::Gathered(gather, operands), rest))
 }
 
 /// What is made of no expressions: a sum only.

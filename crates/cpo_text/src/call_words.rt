@@ -10,7 +10,7 @@ use crate::place::Place;
 use crate::tree::{Extreme, Hierarchy, Order, Sense, Temporal};
 
 /// The word of a part of a cumulative expression.
-#[derive(Clone, Copy, Debug)]
+#[derive(Clone, Copy)]
 pub enum PartWord {
     Pulse,
     Step,
@@ -19,7 +19,7 @@ pub enum PartWord {
 }
 
 /// The word of a definition.
-#[derive(Clone, Copy, Debug)]
+#[derive(Clone, Copy)]
 pub enum DefinitionWord {
     IntervalVar,
     SequenceVar,
@@ -28,7 +28,7 @@ pub enum DefinitionWord {
 }
 
 /// The word of a constraint.
-#[derive(Clone, Copy, Debug)]
+#[derive(Clone, Copy)]
 pub enum ConstraintWord {
     Between(Temporal),
     Parts(Hierarchy),

@@ -1,11 +1,11 @@
 //! Definitions and constraints that are calls, each from behind the call's word.
 ghost use Rattle.cpo_text.specs.code.Rules.{name_at};
-ghost use Rattle.cpo_text.specs.code.Calls.{flag_at, types_given_at, types_at, sequence_at, matrix_at, state_function_at, parts_at, over_at, direct_at, spaced_at, spacing_at, no_overlap_at, pair_at, extreme_at, ordered_at, flags_at, aligned_at, always_equal_at, always_no_state_at};
+ghost use Rattle.cpo_text.specs.code.Calls.{flag_at, types_given_at, types_at, sequence_at, matrix_at, state_function_at, parts_at, over_at, direct_at, spaced_at, spacing_at, no_overlap_at, pair_at, extreme_at, ordered_at, flags_at, aligned_at, state_at, always_equal_at, always_no_state_at};
 ghost use Rattle.cpo_text.specs.code.Gives.{ahead, Gives};
 
 use crate::fault::Fault;
 use crate::lists::{ints, names, rows};
-use crate::parts::{behind, copy, int, name, sign, size};
+use crate::parts::{behind, copy, ended, int, name, owned_before, sign, size};
 use crate::place::Place;
 use crate::tree::{Constrained, Definition, Extreme, Hierarchy, Int, Order, Over, Spaced};
 use sched_base::List;
@@ -64,8 +64,7 @@ pub fn sequence(alloc: Global, place: Place<'_>) -> Result<(Definition, Place<'_
 {
     let (members, rest) = names(alloc, sign(b"(", place)?)?;
     let (types, rest) = types(alloc, rest)?;
-    let rest = sign(b")", rest)?;
-    Ok((Definition::SequenceVar(members, types), rest))
+    ended(Definition::SequenceVar(members, types), b")", rest)
 }
 
 #[tactic(auto, unfolding(crate::specs::code::Calls::matrix_at))]
@@ -73,11 +72,10 @@ pub fn matrix(alloc: Global, place: Place<'_>) -> Result<(Definition, Place<'_>)
     ensures { Gives result (matrix_at (ahead place.entry)) }
 {
     let (rows, rest) = rows(alloc, sign(b"(", place)?)?;
-    let rest = sign(b")", rest)?;
-    Ok((Definition::TransitionMatrix(rows), rest))
+    ended(Definition::TransitionMatrix(rows), b")", rest)
 }
 
-#[tactic(auto, unfolding(crate::specs::code::Calls::state_function_at))]
+#[tactic(auto, unfolding(crate::specs::code::Calls::state_function_at, crate::specs::code::Rules::name_before))]
 pub fn state_function(alloc: Global, place: Place<'_>) -> Result<(Definition, Place<'_>), Fault>
     ensures { Gives result (state_function_at (ahead place.entry)) }
 {
@@ -85,13 +83,12 @@ pub fn state_function(alloc: Global, place: Place<'_>) -> Result<(Definition, Pl
     if let Some(rest) = behind(b")", open) {
         return Ok((Definition::StateFunction(None), rest));
     }
-    let (matrix, rest) = owned(alloc, open)?;
-    let rest = sign(b")", rest)?;
+    let (matrix, rest) = owned_before(alloc, b")", open)?;
     Ok((Definition::StateFunction(Some(matrix)), rest))
 }
 
 /// An interval and its parts.
-#[tactic(auto, unfolding(crate::specs::code::Calls::parts_at))]
+#[tactic(auto, unfolding(crate::specs::code::Calls::parts_at, crate::specs::code::Rules::name_before))]
 pub fn parts(
     alloc: Global,
     hierarchy: Hierarchy,
@@ -99,10 +96,9 @@ pub fn parts(
 ) -> Result<(Constrained, Place<'_>), Fault>
     ensures { Gives result (parts_at hierarchy (ahead place.entry)) }
 {
-    let (whole, rest) = owned(alloc, sign(b"(", place)?)?;
-    let (parts, rest) = names(alloc, sign(b",", rest)?)?;
-    let rest = sign(b")", rest)?;
-    Ok((Constrained::Parts(hierarchy, whole, parts), rest))
+    let (whole, rest) = owned_before(alloc, b",", sign(b"(", place)?)?;
+    let (parts, rest) = names(alloc, rest)?;
+    ended(Constrained::Parts(hierarchy, whole, parts), b")", rest)
 }
 
 /// The name of a sequence, or the members of one without a name.
@@ -136,8 +132,9 @@ fn direct(place: Place<'_>) -> Result<(Option<bool>, Place<'_>), Fault>
 fn spaced(alloc: Global, place: Place<'_>) -> Result<(Spaced, Place<'_>), Fault>
     ensures { Gives result (spaced_at (ahead place.entry)) }
 {
-    let (matrix, rest) = owned(alloc, place)?;
+    let (matrix, rest) = name(place)?;
     let (direct, rest) = direct(rest)?;
+    let matrix = copy(alloc, matrix)?;
     Ok((Spaced { matrix, direct }, rest))
 }
 
@@ -161,18 +158,16 @@ pub fn no_overlap(alloc: Global, place: Place<'_>) -> Result<(Constrained, Place
 {
     let (over, rest) = over(alloc, sign(b"(", place)?)?;
     let (spacing, rest) = spacing(alloc, rest)?;
-    let rest = sign(b")", rest)?;
-    Ok((Constrained::NoOverlap(over, spacing), rest))
+    ended(Constrained::NoOverlap(over, spacing), b")", rest)
 }
 
 /// Two names in round brackets.
-#[tactic(auto, unfolding(crate::specs::code::Calls::pair_at))]
+#[tactic(auto, unfolding(crate::specs::code::Calls::pair_at, crate::specs::code::Rules::name_before))]
 fn pair(alloc: Global, place: Place<'_>) -> Result<((List<u8>, List<u8>), Place<'_>), Fault>
     ensures { Gives result (pair_at (ahead place.entry)) }
 {
-    let (first, rest) = owned(alloc, sign(b"(", place)?)?;
-    let (second, rest) = owned(alloc, sign(b",", rest)?)?;
-    let rest = sign(b")", rest)?;
+    let (first, rest) = owned_before(alloc, b",", sign(b"(", place)?)?;
+    let (second, rest) = owned_before(alloc, b")", rest)?;
     Ok(((first, second), rest))
 }
 
@@ -190,7 +185,7 @@ pub fn extreme(
 }
 
 /// A sequence and two members, one before the other.
-#[tactic(auto, unfolding(crate::specs::code::Calls::ordered_at))]
+#[tactic(auto, unfolding(crate::specs::code::Calls::ordered_at, crate::specs::code::Rules::name_before))]
 pub fn ordered(
     alloc: Global,
     order: Order,
@@ -198,10 +193,9 @@ pub fn ordered(
 ) -> Result<(Constrained, Place<'_>), Fault>
     ensures { Gives result (ordered_at order (ahead place.entry)) }
 {
-    let (sequence, rest) = owned(alloc, sign(b"(", place)?)?;
-    let (first, rest) = owned(alloc, sign(b",", rest)?)?;
-    let (second, rest) = owned(alloc, sign(b",", rest)?)?;
-    let rest = sign(b")", rest)?;
+    let (sequence, rest) = owned_before(alloc, b",", sign(b"(", place)?)?;
+    let (first, rest) = owned_before(alloc, b",", rest)?;
+    let (second, rest) = owned_before(alloc, b")", rest)?;
     Ok((Constrained::Ordered(order, sequence, first, second), rest))
 }
 
@@ -229,15 +223,23 @@ fn aligned(place: Place<'_>) -> Result<(Option<(bool, bool)>, Place<'_>), Fault>
     }
 }
 
-#[tactic(auto, unfolding(crate::specs::code::Calls::always_equal_at))]
+/// A state and whether the ends are aligned, up to the closing bracket.
+#[tactic(auto, unfolding(crate::specs::code::Calls::state_at))]
+fn state(place: Place<'_>) -> Result<((Int, Option<(bool, bool)>), Place<'_>), Fault>
+    ensures { Gives result (state_at (ahead place.entry)) }
+{
+    let (state, rest) = int(place)?;
+    let (aligned, rest) = aligned(rest)?;
+    ended((state, aligned), b")", rest)
+}
+
+#[tactic(auto, unfolding(crate::specs::code::Calls::always_equal_at, crate::specs::code::Calls::state_at, crate::specs::code::Rules::name_before))]
 pub fn always_equal(alloc: Global, place: Place<'_>) -> Result<(Constrained, Place<'_>), Fault>
     ensures { Gives result (always_equal_at (ahead place.entry)) }
 {
-    let (function, rest) = owned(alloc, sign(b"(", place)?)?;
-    let (interval, rest) = owned(alloc, sign(b",", rest)?)?;
-    let (state, rest) = int(sign(b",", rest)?)?;
-    let (aligned, rest) = aligned(rest)?;
-    let rest = sign(b")", rest)?;
+    let (function, rest) = owned_before(alloc, b",", sign(b"(", place)?)?;
+    let (interval, rest) = owned_before(alloc, b",", rest)?;
+    let ((state, aligned), rest) = state(rest)?;
     Ok((
         Constrained::AlwaysEqual(function, interval, state, aligned),
         rest,

@@ -2,56 +2,75 @@
 //! uses it up.
 ghost use Rattle.std.specs.Prelude.{◌≡◌, option_map};
 ghost use Rattle.cpo_text.specs.code.Rules.{find_word, sign_in};
-ghost use Rattle.cpo_text.specs.code.Contributions.{pulse_from, pulse_at, step_at, contribution_at, part_at, joints, added_at, cumul_from, cumul_at, bounds, bounded_at, moments_at, always_in_at};
+ghost use Rattle.cpo_text.specs.code.Contributions.{height_at, ints_before, pulse_from, pulse_at, step_at, contribution_at, part_at, joints, added_at, cumul_from, cumul_at, bounds, bounded_at, moments_at, window_at, always_in_at};
 ghost use Rattle.cpo_text.specs.code.Gives.{ahead, Gives};
 
 use crate::call_words::{PartWord, part_word};
 use crate::cumul::{Cpart, Cumul, Signed};
 use crate::fault::Fault;
-use crate::parts::{behind, copy, int, int_before, name, name_before, next_name, sign};
+use crate::parts::{
+    behind, copy, int, int_before, name, name_before, next_name, owned_before, sign,
+};
 use crate::place::Place;
-use crate::tree::{Bound, Constrained, Moments};
+use crate::tree::{Bound, Constrained, Int, Moments};
 use crate::word::Word;
 use sched_base::List;
 use std::alloc::Global;
 
+/// The name of an interval and a height, up to the closing bracket.
+#[tactic(auto, unfolding(crate::specs::code::Contributions::height_at))]
+fn named_height(alloc: Global, place: Place<'_>) -> Result<((List<u8>, Int), Place<'_>), Fault>
+    ensures { Gives result (height_at (ahead place.entry)) }
+{
+    let (interval, rest) = name_before(b",", place)?;
+    let (height, rest) = int_before(b")", rest)?;
+    Ok(((copy(alloc, interval)?, height), rest))
+}
+
+/// Two numbers, the second with a sign behind it.
+#[tactic(auto, unfolding(crate::specs::code::Contributions::ints_before))]
+fn ints_before<'a>(end: &[u8], place: Place<'a>) -> Result<((Int, Int), Place<'a>), Fault>
+    ensures { Gives result (ints_before end.now (ahead place.entry)) }
+{
+    let (one, rest) = int_before(b",", place)?;
+    let (other, rest) = int_before(end, rest)?;
+    Ok(((one, other), rest))
+}
+
 /// The moments and the height of a pulse, behind its bracket.
-#[tactic(auto, unfolding(crate::specs::code::Contributions::pulse_from))]
+#[tactic(auto, unfolding(crate::specs::code::Contributions::pulse_from, crate::specs::code::Contributions::ints_before))]
 fn pulse_from(place: Place<'_>) -> Result<(Cpart, Place<'_>), Fault>
     ensures { Gives result (pulse_from (ahead place.entry)) }
 {
     let (from, rest) = int_before(b",", place)?;
-    let (to, rest) = int_before(b",", rest)?;
-    let (height, rest) = int_before(b")", rest)?;
+    let ((to, height), rest) = ints_before(b")", rest)?;
     Ok((Cpart::Pulse(from, to, height), rest))
 }
 
 /// A pulse is of an interval where a name follows its bracket.
-#[tactic(auto, unfolding(crate::specs::code::Contributions::pulse_at))]
+#[tactic(auto, unfolding(crate::specs::code::Contributions::pulse_at, crate::specs::code::Contributions::height_at))]
 fn pulse(alloc: Global, place: Place<'_>) -> Result<(Cpart, Place<'_>), Fault>
     ensures { Gives result (pulse_at (ahead place.entry)) }
 {
     match next_name(place) {
         None => pulse_from(place),
         Some(_) => {
-            let (interval, rest) = name_before(b",", place)?;
-            let (height, rest) = int_before(b")", rest)?;
-            Ok((Cpart::PulseOf(copy(alloc, interval)?, height), rest))
+            let ((interval, height), rest) = named_height(alloc, place)?;
+            Ok((Cpart::PulseOf(interval, height), rest))
         }
     }
 }
 
-#[tactic(auto, unfolding(crate::specs::code::Contributions::step_at))]
+#[tactic(auto, unfolding(crate::specs::code::Contributions::step_at, crate::specs::code::Contributions::ints_before))]
 fn step(place: Place<'_>) -> Result<(Cpart, Place<'_>), Fault>
     ensures { Gives result (step_at (ahead place.entry)) }
 {
-    let (moment, rest) = int_before(b",", place)?;
-    let (height, rest) = int_before(b")", rest)?;
+    let ((moment, height), rest) = ints_before(b")", place)?;
     Ok((Cpart::Step(moment, height), rest))
 }
 
 /// What stands behind the bracket of a part.
-#[tactic(auto, unfolding(crate::specs::code::Contributions::contribution_at))]
+#[tactic(auto, unfolding(crate::specs::code::Contributions::contribution_at, crate::specs::code::Contributions::height_at))]
 fn contribution(
     alloc: Global,
     word: PartWord,
@@ -63,14 +82,12 @@ fn contribution(
         PartWord::Pulse => pulse(alloc, place),
         PartWord::Step => step(place),
         PartWord::StepAtStart => {
-            let (interval, rest) = name_before(b",", place)?;
-            let (height, rest) = int_before(b")", rest)?;
-            Ok((Cpart::StepAtStart(copy(alloc, interval)?, height), rest))
+            let ((interval, height), rest) = named_height(alloc, place)?;
+            Ok((Cpart::StepAtStart(interval, height), rest))
         }
         PartWord::StepAtEnd => {
-            let (interval, rest) = name_before(b",", place)?;
-            let (height, rest) = int_before(b")", rest)?;
-            Ok((Cpart::StepAtEnd(copy(alloc, interval)?, height), rest))
+            let ((interval, height), rest) = named_height(alloc, place)?;
+            Ok((Cpart::StepAtEnd(interval, height), rest))
         }
     }
 }
@@ -212,24 +229,33 @@ pub fn bounded(
 }
 
 /// The window of `alwaysIn`, with the comma behind it: an interval where a name follows.
-#[tactic(auto, unfolding(crate::specs::code::Contributions::moments_at))]
+#[tactic(auto, unfolding(crate::specs::code::Contributions::moments_at, crate::specs::code::Contributions::ints_before))]
 fn moments(alloc: Global, place: Place<'_>) -> Result<(Moments, Place<'_>), Fault>
     ensures { Gives result (moments_at (ahead place.entry)) }
 {
     match next_name(place) {
         Some(_) => {
-            let (interval, rest) = name_before(b",", place)?;
-            Ok((Moments::During(copy(alloc, interval)?), rest))
+            let (interval, rest) = owned_before(alloc, b",", place)?;
+            Ok((Moments::During(interval), rest))
         }
         None => {
-            let (from, rest) = int_before(b",", place)?;
-            let (to, rest) = int_before(b",", rest)?;
+            let ((from, to), rest) = ints_before(b",", place)?;
             Ok((Moments::From(from, to), rest))
         }
     }
 }
 
-#[tactic(auto, unfolding(crate::specs::code::Contributions::always_in_at))]
+/// The window and the bounds of `alwaysIn`, from the comma on.
+#[tactic(auto, unfolding(crate::specs::code::Contributions::window_at))]
+fn window(alloc: Global, place: Place<'_>) -> Result<((Moments, (Int, Int)), Place<'_>), Fault>
+    ensures { Gives result (window_at (ahead place.entry)) }
+{
+    let (moments, rest) = moments(alloc, sign(b",", place)?)?;
+    let (bounds, rest) = ints_before(b")", rest)?;
+    Ok(((moments, bounds), rest))
+}
+
+#[tactic(auto, unfolding(crate::specs::code::Contributions::always_in_at, crate::specs::code::Contributions::window_at, crate::specs::code::Contributions::ints_before))]
 pub fn always_in(
     alloc: Global,
     fuel: u32,
@@ -238,8 +264,6 @@ pub fn always_in(
     ensures { Gives result (always_in_at fuel (ahead place.entry)) }
 {
     let (cumul, rest) = cumul(alloc, fuel, sign(b"(", place)?)?;
-    let (moments, rest) = moments(alloc, sign(b",", rest)?)?;
-    let (least, rest) = int_before(b",", rest)?;
-    let (most, rest) = int_before(b")", rest)?;
+    let ((moments, (least, most)), rest) = window(alloc, rest)?;
     Ok((Constrained::AlwaysIn(cumul, moments, least, most), rest))
 }

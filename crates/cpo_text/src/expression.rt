@@ -2,7 +2,7 @@ use crate::tree::Int;
 use sched_base::{Boxed, List};
 
 /// What is asked of an interval.
-#[derive(Clone, Copy, Debug, PartialEq, Eq)]
+#[derive(Clone, Copy)]
 pub enum Measure {
     StartOf,
     EndOf,
@@ -11,7 +11,7 @@ pub enum Measure {
 }
 
 /// What is made of a list of expressions.
-#[derive(Clone, Copy, Debug, PartialEq, Eq)]
+#[derive(Clone, Copy)]
 pub enum Gather {
     Max,
     Min,
@@ -19,7 +19,7 @@ pub enum Gather {
 }
 
 /// A sign that joins two operands or more in one node: `*`, `&&`, `||`.
-#[derive(Clone, Copy, Debug, PartialEq, Eq)]
+#[derive(Clone, Copy)]
 pub enum Link {
     Times,
     And,
@@ -27,7 +27,7 @@ pub enum Link {
 }
 
 /// The sign of a comparison.
-#[derive(Clone, Copy, Debug, PartialEq, Eq)]
+#[derive(Clone, Copy)]
 pub enum Comparison {
     Equal,
     NotEqual,
@@ -39,7 +39,7 @@ pub enum Comparison {
 
 /// An expression as it is written, with its round brackets. `Measured` may have a number that
 /// stands in where the interval is absent.
-#[derive(Debug, Drop)]
+#[derive(Drop)]
 pub enum Logic {
     Lit(Option<u64>),
     Group(Boxed<Logic>),

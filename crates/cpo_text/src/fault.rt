@@ -4,7 +4,7 @@ use sched_base::NoMemory;
 use std::alloc::AllocError;
 
 /// Why a rule of the grammar takes nothing.
-#[derive(Clone, Copy, Debug, PartialEq, Eq)]
+#[derive(Clone, Copy)]
 pub enum Fault {
     Outside,
     NoMemory,

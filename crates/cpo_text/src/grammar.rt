@@ -4,7 +4,7 @@ ghost use Rattle.cpo_text.specs.code.Rules.{given_at, ivarg_of, ivarg_at, has_so
 ghost use Rattle.cpo_text.specs.code.Gives.{ahead, Gives};
 
 use crate::fault::Fault;
-use crate::parts::{behind, copy, int_behind, name, range, sign};
+use crate::parts::{behind, copy, ended, int_behind, name, name_before, owned_before, range, sign};
 use crate::place::Place;
 use crate::tree::{Constrained, Definition, Ivarg, Range, Temporal};
 use sched_base::List;
@@ -94,11 +94,10 @@ pub fn interval(alloc: Global, place: Place<'_>) -> Result<(Definition, Place<'_
         return Ok((Definition::IntervalVar(List::new(alloc)), rest));
     }
     let (args, rest) = ivargs(alloc, open)?;
-    let rest = sign(b")", rest)?;
-    Ok((Definition::IntervalVar(args), rest))
+    ended(Definition::IntervalVar(args), b")", rest)
 }
 
-#[tactic(auto, unfolding(crate::specs::code::Rules::between_at))]
+#[tactic(auto, unfolding(crate::specs::code::Rules::between_at, crate::specs::code::Rules::name_before))]
 pub fn between(
     alloc: Global,
     temporal: Temporal,
@@ -106,8 +105,8 @@ pub fn between(
 ) -> Result<(Constrained, Place<'_>), Fault>
     ensures { Gives result (between_at temporal (ahead place.entry)) }
 {
-    let (first, rest) = name(sign(b"(", place)?)?;
-    let (second, rest) = name(sign(b",", rest)?)?;
+    let (first, rest) = name_before(b",", sign(b"(", place)?)?;
+    let (second, rest) = name(rest)?;
     let (delay, rest) = int_behind(b",", rest)?;
     let rest = sign(b")", rest)?;
     let first = copy(alloc, first)?;
@@ -116,11 +115,9 @@ pub fn between(
 }
 
 /// A name in round brackets.
-#[tactic(auto, unfolding(crate::specs::code::Rules::enclosed_at))]
+#[tactic(auto, unfolding(crate::specs::code::Rules::enclosed_at, crate::specs::code::Rules::name_before))]
 pub fn enclosed(alloc: Global, place: Place<'_>) -> Result<(List<u8>, Place<'_>), Fault>
     ensures { Gives result (enclosed_at (ahead place.entry)) }
 {
-    let (bytes, rest) = name(sign(b"(", place)?)?;
-    let rest = sign(b")", rest)?;
-    Ok((copy(alloc, bytes)?, rest))
+    owned_before(alloc, b")", sign(b"(", place)?)
 }

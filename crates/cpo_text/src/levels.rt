@@ -8,16 +8,15 @@ ghost use Rattle.cpo_text.specs.code.Onward.{linked_on, total_on, compared_on, i
 ghost use Rattle.cpo_text.specs.code.Levels.Task.{logic as logic_task, chain as chain_task, unit as unit_task, sum as sum_task, term as term_task, atom as atom_task, more as more_task, terms as terms_task, items as items_task};
 ghost use Rattle.cpo_text.specs.code.Gives.{ahead, Gives, GivesOne};
 
-use crate::atoms::{gathered_none, measured};
-use crate::built::{group, linked, negated, total};
+use crate::atoms::{gathered_none, gathered_some, measured, presence};
+use crate::built::{alone, bracketed, compared, group, implied, linked, negated, negation, total};
 use crate::expression::{Gather, Link, Logic};
 use crate::fault::Fault;
-use crate::grammar::enclosed;
 use crate::level_words::{comparison, gather_of, measure_of, plain, sign_of};
 use crate::parts::{behind, sign};
 use crate::place::Place;
 use crate::word::Word;
-use sched_base::{Boxed, List};
+use sched_base::List;
 use std::alloc::Global;
 
 #[cycle(levels)]
@@ -35,8 +34,7 @@ fn gathered(
         return gathered_none(alloc, gather, rest);
     }
     let (operands, rest) = items(alloc, fuel, open)?;
-    let rest = sign(b")", sign(b"]", rest)?)?;
-    Ok((Logic::Gathered(gather, operands), rest))
+    gathered_some(gather, operands, rest)
 }
 
 /// What a call word begins.
@@ -52,8 +50,7 @@ fn call<'a>(
     ensures { GivesOne result (call_of word.now (read fuel items_task) (ahead place.entry)) }
 {
     if word == b"presenceOf".as_slice() {
-        let (interval, rest) = enclosed(alloc, place)?;
-        return Ok((Logic::PresenceOf(interval), rest));
+        return presence(alloc, place);
     }
     if let Some(measure) = measure_of(word) {
         return measured(alloc, measure, place);
@@ -132,8 +129,7 @@ fn operands(
 ) -> Result<(List<Logic>, Place<'_>), Fault>
     ensures { Gives result (in_front (first ∷ []) (read fuel (more_task link) (ahead place.entry))) }
 {
-    let mut operands = List::new(alloc);
-    operands.push(first)?;
+    let mut operands = alone(alloc, first)?;
     let mut left = fuel;
     let mut here = place;
     while left > 0 {
@@ -201,7 +197,7 @@ fn term(alloc: Global, fuel: u32, place: Place<'_>) -> Result<(Logic, Place<'_>)
     match behind(b"-", place) {
         Some(rest) => {
             let (product, rest) = chain(alloc, fuel - 1, Link::Times, rest)?;
-            Ok((Logic::Neg(Boxed::new(alloc, product)?), rest))
+            Ok((negated(alloc, product)?, rest))
         }
         None => chain(alloc, fuel - 1, Link::Times, place),
     }
@@ -217,8 +213,7 @@ fn terms(
 ) -> Result<(List<Logic>, Place<'_>), Fault>
     ensures { Gives result (in_front (first ∷ []) (read fuel terms_task (ahead place.entry))) }
 {
-    let mut operands = List::new(alloc);
-    operands.push(first)?;
+    let mut operands = alone(alloc, first)?;
     let mut left = fuel;
     let mut here = place;
     while left > 0 {
@@ -303,9 +298,7 @@ fn compared_on(
         None => Ok((left, place)),
         Some((comparison, next)) => {
             let (right, rest) = sum(alloc, fuel, next)?;
-            let left = Boxed::new(alloc, left)?;
-            let right = Boxed::new(alloc, right)?;
-            Ok((Logic::Compare(comparison, left, right), rest))
+            Ok((compared(alloc, comparison, left, right)?, rest))
         }
     }
 }
@@ -320,7 +313,7 @@ fn unit(alloc: Global, fuel: u32, place: Place<'_>) -> Result<(Logic, Place<'_>)
     }
     if let Some(rest) = behind(b"!", place) {
         let (inner, rest) = unit(alloc, fuel - 1, rest)?;
-        return Ok((Logic::Not(Boxed::new(alloc, inner)?), rest));
+        return Ok((negation(alloc, inner)?, rest));
     }
     let (left, rest) = sum(alloc, fuel - 1, place)?;
     compared_on(alloc, fuel - 1, left, rest)
@@ -340,9 +333,7 @@ fn implied_on(
         None => Ok((left, place)),
         Some(next) => {
             let (right, rest) = logic(alloc, fuel, next)?;
-            let left = Boxed::new(alloc, left)?;
-            let right = Boxed::new(alloc, right)?;
-            Ok((Logic::Implies(left, right), rest))
+            Ok((implied(alloc, left, right)?, rest))
         }
     }
 }
@@ -393,8 +384,7 @@ fn group_on(
     ensures { GivesOne result (grouped_on (all_on fuel (Some (first ∷ [], ahead place.entry)))) }
 {
     let (inner, rest) = all_on(alloc, fuel, first, place)?;
-    let rest = sign(b")", rest)?;
-    Ok((Logic::Group(Boxed::new(alloc, inner)?), rest))
+    bracketed(alloc, inner, rest)
 }
 
 /// What stands behind a round bracket, the first atom in which is read. Nothing goes on at the
@@ -440,8 +430,7 @@ fn leveled_group(alloc: Global, fuel: u32, place: Place<'_>) -> Result<(Logic, P
     ensures { GivesOne result (grouped_at (read fuel logic_task) (ahead place.entry)) }
 {
     let (inner, rest) = leveled(alloc, fuel, place)?;
-    let rest = sign(b")", rest)?;
-    Ok((Logic::Group(Boxed::new(alloc, inner)?), rest))
+    bracketed(alloc, inner, rest)
 }
 
 /// What stands behind a round bracket.

@@ -3,7 +3,7 @@ ghost use Rattle.cpo_text.specs.code.Lists.{items_at, listed_at, names_at, ints_
 ghost use Rattle.cpo_text.specs.code.Gives.{ahead, Gives};
 
 use crate::fault::Fault;
-use crate::parts::{behind, copy, int, name, sign};
+use crate::parts::{behind, copy, ended, int, name, sign};
 use crate::place::Place;
 use crate::tree::Int;
 use sched_base::List;
@@ -51,8 +51,7 @@ fn listed<R: Reader>(alloc: Global, place: Place<'_>) -> Result<(List<R::Item>, 
         return Ok((List::new(alloc), rest));
     }
     let (items, rest) = items::<R>(alloc, open)?;
-    let rest = sign(b"]", rest)?;
-    Ok((items, rest))
+    ended(items, b"]", rest)
 }
 
 /// Reads names.

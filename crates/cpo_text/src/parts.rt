@@ -1,7 +1,7 @@
 ghost use Rattle.std.specs.Prelude.{◌≡◌, option_map, IfOk};
 ghost use Rattle.cpo_text.specs.Words.{is_sign};
 ghost use Rattle.cpo_text.specs.code.Places.{said_word};
-ghost use Rattle.cpo_text.specs.code.Rules.{behind, name_at, size_at, signed_at, int_at, name_before, int_before, int_behind, range_at};
+ghost use Rattle.cpo_text.specs.code.Rules.{behind, ended_at, name_at, size_at, signed_at, int_at, name_before, int_before, int_behind, range_at};
 ghost use Rattle.cpo_text.specs.code.Gives.{ahead, Gives, GivesName, GivesPlace};
 
 use crate::fault::Fault;
@@ -41,6 +41,14 @@ pub fn sign<'a>(sign: &[u8], place: Place<'a>) -> Result<Place<'a>, Fault>
         Some(rest) => Ok(rest),
         None => Err(Fault::Outside),
     }
+}
+
+/// A value behind which a sign has to come next, and the place behind that.
+pub fn ended<'a, T: Drop>(value: T, end: &[u8], place: Place<'a>) -> Result<(T, Place<'a>), Fault>
+    ensures { Gives result (ended_at value end.now (ahead place.entry)) }
+{
+    let rest = sign(end, place)?;
+    Ok((value, rest))
 }
 
 #[tactic(auto, unfolding(crate::specs::code::Gives::ahead))]
@@ -140,6 +148,18 @@ pub fn range(place: Place<'_>) -> Result<(Range, Place<'_>), Fault>
     let (from, rest) = int(place)?;
     let (to, rest) = int_behind(b"..", rest)?;
     Ok((Range { from, to }, rest))
+}
+
+/// A name with a sign behind it, its bytes copied.
+pub fn owned_before<'a>(
+    alloc: Global,
+    end: &[u8],
+    place: Place<'a>,
+) -> Result<(List<u8>, Place<'a>), Fault>
+    ensures { Gives result (name_before end.now (ahead place.entry)) }
+{
+    let (bytes, rest) = name_before(end, place)?;
+    Ok((copy(alloc, bytes)?, rest))
 }
 
 /// The bytes of a name, copied.

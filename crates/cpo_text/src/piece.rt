@@ -5,7 +5,7 @@ ghost use Rattle.cpo_text.specs.code.Lexing.{quote_len, close_len, slash_at, sig
 
 /// What a text is made of: tokens of four kinds, single blanks, and comments to the end of a line
 /// or up to a close.
-#[derive(Clone, Copy, Debug, PartialEq, Eq)]
+#[derive(Clone, Copy)]
 pub enum Piece {
     Name,
     Int,

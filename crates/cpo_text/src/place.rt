@@ -4,7 +4,7 @@ use crate::piece::{gap_at, piece_at};
 use crate::word::{Token, word_of};
 
 /// A place in a text that is no longer than its limit.
-#[derive(Clone, Copy, Debug)]
+#[derive(Clone, Copy)]
 pub struct Place<'a> {
     text: &'a [u8],
     at: usize,

@@ -1,5 +1,5 @@
 /// What a text can deserve a refusal for, by its number in the table of refusals.
-#[derive(Clone, Copy, Debug, PartialEq, Eq)]
+#[derive(Clone, Copy)]
 pub enum Cause {
     /// A byte at which no token, blank or comment begins.
     BadByte = 1,

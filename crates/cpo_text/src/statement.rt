@@ -16,7 +16,7 @@ use crate::expression::Logic;
 use crate::fault::Fault;
 use crate::grammar::{between, interval};
 use crate::levels::logic;
-use crate::parts::{behind, copy, next_name, sign};
+use crate::parts::{behind, copy, ended, next_name, sign};
 use crate::place::Place;
 use crate::tree::{Constrained, Definition, Sense, Statement};
 use std::alloc::Global;
@@ -50,8 +50,7 @@ fn aim(alloc: Global, sense: Sense, place: Place<'_>) -> Result<(Statement, Plac
     ensures { Gives result (aim_at enough sense (ahead place.entry)) }
 {
     let (logic, rest) = expression(alloc, sign(b"(", place)?)?;
-    let rest = sign(b")", rest)?;
-    Ok((Statement::Aim(sense, logic), rest))
+    ended(Statement::Aim(sense, logic), b")", rest)
 }
 
 /// What stands behind the word of a definition.
@@ -167,8 +166,9 @@ fn body(alloc: Global, place: Place<'_>) -> Result<(Statement, Place<'_>), Fault
 {
     match defined_name(place) {
         Some((name, rest)) => {
+            let name = copy(alloc, name)?;
             let (definition, rest) = definition(alloc, rest)?;
-            Ok((Statement::Define(copy(alloc, name)?, definition), rest))
+            Ok((Statement::Define(name, definition), rest))
         }
         None => clause(alloc, place),
     }
@@ -183,6 +183,5 @@ pub fn statement(alloc: Global, place: Place<'_>) -> Result<(Statement, Place<'_
         return Ok((Statement::Empty, rest));
     }
     let (statement, rest) = body(alloc, place)?;
-    let rest = sign(b";", rest)?;
-    Ok((statement, rest))
+    ended(statement, b";", rest)
 }

@@ -44,7 +44,7 @@ const LEFT_OUT: [&[u8]; 22] = [
 
 /// What was seen in the words of a statement: how many brackets are open behind them (negative
 /// where more were closed), and whether too many were open before.
-#[derive(Clone, Copy, Debug)]
+#[derive(Clone, Copy)]
 pub struct Survey {
     left_out: bool,
     deep: bool,

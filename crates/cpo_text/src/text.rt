@@ -43,14 +43,14 @@ impl From<NoMemory> for ReadFault {
 /// A statement as its words alone tell it: its tree, or the number that they deserve. That is 14
 /// for a word that the language leaves out, 11 for too many open brackets, or too many `!` and
 /// `=>`, 2 outside the grammar, and 3 for a literal above 2^62, in this order.
-#[derive(Debug, Drop)]
+#[derive(Drop)]
 pub enum Form {
     Tree(Statement),
     Number(u32),
 }
 
 /// A statement with the offset of its first token.
-#[derive(Debug, Drop)]
+#[derive(Drop)]
 pub struct Reading {
     pub at: u64,
     pub form: Form,
@@ -58,7 +58,7 @@ pub struct Reading {
 
 /// The statements of a text in order, the first 100,001 of them. Tokens behind the last semicolon are
 /// one more statement.
-#[derive(Debug, Drop)]
+#[derive(Drop)]
 pub struct Tree {
     pub statements: List<Reading>,
 }

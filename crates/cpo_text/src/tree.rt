@@ -29,7 +29,7 @@ pub enum Ivarg {
 /// What stands behind `NAME =`. `SequenceVar` has the names of its members and, where they are
 /// written, their types; `TransitionMatrix` its rows; `StateFunction` the name of a matrix, where
 /// one is written. What is none of these calls is a cumulative expression.
-#[derive(Debug, Drop)]
+#[derive(Drop)]
 pub enum Definition {
     IntervalVar(List<Ivarg>),
     SequenceVar(List<List<u8>>, Option<List<Int>>),
@@ -39,7 +39,7 @@ pub enum Definition {
 }
 
 /// The word of a precedence constraint.
-#[derive(Clone, Copy, Debug, PartialEq, Eq)]
+#[derive(Clone, Copy)]
 pub enum Temporal {
     StartBeforeStart,
     StartBeforeEnd,
@@ -52,7 +52,7 @@ pub enum Temporal {
 }
 
 /// The word of a constraint on an interval and its parts.
-#[derive(Clone, Copy, Debug, PartialEq, Eq)]
+#[derive(Clone, Copy)]
 pub enum Hierarchy {
     Span,
     Alternative,
@@ -60,35 +60,35 @@ pub enum Hierarchy {
 }
 
 /// What may not overlap: a sequence by its name, or the members of one without a name.
-#[derive(Debug, Drop)]
+#[derive(Drop)]
 pub enum Over {
     Named(List<u8>),
     Listed(List<List<u8>>),
 }
 
 /// The name of a matrix and, where it is written, the direct flag.
-#[derive(Debug, Drop)]
+#[derive(Drop)]
 pub struct Spaced {
     pub matrix: List<u8>,
     pub direct: Option<bool>,
 }
 
 /// The word of a constraint on one end of a sequence.
-#[derive(Clone, Copy, Debug, PartialEq, Eq)]
+#[derive(Clone, Copy)]
 pub enum Extreme {
     First,
     Last,
 }
 
 /// The word of a constraint on two members of a sequence.
-#[derive(Clone, Copy, Debug, PartialEq, Eq)]
+#[derive(Clone, Copy)]
 pub enum Order {
     Before,
     Prev,
 }
 
 /// The sign of a bound on a cumulative expression.
-#[derive(Clone, Copy, Debug, PartialEq, Eq)]
+#[derive(Clone, Copy)]
 pub enum Bound {
     AtMost,
     AtLeast,
@@ -96,7 +96,7 @@ pub enum Bound {
 
 /// When a cumulative expression is bounded: from a moment on and before another, or during an
 /// interval.
-#[derive(Debug, Drop)]
+#[derive(Drop)]
 pub enum Moments {
     From(Int, Int),
     During(List<u8>),
@@ -108,7 +108,7 @@ pub enum Moments {
 /// `AlwaysEqual` a state function, an interval, a state and, where they are written, whether start
 /// and end are aligned; `AlwaysNoState` a state function and an interval. `Holds` is an expression
 /// that has to hold.
-#[derive(Debug, Drop)]
+#[derive(Drop)]
 pub enum Constrained {
     Between(Temporal, List<u8>, List<u8>, Option<Int>),
     Parts(Hierarchy, List<u8>, List<List<u8>>),
@@ -123,14 +123,14 @@ pub enum Constrained {
 }
 
 /// The word of an objective.
-#[derive(Clone, Copy, Debug, PartialEq, Eq)]
+#[derive(Clone, Copy)]
 pub enum Sense {
     Minimize,
     Maximize,
 }
 
 /// A statement as it is written, without its semicolon. Names are the bytes of the text.
-#[derive(Debug, Drop)]
+#[derive(Drop)]
 pub enum Statement {
     Empty,
     Define(List<u8>, Definition),

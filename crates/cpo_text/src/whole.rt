@@ -1,4 +1,4 @@
-ghost use Rattle.std.specs.Prelude.{◌≡◌, ◌≤◌, length, IfOk};
+ghost use Rattle.std.specs.Prelude.{◌≡◌, ◌≤◌, [], length, IfOk};
 ghost use Rattle.cpo_text.specs.Runs.{runs, words_of};
 ghost use Rattle.cpo_text.specs.code.Lexing.{tokens_from};
 ghost use Rattle.cpo_text.specs.code.Places.{left};
@@ -29,6 +29,8 @@ fn read_form(alloc: Global, place: Place<'_>) -> Result<(Form, Place<'_>), NoMem
         Err(Fault::Outside) => Ok((Form::Number(Cause::OutsideGrammar as u32), behind)),
         Ok((tree, _)) => {
             if survey.large {
+                // By a call, so that no part of the tree is let go of by itself.
+                drop(tree);
                 Ok((Form::Number(Cause::LargeLiteral as u32), behind))
             } else {
                 Ok((Form::Tree(tree), behind))
@@ -38,15 +40,15 @@ fn read_form(alloc: Global, place: Place<'_>) -> Result<(Form, Place<'_>), NoMem
 }
 
 /// The statements of a text, up to the last that is told.
-fn statements(alloc: Global, text: &[u8]) -> Result<List<Reading>, NoMemory>
-    requires { length text.now ≤ 16777216 }
-    ensures { IfOk result (λ readings. AreReadings (told (runs (tokens_from 0 text.now))) readings) }
+fn statements(alloc: Global, text: &[u8], readings: &mut List<Reading>) -> Result<(), NoMemory>
+    requires short { length text.now ≤ 16777216 }
+    requires none { readings.old ≡ [] }
+    ensures { IfOk result (λ _. AreReadings (told (runs (tokens_from 0 text.now))) readings.new) }
 {
-    let mut readings = List::new(alloc);
     let mut here = Place::start(text).onto();
     while let Some((token, _)) = here.next() {
         if readings.len() >= TOLD_LIMIT {
-            return Ok(readings);
+            return Ok(());
         }
         let (form, behind) = read_form(alloc, here)?;
         readings.push(Reading {
@@ -55,7 +57,7 @@ fn statements(alloc: Global, text: &[u8]) -> Result<List<Reading>, NoMemory>
         })?;
         here = behind.onto();
     }
-    Ok(readings)
+    Ok(())
 }
 
 /// Reads a text whole. It is refused where it is longer than its limit (number 11 of the table of
@@ -74,8 +76,17 @@ pub fn read_text(alloc: Global, text: &[u8]) -> Result<Tree, ReadFault>
     }
     match scan(text) {
         Err(refusal) => Err(ReadFault::Refused(refusal)),
-        Ok(()) => Ok(Tree {
-            statements: statements(alloc, text)?,
-        }),
+        Ok(()) => {
+            let mut readings = List::new(alloc);
+            match statements(alloc, text, &mut readings) {
+                Ok(()) => Ok(Tree {
+                    statements: readings,
+                }),
+                Err(e) => {
+                    drop(readings);
+                    Err(e.into())
+                }
+            }
+        }
     }
 }

@@ -6,7 +6,7 @@ use crate::piece::Piece;
 use sched_base::NUMBER_LIMIT;
 
 /// What a token says. A number above the bound on literals has no value.
-#[derive(Clone, Copy, Debug)]
+#[derive(Clone, Copy)]
 pub enum Word<'a> {
     Name(&'a [u8]),
     Number(Option<u64>),
@@ -15,7 +15,7 @@ pub enum Word<'a> {
 }
 
 /// A token that was read, with its offset.
-#[derive(Clone, Copy, Debug)]
+#[derive(Clone, Copy)]
 pub struct Token<'a> {
     pub at: usize,
     pub word: Word<'a>,

@@ -85,6 +85,10 @@ flags_at ws = bound (flag_at ws) (λ s r. if_behind (behind (codes ",") r) (λ r
 unfoldable pub aligned_at : List Word → Found (Option (Bool × Bool))
 aligned_at = maybe_at flags_at
 
+-- a state and whether the ends are aligned, up to the closing bracket
+unfoldable pub state_at : List Word → Found (Int × Option (Bool × Bool))
+state_at ws = bound (int_at ws) (λ v r. bound (aligned_at r) (λ ij r2. if_behind (behind (codes ")") r2) (λ r3. Some ((v, ij), r3)) None))
+
 unfoldable pub always_equal_at : List Word → Found Constrained
 always_equal_at ws = if_behind (behind (codes "(") ws) (λ r. bound (name_at r) (λ g r2. if_behind (behind (codes ",") r2) (λ r3. bound (name_at r3) (λ a r4.
     if_behind (behind (codes ",") r4) (λ r5. bound (int_at r5) (λ v r6. bound (aligned_at r6) (λ ij r7. if_behind (behind (codes ")") r7) (λ r8. Some (constrained.AlwaysEqual g a v ij, r8)) None))) None)) None)) None

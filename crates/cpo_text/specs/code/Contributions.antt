@@ -24,6 +24,13 @@ use Rattle.cpo_text.specs.declared.tree.Constrained.TheVariants.{Bounded, Always
 abbrev pub raised_at : (List ℕ → Int → Cpart) → List Word → Found Cpart
 raised_at make ws = bound (name_before (codes ",") ws) (λ a r. bound (int_before (codes ")") r) (λ h r2. Some (make a h, r2)))
 
+unfoldable pub height_at : List Word → Found (List ℕ × Int)
+height_at ws = bound (name_before (codes ",") ws) (λ a r. bound (int_before (codes ")") r) (λ h r2. Some ((a, h), r2)))
+
+-- two numbers, the second up to a sign
+unfoldable pub ints_before : List ℕ → List Word → Found (Int × Int)
+ints_before s ws = bound (int_before (codes ",") ws) (λ u r. bound (int_before s r) (λ v r2. Some ((u, v), r2)))
+
 unfoldable pub pulse_from : List Word → Found Cpart
 pulse_from ws = bound (int_before (codes ",") ws) (λ u r. bound (int_before (codes ",") r) (λ v r2. bound (int_before (codes ")") r2) (λ h r3. Some (Pulse u v h, r3))))
 
@@ -78,6 +85,10 @@ bounded_at f ws = bound (cumul_at f ws) (λ c r. if_found (sign_in bounds r) (λ
 unfoldable pub moments_at : List Word → Found Moments
 moments_at ws = if_found (name_at ws) (λ n r. bound (name_before (codes ",") ws) (λ a r. Some (During a, r)))
     (bound (int_before (codes ",") ws) (λ u r. bound (int_before (codes ",") r) (λ v r2. Some (From u v, r2))))
+
+-- behind the expression: the window and the bounds
+unfoldable pub window_at : List Word → Found (Moments × (Int × Int))
+window_at ws = if_behind (behind (codes ",") ws) (λ r. bound (moments_at r) (λ w r2. bound (ints_before (codes ")") r2) (λ b r3. Some ((w, b), r3)))) None
 
 unfoldable pub always_in_at : ℕ → List Word → Found Constrained
 always_in_at f ws = if_behind (behind (codes "(") ws) (λ r. bound (cumul_at f r) (λ c r2. if_behind (behind (codes ",") r2) (λ r3. bound (moments_at r3) (λ w r4.

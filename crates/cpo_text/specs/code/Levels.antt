@@ -104,10 +104,13 @@ abbrev pub gathered_none : Gather → List Word → Trees
 gathered_none gather.Sum ws = if_behind (behind (codes ")") ws) (λ r. Some (gathered gather.Sum [] ∷ [], r)) None
 gathered_none g ws = None
 
+-- these, from the closing bracket on
+abbrev pub gathered_some : Gather → List Logic → List Word → Trees
+gathered_some g es ws = if_behind (behind (codes "]") ws) (λ r. if_behind (behind (codes ")") r) (λ r2. Some (gathered g es ∷ [], r2)) None) None
+
 -- behind the bracket, with a reader of the items
 abbrev pub gathered_behind : Gather → (List Word → Trees) → List Word → Trees
-gathered_behind g read ws = if_behind (behind (codes "]") ws) (gathered_none g)
-    (bound (read ws) (λ es r. if_behind (behind (codes "]") r) (λ r2. if_behind (behind (codes ")") r2) (λ r3. Some (gathered g es ∷ [], r3)) None) None))
+gathered_behind g read ws = if_behind (behind (codes "]") ws) (gathered_none g) (bound (read ws) (gathered_some g))
 
 unfoldable pub gathered_at : Gather → (List Word → Trees) → List Word → Trees
 gathered_at g read ws = if_behind (behind (codes "(") ws) (λ r. if_behind (behind (codes "[") r) (gathered_behind g read) None) None
@@ -120,9 +123,13 @@ abbrev pub by_measure : Option Measure → Option Gather → (List Word → Tree
 by_measure None g read ws = by_gather g read ws
 by_measure (Some m) g read ws = measured_at m ws
 
+-- the presence of an interval, behind its word
+abbrev pub presence_at : List Word → Trees
+presence_at ws = bound (enclosed_at ws) (λ a r. Some (presence a ∷ [], r))
+
 -- what begins with a call word
 unfoldable pub call_of : List ℕ → (List Word → Trees) → List Word → Trees
-call_of n read ws = if bytes_eq n (codes "presenceOf") then bound (enclosed_at ws) (λ a r. Some (presence a ∷ [], r))
+call_of n read ws = if bytes_eq n (codes "presenceOf") then presence_at ws
     else by_measure (measure_of n) (gather_of n) read ws
 
 -- behind the bracket, with a reader of the whole expression in it

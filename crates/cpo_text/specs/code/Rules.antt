@@ -65,6 +65,10 @@ signed_at minus ws = bound (size_at ws) (λ n r. Some (record { minus = minus; s
 unfoldable pub int_at : List Word → Found Int
 int_at ws = if_behind (behind (codes "-") ws) (signed_at true) (signed_at false ws)
 
+-- this, with a sign behind it
+abbrev pub ended_at : {X : Type 0} → X → List ℕ → List Word → Found X
+ended_at x s ws = if_behind (behind s ws) (λ r. Some (x, r)) None
+
 -- a name, or a number, with a sign behind it
 unfoldable pub name_before : List ℕ → List Word → Found (List ℕ)
 name_before s ws = bound (name_at ws) (λ a r. if_behind (behind s r) (λ r2. Some (a, r2)) None)

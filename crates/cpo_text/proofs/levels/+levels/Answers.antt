@@ -14,7 +14,7 @@ operands-loop-left-preserved t c = record {
 
 pub terms-loop-left-preserved-in-Some : goal.terms-loop-left-preserved-in-Some
 terms-loop-left-preserved-in-Some t c = record {
-  same = rw c.in_ok-push-2.ensures.ok
+  same = rw c.in_ok-push.ensures.ok
       (turn_plus c.loop-left.left (c.loop-left.left - 1) c.loop-left.operands c.in_ok-one.one (ahead c.loop-left.here) (ahead c.in-Some.next) (ahead c.in_ok-one.rest)
       (omega (arith, c.loop-left-test.true)) c.in-Some.ensures c.in_ok-one.ensures) ∙ c.loop-left.invariant.same;
   within = omega (arith, c.loop-left.invariant.within);

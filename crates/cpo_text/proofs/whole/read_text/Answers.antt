@@ -6,7 +6,7 @@ use Rattle.cpo_text.proofs.whole.read_text.Goals as goal
 pub returns-in-Err : goal.returns-in-Err
 returns-in-Err c = let e = c.in-Err.ensures in refused _ _ (omega arith) e.err.0 e.err.1 e.err.2
 
-pub returns-in_ok-statements-in-Ok : goal.returns-in_ok-statements-in-Ok
-returns-in_ok-statements-in-Ok c =
+pub returns-in-Ok-statements : goal.returns-in-Ok-statements
+returns-in-Ok-statements c =
     let e = c.in-Ok.ensures in
-    record { short = omega arith; tokens = tokens_from 0 c.args.text.now; are = has_tokens _ e.ok; readings = c.in_ok-statements-in-Ok.ensures }
+    record { short = omega arith; tokens = tokens_from 0 c.args.text.now; are = has_tokens _ e.ok; readings = c.in-Ok-statements.ensures }

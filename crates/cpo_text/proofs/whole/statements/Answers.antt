@@ -6,8 +6,8 @@ use Rattle.cpo_text.proofs.whole.statements.Goals as goal
 
 pub loop-token-init : goal.loop-token-init
 loop-token-init c =
-    let none = ap length c.new-readings.ensures in
-    record { room = omega arith; rest = λ n more enough rest. readings_start n _ _ _ more c.new-readings.ensures (omega arith) (c.onto-here.ensures ∙ c.start.ensures) rest }
+    let none = ap length c.requires.none in
+    record { room = omega arith; rest = λ n more enough rest. readings_start n _ _ _ more c.requires.none (omega arith) (c.onto-here.ensures ∙ c.start.ensures) rest }
 
 pub loop-token-smaller : goal.loop-token-smaller
 loop-token-smaller c = behind_fewer _ _ _ _ c.in-Some.ensures.tokens (c.onto-here-in-Some.ensures ∙ c.in_ok-form.ensures.behind)
