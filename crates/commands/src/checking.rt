@@ -29,11 +29,16 @@ fn judge_file<D: Desk>(
 }
 
 /// Judges the log that a file holds, of the model that another holds, and prints what it shows.
+///
+/// `drop` is called before each way out, since one that lets the model go by itself lets go of all
+/// its parts.
 fn check_file<D: Desk>(alloc: Global, desk: &mut D, name: &str, log: &str) -> Result<Ended, Stop>
     ensures { TriesCheck name.now log.now result (D.state desk.old) (D.state desk.new) }
 {
     let model = read_file(alloc, desk, name)?;
-    let checked = judge_file(alloc, desk, &model, log)?;
+    let judged = judge_file(alloc, desk, &model, log);
+    drop(model);
+    let checked = judged?;
     match write_accepted(checked.verdict, checked.nodes, desk) {
         Ok(()) => Ok(Ended::Accepted),
         Err(_) => Err(Stop::Given(Given::Fault)),

@@ -16,7 +16,9 @@ fn show_file<D: Desk>(alloc: Global, desk: &mut D, name: &str) -> Result<Ended, 
     ensures { TriesShow name.now result (D.state desk.old) (D.state desk.new) }
 {
     let model = read_file(alloc, desk, name)?;
-    match print_model(&model, desk) {
+    let printed = print_model(&model, desk);
+    drop(model);
+    match printed {
         Ok(()) => Ok(Ended::Done),
         Err(_) => Err(Stop::Given(Given::Fault)),
     }

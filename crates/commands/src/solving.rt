@@ -56,9 +56,18 @@ fn solve_file<D: Desk>(
     ensures { TriesSolve (file name.now) log.now nodes result (D.state desk.old) (D.state desk.new) }
 {
     let model = read_file(alloc, desk, name)?;
-    let solved = search_logged(alloc, desk, &model, log, nodes)?;
-    match write_answer(&model, &solved, desk) {
-        Ok(()) => Ok(ending(&solved.answer)),
+    let solved = match search_logged(alloc, desk, &model, log, nodes) {
+        Ok(solved) => solved,
+        Err(stop) => {
+            drop(model);
+            return Err(stop);
+        }
+    };
+    let written = write_answer(&model, &solved, desk);
+    let ended = ending(&solved.answer);
+    drop((model, solved));
+    match written {
+        Ok(()) => Ok(ended),
         Err(_) => Err(Stop::Given(Given::Fault)),
     }
 }

@@ -4,7 +4,7 @@ use sched_base::{Failed, NoMemory};
 use solver::SolveFault;
 
 /// Why a command comes to no answer.
-#[derive(Clone, Copy, Debug)]
+#[derive(Clone, Copy)]
 pub enum Stop {
     /// What may stop a run that reads a model and a schedule.
     Given(Given),

@@ -31,9 +31,14 @@ fn solve_shop<D: Desk>(
     ensures { TriesSolve (generated shop) log.now nodes result (D.state desk.old) (D.state desk.new) }
 {
     let model = generated_model(alloc, shop)?;
-    let solved = search_logged(alloc, desk, &model, log, nodes)?;
-    match write_summary(&solved, desk) {
-        Ok(()) => Ok(ending(&solved.answer)),
+    let searched = search_logged(alloc, desk, &model, log, nodes);
+    drop(model);
+    let solved = searched?;
+    let written = write_summary(&solved, desk);
+    let ended = ending(&solved.answer);
+    drop(solved);
+    match written {
+        Ok(()) => Ok(ended),
         Err(_) => Err(Stop::Given(Given::Fault)),
     }
 }

@@ -22,8 +22,16 @@ fn verify_file<D: Desk>(
     ensures { TriesVerify name.now schedule.now result (D.state desk.old) (D.state desk.new) }
 {
     let model = read_file(alloc, desk, name)?;
-    let a = test_file(alloc, desk, &model, schedule)?;
-    let text = verify_bytes(alloc, value(&model, &a))?;
+    let a = match test_file(alloc, desk, &model, schedule) {
+        Ok(a) => a,
+        Err(stop) => {
+            drop(model);
+            return Err(Stop::Given(stop));
+        }
+    };
+    let value = value(&model, &a);
+    drop((model, a));
+    let text = verify_bytes(alloc, value)?;
     match desk.write(Port::Out, text.as_slice()) {
         Ok(()) => Ok(Ended::Done),
         Err(_) => Err(Stop::Given(Given::Fault)),
