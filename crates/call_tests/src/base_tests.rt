@@ -182,9 +182,12 @@ const NUMBERS: [(&[u8], Option<i64>, Option<u64>); 4] = [
 ];
 
 fn are_numbers(rows: &[(&[u8], Option<i64>, Option<u64>)]) -> bool {
-    rows.iter().all(|(word, number, count)| {
-        read_number(word) == *number && read_count(word) == *count
-    })
+    for (word, number, count) in rows {
+        if read_number(word) != *number || read_count(word) != *count {
+            return false;
+        }
+    }
+    true
 }
 
 fn spelled(alloc: Global, number: i64) -> Result<Vec<u8>, Fail> {

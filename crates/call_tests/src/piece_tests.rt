@@ -174,12 +174,30 @@ fn reads_pieces_as_a_whole(rt: HostRuntime) -> Result<(), Fail> {
     Ok(())
 }
 
+/// What is told of the next line.
+#[derive(Clone, Copy, PartialEq, Eq)]
+enum Next {
+    Whole,
+    Waits,
+    Bad,
+    NoMemory,
+}
+
+fn next_line(alloc: Global, lines: &mut LineReader<NoExtra>) -> Next {
+    match lines.next(alloc) {
+        Ok(Some(_)) => Next::Whole,
+        Ok(None) => Next::Waits,
+        Err(EntryFault::Bad) => Next::Bad,
+        Err(EntryFault::NoMemory) => Next::NoMemory,
+    }
+}
+
 fn is_bad(alloc: Global, lines: &mut LineReader<NoExtra>) -> bool {
-    matches!(lines.next(alloc), Err(EntryFault::Bad))
+    next_line(alloc, lines) == Next::Bad
 }
 
 fn waits(alloc: Global, lines: &mut LineReader<NoExtra>) -> bool {
-    matches!(lines.next(alloc), Ok(None))
+    next_line(alloc, lines) == Next::Waits
 }
 
 fn stays_bad_on(alloc: Global, lines: &mut LineReader<NoExtra>) -> Result<bool, NoMemory> {

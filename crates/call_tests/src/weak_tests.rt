@@ -3,6 +3,7 @@ ghost use Rattle.region.specs.Looks.{IsRegionOf};
 
 use crate::lines::{guess_of, line, witness_of};
 use crate::models::{Rows, first_wrong, unless};
+use kernel::{Line, NoWitness};
 use refute_basic::{Basic, BasicWitness, settled_slot};
 use region::{Guess, Look, Region, is_tight, refutes, tighten};
 use sched_base::Itv;
@@ -43,14 +44,18 @@ impl Rows for Weakened<'_> {
     }
 }
 
-/// Whether the guess of a line becomes this one.
-fn becomes(alloc: Global, text: &str, derived: &str, want: Guess) -> bool {
-    let Some(line) = line(alloc, derived) else {
-        return false;
-    };
-    match (guess_of(&line), witness_of(&line)) {
+fn weakens(alloc: Global, text: &str, line: &Line<NoWitness>, want: Guess) -> bool {
+    match (guess_of(line), witness_of(line)) {
         (Some(g), Some(w)) => first_wrong(alloc, text, &Weakened { g, w, want }).is_none(),
         _ => false,
+    }
+}
+
+/// Whether the guess of a line becomes this one.
+fn becomes(alloc: Global, text: &str, derived: &str, want: Guess) -> bool {
+    match line(alloc, derived) {
+        Some(line) => weakens(alloc, text, &line, want),
+        None => false,
     }
 }
 
@@ -97,12 +102,16 @@ impl Rows for Refuted<'_> {
     }
 }
 
-fn is_wanted(alloc: Global, text: &str, best: i64, failed: &str, want: bool) -> bool {
-    let Some(line) = line(alloc, failed) else {
-        return false;
-    };
-    match witness_of(&line) {
+fn shows(alloc: Global, text: &str, best: i64, line: &Line<NoWitness>, want: bool) -> bool {
+    match witness_of(line) {
         Some(w) => first_wrong(alloc, text, &Refuted { best, w, want }).is_none(),
+        None => false,
+    }
+}
+
+fn is_wanted(alloc: Global, text: &str, best: i64, failed: &str, want: bool) -> bool {
+    match line(alloc, failed) {
+        Some(line) => shows(alloc, text, best, &line, want),
         None => false,
     }
 }
