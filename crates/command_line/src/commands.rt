@@ -28,7 +28,7 @@ pub enum Verb {
 }
 
 /// What the program is asked to do. `model`, `log` and `schedule` name files.
-#[derive(Clone, Copy)]
+#[derive(Clone, Copy, Debug)]
 pub enum Command<'a> {
     /// Solve the model, open at most this many nodes, and write the log.
     Solve {

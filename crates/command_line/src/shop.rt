@@ -5,7 +5,7 @@ ghost use Rattle.command_line.specs.code.Found.{IsShop};
 use modelgen::is_within;
 
 /// Which generated job shop: the seed of its durations, and how many jobs and machines it has.
-#[derive(Clone, Copy, PartialEq, Eq)]
+#[derive(Clone, Copy, Debug, PartialEq, Eq)]
 pub struct Shop {
     pub seed: u64,
     pub jobs: u32,
