@@ -54,6 +54,7 @@ for name in $programs; do tells "$name, run as the gate does" runs "$name"; done
 wait $testing
 tells "the tests of public calls" sh -c "tail -n 3 $room/calls; exit $?"
 tells "every example: answer, log, plan" examples/run.sh "$room/schedtool"
+tells "models from other tools, and answers back" tools/test.sh "$room/schedtool"
 tells "streams that are closed" audit/streams.sh "$room/schedtool"
 tells "a second reading of the language" env TOOL="$room/schedtool" audit/agree.py 100
 tells "crates stand on groups that they may stand on" audit/layers.py
