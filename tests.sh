@@ -57,8 +57,6 @@ tells "every example: answer, log, plan" examples/run.sh "$room/schedtool"
 tells "models from other tools, and answers back" tools/test.sh "$room/schedtool"
 tells "streams that are closed" audit/streams.sh "$room/schedtool"
 tells "a second reading of the language" env TOOL="$room/schedtool" audit/agree.py 100
-tells "crates stand on groups that they may stand on" audit/layers.py
-tells "no law stands in two places" audit/statements.py
-tells "definitions stand in their rooms" audit/reading.py --rooms
+tells "the audits that read the texts alone" audit/all.sh
 echo "$passed passed, $failed failed"
 [ $failed = 0 ]
