@@ -1,5 +1,5 @@
 #!/usr/bin/env bash
-# A first look, in a minute or two and without any proof: builds both programs unproved, solves a model, checks the log of
+# A first look, in some three minutes and without any proof: builds both programs unproved, solves a model, checks the log of
 # its search, and draws the schedule as a page for a browser. What counts is what `rt ci` proves and builds.
 # usage: sh examples/first.sh [MODEL [FOLDER]]      (the paint shop, and a new folder of the system's)
 # FOLDER gets the programs `schedtool` and `gantt`, the log, the answer and the page; programs that it has are not built anew.
