@@ -76,7 +76,7 @@ class Tree:
         self.having = collections.defaultdict(set)
         for path in files:
             kind = os.path.splitext(path)[1]
-            if kind not in COMMENT:
+            if kind not in COMMENT or path == "audit/names.py":
                 continue
             text = COMMENT[kind].sub("", text_of(path)) if COMMENT[kind] else text_of(path)
             for word in set(TOKEN.findall(text)):
