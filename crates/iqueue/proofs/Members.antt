@@ -11,6 +11,9 @@ apart_test k j js absent = or_parts (nat_eq k j) (is_in k js) absent
 pub apart : (k j : ℕ) (js : List ℕ) → is_in k (j ∷ js) ≡ false → (k ≡ j → ⊥) × (is_in k js ≡ false)
 apart k j js absent = let r = or_parts (nat_eq k j) (is_in k js) absent in (eqb-false k j r.0, r.1)
 
+pub in_head : (k : ℕ) (js : List ℕ) → is_in k (k ∷ js) ≡ true
+in_head k js = rw (eq-eqb k k refl) refl
+
 pub in_tail : (j k : ℕ) (ks : List ℕ) → (j ≡ k → ⊥) → is_in j (k ∷ ks) ≡ is_in j ks
 in_tail j k ks other = rw (ne_eqb j k other) refl
 
@@ -62,7 +65,52 @@ pub distinct_front : (n : ℕ) (xs ys : List ℕ) → AreDistinctBelow n (xs ++ 
 distinct_front n [] ys are = tt
 distinct_front n (x ∷ xs) ys are = (are.0, (or_parts (is_in x xs) (is_in x ys) (sym (in_append x xs ys) ∙ are.1)).0, distinct_front n xs ys are.2)
 
+pub distinct_back : (n : ℕ) (xs ys : List ℕ) → AreDistinctBelow n (xs ++ ys) → AreDistinctBelow n ys
+distinct_back n [] ys are = are
+distinct_back n (x ∷ xs) ys are = distinct_back n xs ys are.2
+
 -- a number of the first run isn't in the second
+pub in_one : (n j : ℕ) (xs ys : List ℕ) → AreDistinctBelow n (xs ++ ys) → is_in j xs ≡ true → is_in j ys ≡ false
+in_one n j [] ys are found = cc
+in_one n j (x ∷ xs) ys are found = decided (nat_eq j x) refl found (λ h. in_one n j xs ys are.2 h)
+  where
+    decided : (t : Bool) → nat_eq j x ≡ t → (t || is_in j xs) ≡ true → (is_in j xs ≡ true → is_in j ys ≡ false) → is_in j ys ≡ false
+    decided true is h rest = let same : j ≡ x = eqb-true j x is in rw same (or_parts (is_in x xs) (is_in x ys) (sym (in_append x xs ys) ∙ are.1)).1
+    decided false is h rest = rest h
+
+pub distinct_less : (n k : ℕ) (xs ys : List ℕ) → AreDistinctBelow n (xs ++ k ∷ ys) → AreDistinctBelow n (xs ++ ys)
+distinct_less n k [] ys are = are.2
+distinct_less n k (x ∷ xs) ys are =
+    let gone = or_parts (is_in x xs) (is_in x (k ∷ ys)) (sym (in_append x xs (k ∷ ys)) ∙ are.1) in
+    let r = or_parts (nat_eq x k) (is_in x ys) gone.1 in
+    (are.0, in_append x xs ys ∙ rw (gone.0, r.1) refl, distinct_less n k xs ys are.2)
+
+pub absent_less : (n k : ℕ) (xs ys : List ℕ) → AreDistinctBelow n (xs ++ k ∷ ys) → is_in k (xs ++ ys) ≡ false
+absent_less n k [] ys are = are.1
+absent_less n k (x ∷ xs) ys are =
+    let gone = or_parts (is_in x xs) (is_in x (k ∷ ys)) (sym (in_append x xs (k ∷ ys)) ∙ are.1) in
+    let r = or_parts (nat_eq x k) (is_in x ys) gone.1 in
+    rw (ne_eqb k x (λ same. eqb-false x k r.0 (sym same))) (absent_less n k xs ys are.2)
+
+pub in_less : (j k : ℕ) (xs ys : List ℕ) → (j ≡ k → ⊥) → is_in j (xs ++ k ∷ ys) ≡ is_in j (xs ++ ys)
+in_less j k [] ys other = in_tail j k ys other
+in_less j k (x ∷ xs) ys other = ap (λ t. nat_eq j x || t) (in_less j k xs ys other)
+
+-- where a number stands
+pub record Cut (k : ℕ) (ks : List ℕ) : Type 0 where
+  pub front : List ℕ
+  pub back : List ℕ
+  pub whole : ks ≡ front ++ k ∷ back
+  pub rest : without k ks ≡ front ++ back
+
+pub cut : (k : ℕ) (ks : List ℕ) → is_in k ks ≡ true → Cut k ks
+cut k [] found = cc
+cut k (j ∷ js) found = decided (nat_eq k j) refl found (λ h. cut k js h)
+  where
+    decided : (t : Bool) → nat_eq k j ≡ t → (t || is_in k js) ≡ true → (is_in k js ≡ true → Cut k js) → Cut k (j ∷ js)
+    decided true is h more = let same : k ≡ j = eqb-true k j is in record { front = []; back = js; whole = rw same refl; rest = rw is refl }
+    decided false is h more = let c = more h in record { front = j ∷ c.front; back = c.back; whole = ap (λ ks. j ∷ ks) c.whole; rest = rw is (ap (λ ks. j ∷ ks) c.rest) }
+
 -- the first number
 pub first_below : (n k : ℕ) (ks : List ℕ) → AreDistinctBelow n ks → Some k ≡ slice_get ks 0 → k < n
 first_below n k [] are is = cc
@@ -75,20 +123,3 @@ first_and_rest k (j ∷ js) is = let same : k ≡ j = cc in rw (same, eq-eqb j j
 pub first_stays : (ks : List ℕ) (f k : ℕ) → slice_get ks 0 ≡ Some f → slice_get (ks ++ k ∷ []) 0 ≡ Some f
 first_stays [] f k is = cc
 first_stays (j ∷ js) f k is = is
-
--- a number that isn't there, and one that comes last
-pub without_absent : (k : ℕ) (ks : List ℕ) → is_in k ks ≡ false → without k ks ≡ ks
-without_absent k [] absent = refl
-without_absent k (j ∷ js) absent = let r = apart_test k j js absent in rw (r.0) (ap (λ is. j ∷ is) (without_absent k js r.1))
-
-pub without_end : (k : ℕ) (ks : List ℕ) → is_in k ks ≡ false → without k (ks ++ k ∷ []) ≡ ks
-without_end k [] absent = rw (eq-eqb k k refl) refl
-without_end k (j ∷ js) absent = let r = apart_test k j js absent in rw (r.0) (ap (λ is. j ∷ is) (without_end k js r.1))
-
-pub without_other_end : (k j : ℕ) (ks : List ℕ) → (k ≡ j → ⊥) → without k (ks ++ j ∷ []) ≡ without k ks ++ j ∷ []
-without_other_end k j [] other = rw (ne_eqb k j other) refl
-without_other_end k j (i ∷ is) other = decided (nat_eq k i) refl (without_other_end k j is other)
-  where
-    decided : (t : Bool) → nat_eq k i ≡ t → without k (is ++ j ∷ []) ≡ without k is ++ j ∷ [] → without k ((i ∷ is) ++ j ∷ []) ≡ without k (i ∷ is) ++ j ∷ []
-    decided true here rest = rw here refl
-    decided false here rest = rw here (ap (λ js. i ∷ js) rest)

@@ -1,56 +1,45 @@
-ghost use Rattle.std.specs.Prelude.{◌≡◌, ◌<◌, ◌≤◌, ◌∷◌, [], slice_get, IfOk, IfNone, IfSome, IsTrue, ◌↔◌};
+ghost use Rattle.std.specs.Prelude.{◌≡◌, ◌<◌, ◌∷◌, [], slice_get, IfOk, IfNone, IfSome, IsTrue, ◌↔◌};
 ghost use Rattle.iqueue.specs.code.Queue.{AreDistinctBelow, is_in, without, woken};
 
-use crate::slots::{Bounds, first_from, put_last};
+use crate::linked::LinkedQueue;
 use sched_base::NoMemory;
 use std::alloc::Global;
 use std::marker::Model;
 
-/// A queue of distinct numbers below a bound. They stand in slots in the order in which they came, and a
-/// stamp for each number tells its slot, so that a number leaves by one write and a call that changes
-/// nothing reads a stamp alone. A slot that was left is passed over once, by `first`. Where no slot is
-/// left at the end, those that are held move to the front, which happens at most once for as many calls
-/// as there are numbers.
+/// A queue of distinct numbers below a bound. A byte for each number says whether it is in it, so that a
+/// call that changes nothing reads no node: the bytes of many numbers lie where the node of one does.
+/// Every call takes constant time, but for `clear`, which takes the queue's length.
 #[derive(Drop)]
 pub struct WakeQueue {
-    stamps: Vec<u32>,
-    slots: Vec<u32>,
-    bounds: Bounds,
+    queue: LinkedQueue,
+    marks: Vec<bool>,
 }
 
 impl Model for WakeQueue {
-    ghost use Rattle.std.specs.Prelude.{length};
     ghost use Rattle.iqueue.specs.code.Queue.{Queue};
-    ghost use Rattle.iqueue.specs.code.Slots.{held, AreSlots, AreSkipped};
+    ghost use Rattle.iqueue.specs.code.Marks.{AreMarks};
 
     ghost Value = { Queue };
 
-    ghost view = { λ q. record { below = length q.stamps.items; list = held q.stamps.items q.slots.items q.bounds.tail } };
+    ghost view = { λ q. q.queue };
 
-    ghost invariant = { λ q. AreSlots q.stamps.items q.slots.items q.bounds.tail × AreSkipped q.stamps.items q.slots.items q.bounds.head q.bounds.tail };
-}
-
-/// How many slots there are for so many numbers: twice as many where that can be, so that they are seldom
-/// moved.
-fn room(n: u32) -> u32
-    ensures { n ≤ result }
-{
-    if n < 2_147_483_648 { 2 * n } else { n }
+    ghost invariant = { λ q. AreMarks q.queue q.marks.items };
 }
 
 impl WakeQueue {
     /// An empty queue for the numbers below `n`.
+    #[tactic(auto, using(crate::proofs::Marking::none_are))]
     pub fn new(alloc: Global, n: u32) -> Result<WakeQueue, NoMemory>
         ensures { IfOk result (λ q. q ≡ record { below = n; list = [] }) }
     {
         Ok(WakeQueue {
-            stamps: vec![in alloc; 0; n as usize]?,
-            slots: vec![in alloc; 0; room(n) as usize]?,
-            bounds: Bounds { head: 0, tail: 0 },
+            queue: LinkedQueue::new(alloc, n)?,
+            marks: vec![in alloc; false; n as usize]?,
         })
     }
 
     /// Puts a number last where it isn't in the queue.
+    #[tactic(auto, using(crate::proofs::Marking::woken_marked, crate::proofs::Marking::still_woken))]
     pub fn wake(&mut self, k: u32)
         requires { k < self.old.below }
         ensures { self.new ≡ record self.old { list = woken k self.old.list } }
@@ -58,15 +47,23 @@ impl WakeQueue {
         if self.has(k) {
             return;
         }
-        self.bounds = put_last(&mut self.stamps, &mut self.slots, self.bounds, k);
+        self.queue.wake(k);
+        self.marks[k as usize] = true;
     }
 
     /// Takes a number out of the queue, wherever it stands there. The others stay in their order.
+    #[tactic(auto, using(crate::proofs::Marking::unwoken_marked, crate::proofs::Marking::still_without))]
     pub fn unwake(&mut self, k: u32)
         requires { k < self.old.below }
         ensures { self.new ≡ record self.old { list = without k self.old.list } }
     {
-        self.stamps[k as usize] = 0;
+        if !self.has(k) {
+            return;
+        }
+        // Called for its clause alone.
+        let _ = self.queue.first();
+        self.queue.unwake(k);
+        self.marks[k as usize] = false;
     }
 
     /// Removes the first number.
@@ -86,14 +83,7 @@ impl WakeQueue {
         ensures same { self.new ≡ self.old }
         ensures distinct { AreDistinctBelow self.old.below self.old.list }
     {
-        let Bounds { head, tail } = self.bounds;
-        let at = first_from(&self.stamps, &self.slots, head, tail);
-        if at == tail {
-            self.bounds = Bounds { head: 0, tail: 0 };
-            return None;
-        }
-        self.bounds.head = at;
-        Some(self.slots[at])
+        self.queue.first()
     }
 
     /// Whether a number is in the queue.
@@ -101,7 +91,7 @@ impl WakeQueue {
         requires { k < self.now.below }
         ensures { result ≡ is_in k self.now.list }
     {
-        self.stamps[k as usize] != 0
+        self.marks[k as usize]
     }
 
     /// Whether no number is in the queue.
@@ -110,7 +100,7 @@ impl WakeQueue {
         ensures same { self.new ≡ self.old }
         ensures distinct { AreDistinctBelow self.old.below self.old.list }
     {
-        self.first().is_none()
+        self.queue.first().is_none()
     }
 
     /// Removes every number.
