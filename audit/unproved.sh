@@ -3,8 +3,8 @@
 # tests and measurements alone. What counts is what `rt ci` proves and builds.
 # usage: audit/unproved.sh PROGRAM.. [--to FOLDER]      (schedtool, gantt, ..; FOLDER: a new one of the system's)
 # How: `rt try` lowers all crates to one module and hands it to the kit's clang, with checks, for a run of its own. Here it
-# runs from a copy of the kit's two scripts, beside links to all else, whose clang keeps the module; this is then compiled
-# and linked as `rt run` does it.
+# runs from a copy of the kit's two scripts, beside links to all else, whose clang keeps the module and fails, so that the
+# kit compiles and runs nothing; the module is then compiled and linked as `rt run` does it.
 set -eu
 top=$(cd "$(dirname "$0")/.." && pwd)
 programs=()
@@ -36,8 +36,8 @@ build() {
   rm -rf "$room"
   mkdir -p "$room"
   : > "$room/empty"
-  # (the tools run with no environment)
-  printf '#!/bin/sh\nfor it in *.bc; do [ -e "$it" ] && cp "$it" "%s"; done\nexec "%s" "$@"\n' "$room/module.bc" "$kit/toolchain/bin/clang" > "$like/toolchain/bin/clang"
+  # (the tools run with no environment; a module of a few bytes comes first, which only asks whether that clang works)
+  printf '#!/bin/sh\nfor it in *.bc; do [ -e "$it" ] && cp "$it" "%s" && [ "$(wc -c < "$it")" -gt 100000 ] && exit 1; done\nexec "%s" "$@"\n' "$room/module.bc" "$kit/toolchain/bin/clang" > "$like/toolchain/bin/clang"
   chmod +x "$like/toolchain/bin/clang"
   # (what the run of its own prints is of no use here, and may be a fault for want of its files)
   (cd "$top/crates/$name" && "$like/bin/rt" try --steps 1 --seconds 1 -- < "$room/empty") > "$room/try.log" 2>&1 || true
