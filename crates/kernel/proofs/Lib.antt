@@ -4,3 +4,5 @@ pub mod Stepped
 pub mod Regions
 pub mod Sols
 pub mod Readies
+pub mod Used
+pub mod Sounds

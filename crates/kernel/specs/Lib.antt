@@ -4,6 +4,8 @@ pub mod Steps
 pub mod Promises
 pub mod Fit
 pub mod Agenda
+pub mod Named
+pub mod Used
 pub mod Derives
 pub mod laws
 pub mod code

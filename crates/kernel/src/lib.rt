@@ -12,7 +12,7 @@ mod solution;
 mod types;
 
 pub use kernel::Kernel;
-pub use laws::loses_nothing;
+pub use laws::{loses_nothing, uses_enough};
 pub use no_extra::{NoExtra, NoWitness};
 pub use pending::Pending;
 pub use sched_model::Verdict;

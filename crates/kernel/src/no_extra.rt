@@ -43,12 +43,14 @@ impl Numbers for NoWitness {
 pub struct NoExtra;
 
 impl Refuter for NoExtra {
-    ghost use Rattle.kernel.specs.NoExtra.{refutes_none};
+    ghost use Rattle.kernel.specs.NoExtra.{refutes_none, names_none};
     ghost use Rattle.kernel.specs.laws.NoExtra.{valid_lem, sound_lem};
 
     type Witness = NoWitness;
 
     ghost refuting = { refutes_none };
+
+    ghost named = { names_none };
 
     fn refutes(_: &Model, _: &Look<'_>, _: &NoWitness) -> bool {
         false

@@ -2,8 +2,9 @@
 ghost use Rattle.std.specs.Prelude.{◌≡◌, IsTrue, false, true, ◌<◌, IfOk, IfSome, IfNone};
 ghost use Rattle.sched_model.specs.Data.{Data, gap};
 ghost use Rattle.sched_model.specs.Valid.{IsValid};
-ghost use Rattle.region.specs.Looks.{Seen, IsRegionOf, HasNone};
+ghost use Rattle.region.specs.Looks.{Seen, IsRegionOf, HasNoneOf};
 ghost use Rattle.refute_basic.specs.Basic.{refutes};
+ghost use Rattle.refute_basic.specs.Named.{named};
 ghost use Rattle.refute_basic.specs.declared.witness.BasicWitness.{BasicWitness};
 ghost use Rattle.refute_basic.specs.Witness.{is_valid, numbers_of};
 ghost use Rattle.refute_basic.specs.Listed.{is_derived};
@@ -26,12 +27,12 @@ pub fn refutes(model: &Model, look: &Look<'_>, w: &BasicWitness) -> bool
     Basic::refutes(model, look, w)
 }
 
-/// What refutes leaves no better solution.
+/// Where a witness refutes, the constraints that it names leave nothing better.
 #[tactic(auto, using(refute_basic::specs::laws::Sound::sound_law))]
 pub fn refutes_soundly(model: &Model, look: &Look<'_>, witness: &BasicWitness) -> bool
     requires of { IsRegionOf model.now look.now.region }
     requires valid { IsValid model.now }
-    ensures { IsTrue result → HasNone model.now look.now }
+    ensures { IsTrue result → HasNoneOf model.now (named witness.now) look.now }
 {
     Basic::refutes(model, look, witness)
 }

@@ -2,8 +2,9 @@
 ghost use Rattle.std.specs.Prelude.{◌≡◌, IsTrue, false, true, ◌<◌, ◌^◌, length, IfOk, IfSome, IfNone};
 ghost use Rattle.sched_model.specs.Data.{Data};
 ghost use Rattle.sched_model.specs.Valid.{IsValid};
-ghost use Rattle.region.specs.Looks.{Seen, IsRegionOf, HasNone, HasMoments};
+ghost use Rattle.region.specs.Looks.{Seen, IsRegionOf, HasNoneOf, HasMoments};
 ghost use Rattle.refute_hier.specs.Hier.{refutes};
+ghost use Rattle.refute_hier.specs.Named.{named};
 ghost use Rattle.refute_hier.specs.declared.witness.HierWitness.{HierWitness};
 ghost use Rattle.refute_hier.specs.Witness.{is_valid, numbers_of};
 ghost use Rattle.std.specs.List.{list_all};
@@ -28,12 +29,12 @@ pub fn refutes(model: &Model, look: &Look<'_>, w: &HierWitness) -> bool
     Hier::refutes(model, look, w)
 }
 
-/// What refutes leaves no better solution.
+/// Where a witness refutes, the constraints that it names leave nothing better.
 #[tactic(auto, using(refute_hier::specs::laws::Sound::sound_law))]
 pub fn refutes_soundly(model: &Model, look: &Look<'_>, witness: &HierWitness) -> bool
     requires of { IsRegionOf model.now look.now.region }
     requires valid { IsValid model.now }
-    ensures { IsTrue result → HasNone model.now look.now }
+    ensures { IsTrue result → HasNoneOf model.now (named witness.now) look.now }
 {
     Hier::refutes(model, look, witness)
 }

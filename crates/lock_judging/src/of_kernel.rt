@@ -13,6 +13,12 @@ ghost use Rattle.kernel.specs.declared.types.StepFault.TheVariants.{NoMemory as 
 ghost use Rattle.kernel.specs.Agenda.{first_in};
 ghost use Rattle.kernel.specs.code.Pending.{ArePending, after_saved, Takes};
 ghost use Rattle.kernel.specs.declared.types.Line.{Line};
+ghost use Rattle.sched_base.specs.declared.ids.Con.{Con};
+ghost use Rattle.sched_model.specs.declared.types.Assignment.{Assignment};
+ghost use Rattle.sched_model.specs.declared.types.Verdict.TheVariants.{Infeasible};
+ghost use Rattle.sched_model.specs.Solution.{Meets};
+ghost use Rattle.kernel.specs.Named.{named_with};
+ghost use Rattle.kernel.specs.Used.{IsUsed, used_in};
 
 use kernel::{Found, Kernel, Line, Pending, StepFault, Verdict};
 use region::{CellName, Guess, Refuter, Region};
@@ -134,4 +140,12 @@ pub fn loses_nothing<X: Refuter>()
         → Steps (refutes_with X.refuting) m (opening m) lines s → Means m (verdict_of s) }
 {
     kernel::loses_nothing::<X>();
+}
+
+pub fn uses_enough<X: Refuter>()
+    ensures leaves { (m : Data) (lines : List (Line X.Witness)) (s : LogState) → IsValid m
+        → Steps (refutes_with X.refuting) m (opening m) lines s → verdict_of s ≡ Infeasible → (a : Assignment) → Meets m (used_in (named_with X.named) lines) a → ⊥ }
+    ensures core { (m : Data) (used core : List Con) (a : Assignment) → IsUsed m used core → Meets m core a → Meets m used a }
+{
+    kernel::uses_enough::<X>();
 }

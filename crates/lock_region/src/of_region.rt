@@ -7,7 +7,7 @@ ghost use Rattle.sched_model.specs.Words.{passes_if_any};
 ghost use Rattle.sched_model.specs.Valid.{is_moment, IsValid};
 ghost use Rattle.region.specs.Cells.{Allows, root, is_settled, cell_count, cells_of, settled_slots, bounds_of};
 ghost use Rattle.region.specs.Guesses.{admits, splits, refused, with_guess, with_fact, looked_at, guess_holds, guess_cell, fact_cell};
-ghost use Rattle.region.specs.Looks.{IsRegionOf, HasMoments, HasNone, is_shifted, lst_of, ect_of, seen_at};
+ghost use Rattle.region.specs.Looks.{IsRegionOf, HasMoments, HasNoneOf, is_shifted, lst_of, ect_of, seen_at};
 ghost use Rattle.region.specs.code.Spelled.{AreSmall};
 ghost use Rattle.region.specs.code.Held.{Regains, IsHeldOf};
 ghost use Rattle.region.specs.Narrows.{Leaves, Narrows, Splits, HasPoint};
@@ -248,12 +248,12 @@ pub fn test_refutes<T: GuessTest>(test: &T, guess: Option<Guess>) -> bool
     test.refutes(guess)
 }
 
-/// Laws of every refuter: what refutes is valid, and leaves no better solution.
+/// Laws of every refuter: what refutes is valid, and by it the constraints that it names leave nothing better.
 pub fn refutes_soundly<X: Refuter>(model: &Model, look: &Look<'_>, w: &X::Witness) -> bool
     requires of { IsRegionOf model.now look.now.region }
     requires valid { IsValid model.now }
     ensures valid { IsTrue result → IsTrue (X.Witness.is_valid w.now) }
-    ensures sound { IsTrue result → HasNone model.now look.now }
+    ensures sound { IsTrue result → HasNoneOf model.now (X.named w.now) look.now }
 {
     X::refutes(model, look, w)
 }

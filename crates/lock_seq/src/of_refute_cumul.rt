@@ -4,9 +4,10 @@ ghost use Rattle.std.specs.List.{list_all};
 ghost use Rattle.sched_model.specs.Valid.{IsValid};
 ghost use Rattle.sched_model.specs.Data.{Data, parts_of};
 ghost use Rattle.sched_model.specs.declared.types.Assignment.{Assignment};
-ghost use Rattle.region.specs.Looks.{IsRegionOf, HasNone, Seen};
+ghost use Rattle.region.specs.Looks.{IsRegionOf, HasNoneOf, Seen};
 ghost use Rattle.region.specs.laws.Pinned.{IsSettledTo};
 ghost use Rattle.refute_cumul.specs.OnCumul.{refutes};
+ghost use Rattle.refute_cumul.specs.Named.{named};
 ghost use Rattle.refute_cumul.specs.declared.witness.CumulWitness.{CumulWitness as Witnesses};
 ghost use Rattle.refute_cumul.specs.laws.Settled.{keeps_bounds};
 ghost use Rattle.refute_cumul.specs.Witness.{is_valid, numbers_of};
@@ -32,7 +33,7 @@ pub fn refutes(model: &Model, look: &Look<'_>, w: &CumulWitness) -> bool
 pub fn refutes_soundly(model: &Model, look: &Look<'_>, by: &CumulWitness) -> bool
     requires of { IsRegionOf model.now look.now.region }
     requires valid { IsValid model.now }
-    ensures { IsTrue result → HasNone model.now look.now }
+    ensures { IsTrue result → HasNoneOf model.now (named by.now) look.now }
 {
     OnCumul::refutes(model, look, by)
 }

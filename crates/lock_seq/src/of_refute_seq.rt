@@ -4,10 +4,11 @@ ghost use Rattle.std.specs.List.{list_all};
 ghost use Rattle.sched_model.specs.Valid.{IsValid};
 ghost use Rattle.sched_model.specs.Data.{Data};
 ghost use Rattle.sched_model.specs.declared.types.Assignment.{Assignment};
-ghost use Rattle.region.specs.Looks.{IsRegionOf, HasNone, Seen};
+ghost use Rattle.region.specs.Looks.{IsRegionOf, HasNoneOf, Seen};
 ghost use Rattle.region.specs.Cells.{cells_of};
 ghost use Rattle.region.specs.laws.Pinned.{IsSettledTo};
 ghost use Rattle.refute_seq.specs.OnSequence.{refutes};
+ghost use Rattle.refute_seq.specs.Named.{named};
 ghost use Rattle.refute_seq.specs.code.Order.{settled_order, settled_orders};
 ghost use Rattle.refute_seq.specs.laws.Ordered.{IsSettledLook};
 ghost use Rattle.refute_seq.specs.laws.Whole.{keeps_apart};
@@ -34,7 +35,7 @@ pub fn refutes(model: &Model, look: &Look<'_>, w: &SeqWitness) -> bool
 pub fn refutes_soundly(model: &Model, look: &Look<'_>, by: &SeqWitness) -> bool
     requires of { IsRegionOf model.now look.now.region }
     requires valid { IsValid model.now }
-    ensures { IsTrue result → HasNone model.now look.now }
+    ensures { IsTrue result → HasNoneOf model.now (named by.now) look.now }
 {
     OnSequence::refutes(model, look, by)
 }

@@ -4,9 +4,10 @@ ghost use Rattle.std.specs.List.{list_all};
 ghost use Rattle.sched_model.specs.Valid.{IsValid};
 ghost use Rattle.sched_model.specs.Data.{Data};
 ghost use Rattle.sched_model.specs.declared.types.Assignment.{Assignment};
-ghost use Rattle.region.specs.Looks.{IsRegionOf, HasNone, Seen};
+ghost use Rattle.region.specs.Looks.{IsRegionOf, HasNoneOf, Seen};
 ghost use Rattle.region.specs.laws.Pinned.{IsSettledTo};
 ghost use Rattle.refute_state.specs.OnState.{refutes};
+ghost use Rattle.refute_state.specs.Named.{named};
 ghost use Rattle.refute_state.specs.code.Canonical.{settled_segments, canonical};
 ghost use Rattle.refute_state.specs.laws.Whole.{keeps_state, NoneRefutes};
 ghost use Rattle.refute_state.specs.Witness.{is_valid, numbers_of};
@@ -35,7 +36,7 @@ pub fn refutes(model: &Model, look: &Look<'_>, w: &StateWitness) -> bool
 pub fn refutes_soundly(model: &Model, look: &Look<'_>, by: &StateWitness) -> bool
     requires of { IsRegionOf model.now look.now.region }
     requires valid { IsValid model.now }
-    ensures { IsTrue result → HasNone model.now look.now }
+    ensures { IsTrue result → HasNoneOf model.now (named by.now) look.now }
 {
     OnState::refutes(model, look, by)
 }

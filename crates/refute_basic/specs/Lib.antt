@@ -8,4 +8,5 @@ pub mod Obj
 pub mod Leaf
 pub mod Basic
 pub mod Listed
+pub mod Named
 pub mod laws

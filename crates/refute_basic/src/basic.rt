@@ -15,11 +15,14 @@ pub struct Basic;
 impl Refuter for Basic {
     ghost use Rattle.refute_basic.specs.Basic.{refutes};
     ghost use Rattle.refute_basic.specs.laws.Spelling.{refuting_valid};
+    ghost use Rattle.refute_basic.specs.Named.{named};
     ghost use Rattle.refute_basic.specs.laws.Sound.{sound_law};
 
     type Witness = BasicWitness;
 
     ghost refuting = { refutes };
+
+    ghost named = { named };
 
     fn refutes(model: &Model, look: &Look<'_>, w: &BasicWitness) -> bool {
         match w {

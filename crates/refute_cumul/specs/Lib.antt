@@ -3,5 +3,6 @@ pub mod Levels
 pub mod Point
 pub mod OnCumul
 pub mod Listed
+pub mod Named
 pub mod laws
 pub mod code

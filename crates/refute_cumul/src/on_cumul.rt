@@ -9,11 +9,14 @@ pub struct OnCumul;
 impl Refuter for OnCumul {
     ghost use Rattle.refute_cumul.specs.OnCumul.{refutes};
     ghost use Rattle.refute_cumul.specs.laws.Spelling.{refuting_valid};
+    ghost use Rattle.refute_cumul.specs.Named.{named};
     ghost use Rattle.refute_cumul.specs.laws.Sound.{sound_law};
 
     type Witness = CumulWitness;
 
     ghost refuting = { refutes };
+
+    ghost named = { named };
 
     fn refutes(model: &Model, look: &Look<'_>, w: &CumulWitness) -> bool {
         match *w {

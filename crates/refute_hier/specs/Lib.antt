@@ -6,5 +6,6 @@ pub mod Sync
 pub mod SeqRel
 pub mod Hier
 pub mod Listed
+pub mod Named
 pub mod laws
 pub mod code

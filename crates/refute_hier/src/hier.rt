@@ -12,11 +12,14 @@ pub struct Hier;
 impl Refuter for Hier {
     ghost use Rattle.refute_hier.specs.Hier.{refutes};
     ghost use Rattle.refute_hier.specs.laws.Spelling.{refuting_valid};
+    ghost use Rattle.refute_hier.specs.Named.{named};
     ghost use Rattle.refute_hier.specs.laws.Sound.{sound_law};
 
     type Witness = HierWitness;
 
     ghost refuting = { refutes };
+
+    ghost named = { named };
 
     fn refutes(model: &Model, look: &Look<'_>, w: &HierWitness) -> bool {
         match *w {

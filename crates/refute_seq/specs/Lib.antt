@@ -5,5 +5,6 @@ pub mod Triple
 pub mod Sets
 pub mod OnSequence
 pub mod Listed
+pub mod Named
 pub mod laws
 pub mod code

@@ -18,11 +18,14 @@ pub struct OnSequence;
 impl Refuter for OnSequence {
     ghost use Rattle.refute_seq.specs.OnSequence.{refutes};
     ghost use Rattle.refute_seq.specs.laws.Spelling.{refuting_valid};
+    ghost use Rattle.refute_seq.specs.Named.{named};
     ghost use Rattle.refute_seq.specs.laws.Sound.{sound_law};
 
     type Witness = SeqWitness;
 
     ghost refuting = { refutes };
+
+    ghost named = { named };
 
     fn refutes(model: &Model, look: &Look<'_>, w: &SeqWitness) -> bool {
         w.valid() && row(model, look, w)

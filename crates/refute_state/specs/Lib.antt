@@ -5,5 +5,6 @@ pub mod State
 pub mod State3
 pub mod OnState
 pub mod Listed
+pub mod Named
 pub mod laws
 pub mod code

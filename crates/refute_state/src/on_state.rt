@@ -10,11 +10,14 @@ pub struct OnState;
 impl Refuter for OnState {
     ghost use Rattle.refute_state.specs.OnState.{refutes};
     ghost use Rattle.refute_state.specs.laws.Spelling.{refuting_valid};
+    ghost use Rattle.refute_state.specs.Named.{named};
     ghost use Rattle.refute_state.specs.laws.Sound.{sound_law};
 
     type Witness = StateWitness;
 
     ghost refuting = { refutes };
+
+    ghost named = { named };
 
     fn refutes(model: &Model, look: &Look<'_>, w: &StateWitness) -> bool {
         match *w {

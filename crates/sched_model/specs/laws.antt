@@ -13,3 +13,4 @@ pub mod Words
 pub mod Domain
 pub mod Totals
 pub mod Sums
+pub mod Met
