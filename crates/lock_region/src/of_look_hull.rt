@@ -1,5 +1,10 @@
 //! The ranges of expressions in a look.
-ghost use Rattle.std.specs.Prelude.{◌≡◌, is_some, true};
+ghost use Rattle.std.specs.Prelude.{◌≡◌, is_some, true, IsTrue};
+ghost use Rattle.sched_model.specs.declared.types.Assignment.{Assignment};
+ghost use Rattle.sched_model.specs.Domain.{is_in_domain};
+ghost use Rattle.sched_model.specs.Value.{value_of};
+ghost use Rattle.sched_model.specs.laws.Within.{Within};
+ghost use Rattle.region.specs.Cells.{Allows};
 ghost use Rattle.sched_model.specs.Hull.{hull_of};
 ghost use Rattle.region.specs.Looks.{IsRegionOf};
 ghost use Rattle.look_hull.specs.LookHull.{look_hull, surely_true, compare_range};
@@ -10,7 +15,8 @@ use sched_model::{CompareOp, Expr, Model};
 pub fn look_hull(model: &Model, look: &Look<'_>, e: &Expr) -> (i64, i64)
     requires of { IsRegionOf model.now look.now.region }
     requires hull { is_some (hull_of model.now e.now) ≡ true }
-    ensures { result ≡ look_hull model.now look.now.region e.now }
+    ensures value { result ≡ look_hull model.now look.now.region e.now }
+    ensures within { (a : Assignment) → IsTrue (is_in_domain model.now a) → Allows look.now.region a → Within result (value_of a e.now) }
 {
     look_hull::look_hull(model, look, e)
 }

@@ -1,4 +1,9 @@
-ghost use Rattle.std.specs.Prelude.{◌≡◌, is_some, map, true};
+ghost use Rattle.std.specs.Prelude.{◌≡◌, is_some, map, true, IsTrue};
+ghost use Rattle.sched_model.specs.declared.types.Assignment.{Assignment};
+ghost use Rattle.sched_model.specs.Domain.{is_in_domain};
+ghost use Rattle.sched_model.specs.Value.{value_of};
+ghost use Rattle.sched_model.specs.laws.Within.{Within};
+ghost use Rattle.region.specs.Cells.{Allows};
 ghost use Rattle.sched_model.specs.Ranges.{greatest_range, least_range, total_range};
 ghost use Rattle.sched_model.specs.Hull.{hull_of};
 ghost use Rattle.region.specs.Looks.{IsRegionOf};
@@ -28,12 +33,14 @@ fn negated(r: (i64, i64)) -> (i64, i64)
 }
 
 /// The least and the greatest value that an expression can have by the cells of the look: interval
-/// arithmetic with presence, exact. It holds the value under each allowed assignment, and lies in
-/// the hull of before the search. It reads each node of the expression once.
+/// arithmetic with presence, exact. It holds the value under each assignment of the domain that the
+/// region allows, and lies in the hull of before the search. It reads each node of the expression
+/// once.
 pub fn look_hull(model: &Model, look: &Look<'_>, e: &Expr) -> (i64, i64)
     requires of { IsRegionOf model.now look.now.region }
     requires hull { is_some (hull_of model.now e.now) ≡ true }
-    ensures { result ≡ look_hull model.now look.now.region e.now }
+    ensures value { result ≡ look_hull model.now look.now.region e.now }
+    ensures within { (a : Assignment) → IsTrue (is_in_domain model.now a) → Allows look.now.region a → Within result (value_of a e.now) }
 {
     // Called for its clause alone.
     let _ = model.intervals();
