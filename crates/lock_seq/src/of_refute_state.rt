@@ -6,6 +6,8 @@ ghost use Rattle.sched_model.specs.Data.{Data};
 ghost use Rattle.sched_model.specs.declared.types.Assignment.{Assignment};
 ghost use Rattle.region.specs.Looks.{IsRegionOf, HasNoneOf, Seen};
 ghost use Rattle.region.specs.laws.Pinned.{IsSettledTo};
+ghost use Rattle.refute_state.specs.laws.Canonical.{KeepsStates};
+ghost use Rattle.refute_state.specs.laws.Making.{DemandsAreGrouped};
 ghost use Rattle.refute_state.specs.OnState.{refutes};
 ghost use Rattle.refute_state.specs.Named.{named};
 ghost use Rattle.refute_state.specs.code.Canonical.{settled_segments, canonical};
@@ -78,7 +80,8 @@ pub fn canonical(
     model: &Model,
     slots: &[Slot],
 ) -> Result<List<List<Segment>>, NoMemory>
-    ensures { IfOk result (λ ss. ss ≡ canonical model.now slots.now) }
+    ensures segments { IfOk result (λ ss. ss ≡ canonical model.now slots.now) }
+    ensures keeps { IfOk result (KeepsStates model.now slots.now) }
 {
     refute_state::canonical(alloc, model, slots)
 }
@@ -125,4 +128,10 @@ pub fn is_late(look: &Look<'_>, x: Itv, d: i64, y: Itv) -> bool
     ensures { result ≡ is_late look.now.region x d y }
 {
     refute_state::is_late(look, x, d, y)
+}
+
+pub fn demands_are_grouped()
+    ensures { DemandsAreGrouped }
+{
+    refute_state::demands_are_grouped();
 }

@@ -6,6 +6,7 @@ ghost use Rattle.sched_model.specs.Value.{slot_of, start_of, end_of};
 ghost use Rattle.sched_model.specs.States.{demands};
 ghost use Rattle.sched_model.specs.Domain.{is_in_domain};
 ghost use Rattle.sched_model.specs.Valid.{IsValid};
+ghost use Rattle.refute_state.specs.laws.Canonical.{KeepsStates};
 ghost use Rattle.refute_state.specs.code.Canonical.{at_slots, stretch_of, empty_of, canonical_for, canonical};
 
 use crate::runs::segments_of;
@@ -128,13 +129,9 @@ fn canonical_for(
     Ok(List::from_vec(segments))
 }
 
-/// The canonical segments of each state function for slots of the intervals: its demands of one state
-/// that overlap are in one segment, and so are two neighbours of one state where neither is aligned at
-/// the gap between them nor another demand that wants no state meets it. Where any segments make the
-/// state constraints hold with these slots, these do. It looks at each two demands of a state function
-/// a few times at most.
+/// The canonical segments of each state function, one after another.
 #[tactic(auto, using(crate::proofs::Collecting::few_states, crate::proofs::Collecting::function_step))]
-pub fn canonical(
+fn canonical_each(
     alloc: Global,
     model: &Model,
     slots: &[Slot],
@@ -148,4 +145,22 @@ pub fn canonical(
         found.push(segments)?;
     }
     Ok(List::from_vec(found))
+}
+
+/// The canonical segments of each state function for slots of the intervals: its demands of one state
+/// that overlap are in one segment, and so are two neighbours of one state where neither is aligned at
+/// the gap between them nor another demand that wants no state meets it. Where any segments make the
+/// state constraints hold with these slots, these do. It looks at each two demands of a state function
+/// a few times at most.
+pub fn canonical(
+    alloc: Global,
+    model: &Model,
+    slots: &[Slot],
+) -> Result<List<List<Segment>>, NoMemory>
+    ensures segments { IfOk result (λ ss. ss ≡ canonical model.now slots.now) }
+    ensures keeps { IfOk result (KeepsStates model.now slots.now) }
+{
+    // Called for its clause alone.
+    let _ = model.intervals();
+    canonical_each(alloc, model, slots)
 }
