@@ -4,6 +4,7 @@
 mod both;
 mod engine;
 mod late;
+mod laws;
 mod lines;
 mod propagator;
 mod stops;
@@ -12,6 +13,7 @@ mod watchers;
 
 pub use both::Both;
 pub use engine::Engine;
+pub use laws::cap_is_the_models;
 pub use lines::Lines;
 pub use propagator::Propagator;
 pub use stops::{EngineFault, Stop};

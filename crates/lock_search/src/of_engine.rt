@@ -15,6 +15,7 @@ ghost use Rattle.engine.specs.code.Watched.{names_presence, names_bound, names_o
 ghost use Rattle.engine.specs.code.Engines.{IsFor, AreAwake, IsCalm, AreQuiet, NoneAwake};
 ghost use Rattle.engine.specs.code.Changes.{AreSameBut};
 ghost use Rattle.engine.specs.Runs.{Ran, Broke};
+ghost use Rattle.engine.specs.laws.Caps.{CapIsTheModels};
 ghost use Rattle.engine.specs.declared.stops.Stop.TheVariants as stop;
 ghost use Rattle.engine.specs.declared.stops.EngineFault.TheVariants as fault;
 
@@ -163,4 +164,10 @@ pub fn run<P: Propagator, L: Lines>(
     ensures awake { OnErr result (AreAwake P.Propagator model.now engine.new) }
 {
     engine.run(model, region, best, lines)
+}
+
+pub fn cap_is_the_models()
+    ensures { CapIsTheModels }
+{
+    engine::cap_is_the_models();
 }
