@@ -2,8 +2,6 @@
 use Rattle.std.specs.Prelude.{ℤ, Bool, List, All}
 use Rattle.sched_model.specs.Data.{Data}
 use Rattle.kernel.specs.declared.types.Line.{Line}
-use Rattle.kernel.specs.declared.no_extra.NoWitness.{NoWitness}
-use Rattle.kernel.specs.NoExtra.{numbers_of, is_valid, refutes_none}
 use Rattle.region.specs.Looks.{Refuting}
 use Rattle.kernel.specs.Refuting.{refutes_with}
 use Rattle.kernel.specs.Steps.{LogState, Steps, opening}
@@ -11,6 +9,7 @@ use Rattle.textline.specs.Lines.{Bytes}
 use Rattle.logtext.specs.declared.entry.Entry.TheVariants.{Step}
 use Rattle.logtext.specs.Spelling.{line_text, lines_text, log_text}
 use Rattle.logtext.specs.Entries.{Spells}
+use Rattle.logtext.specs.Extra.{LogWitness, log_refutes, log_numbers, log_valid}
 
 abbrev pub IsLine : {W : Type 0} → (W → List ℤ) → (W → Bool) → Line W → Type 0
 IsLine numbers valid l = Spells numbers valid (line_text numbers l) (Step l)
@@ -20,19 +19,19 @@ pub record IsLog {W : Type 0} (refutes : Refuting W) (numbers : W → List ℤ) 
   pub each : All (IsLine numbers valid) lines
   pub steps : Steps (refutes_with refutes) m (opening m) lines s
 
--- Logs without extra witnesses.
+-- The logs that are written and judged here.
 
 abbrev pub PlainLine : Type 0
-PlainLine = Line NoWitness
+PlainLine = Line LogWitness
 
 abbrev pub IsPlainLog : Data → List PlainLine → LogState → Type 0
-IsPlainLog m lines s = IsLog refutes_none numbers_of is_valid m lines s
+IsPlainLog m lines s = IsLog log_refutes log_numbers log_valid m lines s
 
 abbrev pub plain_text : PlainLine → Bytes
-plain_text l = line_text numbers_of l
+plain_text l = line_text log_numbers l
 
 abbrev pub plain_lines : List PlainLine → Bytes
-plain_lines ls = lines_text numbers_of ls
+plain_lines ls = lines_text log_numbers ls
 
 abbrev pub plain_log : List PlainLine → Bytes
-plain_log ls = log_text numbers_of ls
+plain_log ls = log_text log_numbers ls

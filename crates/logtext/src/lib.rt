@@ -3,6 +3,7 @@
 #![tactic(auto)]
 
 mod entry;
+mod extra;
 mod kinds;
 mod laws;
 mod line;
@@ -14,6 +15,7 @@ mod words;
 mod writer;
 
 pub use entry::{Entry, EntryFault};
+pub use extra::{LogExtra, LogWitness};
 pub use laws::spelling_is_determined;
 pub use reader::LogReader;
 pub use writer::LogWriter;

@@ -27,7 +27,7 @@ use Rattle.textline.specs.Words.{are_words}
 use Rattle.textline.specs.laws.Lines.{both_true, true_both, line_told, one_word}
 use Rattle.logtext.specs.declared.entry.Entry.{Entry}
 use Rattle.logtext.specs.declared.entry.Entry.TheVariants.{Head, Step, Finish}
-use Rattle.logtext.specs.Spelling.{guess_words, basic_kinds, hier_kinds, seq_kinds, cumul_kinds, state_kinds, kind_words, witness_words, assignment_words, line_words}
+use Rattle.logtext.specs.Spelling.{guess_words, basic_kinds, hier_kinds, seq_kinds, cumul_kinds, state_kinds, kind_words, witness_words, assignment_words, log_version, line_words}
 use Rattle.logtext.specs.Entries.{entry_text, entry_words, is_fit_entry}
 use Rattle.logtext.specs.laws.Leads.{tag, behind}
 use Rattle.logtext.specs.laws.Told.{moments_told, guess_told, assignment_told}
@@ -146,7 +146,7 @@ pub record HasWords {W : Type 0} (numbers : W → List ℤ) (e : Entry W) : Type
   pub text : entry_text numbers e ≡ line (first ∷ rest)
 
 pub has_words : {W : Type 0} → (numbers : W → List ℤ) (e : Entry W) → HasWords numbers e
-has_words numbers Head = record { first = codes "schedlog"; rest = codes "1" ∷ []; words = refl; text = refl }
+has_words numbers Head = record { first = codes "schedlog"; rest = log_version ∷ []; words = refl; text = refl }
 has_words numbers (Step (Derive g w)) = record { first = codes "d"; rest = guess_words g ++ witness_words numbers w; words = refl; text = refl }
 has_words numbers (Step (Fail w)) = record { first = codes "f"; rest = witness_words numbers w; words = refl; text = refl }
 has_words numbers (Step (Split g)) = record { first = codes "s"; rest = guess_words g; words = refl; text = refl }
