@@ -27,7 +27,8 @@ fn is_above(bar: i64, ect: Option<i64>) -> bool
     }
 }
 
-#[tactic(auto, using(crate::proofs::trees::Filling::filling_painted, crate::proofs::trees::Filling::filling_kept))]
+/// Who must start before the earlier moment is white already, and isn't painted again.
+#[tactic(auto, using(crate::proofs::trees::Filling::filling_painted, crate::proofs::trees::Filling::filling_kept, crate::proofs::trees::Filling::filling_there))]
 fn fill_at(tree: &mut ThetaTree, rows: &[Row], k: u32, from: i64, key: i64)
     requires fits { Fits tree.old rows.now }
     requires within { k < length rows.now }
@@ -36,6 +37,9 @@ fn fill_at(tree: &mut ThetaTree, rows: &[Row], k: u32, from: i64, key: i64)
     ensures fits { Fits tree.new rows.now }
     ensures filling { IsFilling tree.new rows.now from key (k + 1) }
 {
+    if starts_before(rows[k as usize], from) {
+        return;
+    }
     if starts_before(rows[k as usize], key) {
         paint(tree, rows, k, Colour::White);
     }

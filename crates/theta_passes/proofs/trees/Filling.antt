@@ -88,6 +88,19 @@ filling_kept t rows from key n rises is filling = record {
   rest = λ k high. filling.rest k (λ low. high (omega (arith, low)));
 }
 
+-- whoever must start before the earlier moment is white already
+pub filling_there : (t : Leaves) (rows : List Row) (from key : ℤ) (n : ℕ) → from ≤ℤ key → starts_before (row_at rows n) from ≡ true → IsFilling t rows from key n → IsFilling t rows from key (n + 1)
+filling_there t rows from key n rises is filling = record {
+  below = λ k low. elim (cases_eq k n) [
+    | inl same ↦ subst (λ j. IsFilled t rows key j) (sym same) (let filled = filling.rest n (λ early. omega (arith, early)) in record {
+        white = λ on late. let h = and_parts (is_present rows n) (int_lt (row_at rows n).lst from) is in filled.white h.0 (lt_holds (row_at rows n).lst from h.1);
+        whites = λ white. let h = filled.whites white in (h.0, omega (arith, ints, h.1, rises));
+      })
+    | inr other ↦ filling.below k (omega (arith, low, other))
+  ];
+  rest = λ k high. filling.rest k (λ low. high (omega (arith, low)));
+}
+
 pub filling_start : (t : Leaves) (rows : List Row) (from key : ℤ) → ((k : ℕ) → IsFilled t rows from k) → IsFilling t rows from key 0
 filling_start t rows from key filled = record { below = λ k low. absurd (omega (arith, low)); rest = λ k high. filled k }
 
