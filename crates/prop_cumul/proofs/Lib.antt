@@ -1,2 +1,3 @@
+mod Calming
 mod Making
 mod Raising

@@ -145,7 +145,7 @@ alone r q below i t = plain (load_of (bounded q below i) t) (load_of (bounded r 
     plain : (y x : ℤ) → (y -ℤ x) ≡ ((y +ℤ pos 0) -ℤ (x +ℤ pos 0))
     plain y x = omega (arith, ints)
 
-one_alone : (is : List Part) (d : Part) → length is ≡ 1 → get_or is 0 d ∷ [] ≡ is
+pub one_alone : (is : List Part) (d : Part) → length is ≡ 1 → get_or is 0 d ∷ [] ≡ is
 one_alone [] d one = absurd (omega (arith, one))
 one_alone (i ∷ []) d one = refl
 one_alone (i ∷ j ∷ is) d one = absurd (omega (arith, one))

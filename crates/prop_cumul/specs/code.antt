@@ -1,4 +1,5 @@
 pub mod Asking
+pub mod Calm
 pub mod Extra
 pub mod Silence
 pub mod Tables

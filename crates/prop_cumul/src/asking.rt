@@ -10,6 +10,7 @@ ghost use Rattle.prop_cumul.specs.code.Tasks.{quiet};
 ghost use Rattle.prop_cumul.specs.code.Silence.{is_out_of_reach};
 ghost use Rattle.prop_cumul.specs.code.Asking.{IsReady, IsSideQuiet, AreQuietOn, IsBusy};
 
+use crate::calm::calm_of;
 use crate::side::{Side, ask_interval, ask_plain};
 use crate::task::Task;
 use findings::Finding;
@@ -27,8 +28,9 @@ fn ask_intervals(side: &Side<'_>, task: &Task) -> Option<Finding<CumulWitness>>
 {
     let intervals = task.intervals.as_slice();
     let groups = task.groups.as_slice();
+    let calm = calm_of(side);
     for i in 0..intervals.len() {
-        if let Some(f) = ask_interval(side, intervals[i], groups[i].as_slice()) {
+        if let Some(f) = ask_interval(side, calm, intervals[i], groups[i].as_slice()) {
             return Some(f);
         }
     }

@@ -4,6 +4,7 @@
 
 mod added;
 mod asking;
+mod calm;
 mod extra;
 mod side;
 mod table;

@@ -13,11 +13,13 @@ ghost use Rattle.refute_cumul.specs.laws.Loads.{side};
 ghost use Rattle.refute_cumul.specs.Listed.{names_of};
 ghost use Rattle.refute_cumul.specs.code.Sides.{is_high};
 ghost use Rattle.prop_cumul.specs.code.Tables.{is_of};
+ghost use Rattle.prop_cumul.specs.code.Calm.{IsCalm};
 ghost use Rattle.prop_cumul.specs.code.Asking.{IsReady, NeverHigh, IsQuietUnder, IsQuietOn, IsBusy};
 ghost use Rattle.findings.specs.laws.EndGuesses.{IsAnEnd};
 ghost use Rattle.prop_cumul.specs.laws.Asking.{TellsExtra, IsRefutedUnder};
 
 use crate::added::Raised;
+use crate::calm::{Calm, is_calm_on};
 use crate::extra::first_raised;
 use findings::Finding;
 use refute_cumul::{Bound, CumulWitness, OnCumul, Profile, limit_of, side, window_of};
@@ -197,9 +199,15 @@ fn ask_end(at: &Side<'_>, x: Itv, parts: &[Part], g: Guess) -> Option<Finding<Cu
 }
 
 /// What it gives of an interval with these parts: presences come first, then the guesses that leave
-/// the fewest moments at the ends of its window.
-pub fn ask_interval(at: &Side<'_>, x: Itv, parts: &[Part]) -> Option<Finding<CumulWitness>>
+/// the fewest moments at the ends of its window. Nothing is asked where there is room enough around it.
+pub fn ask_interval(
+    at: &Side<'_>,
+    calm: Option<Calm>,
+    x: Itv,
+    parts: &[Part],
+) -> Option<Finding<CumulWitness>>
     requires ready { IsReady at.now.model.now at.now.region.now.region at.now.c at.now.bound at.now.below at.now.profile.now }
+    requires calm { IfSome calm (IsCalm at.now.bound at.now.below at.now.profile.now.levels) }
     requires parts { parts.now ≡ filter (is_of x) (parts_of at.now.model.now at.now.bound.f) }
     requires few { length parts.now ≤ 100000 }
     requires named { has (names_of at.now.model.now (slice_get at.now.model.now.constraints at.now.c)) x ≡ true }
@@ -209,6 +217,9 @@ pub fn ask_interval(at: &Side<'_>, x: Itv, parts: &[Part]) -> Option<Finding<Cum
 {
     let look = at.region.look(None, None);
     if x.0 as usize >= look.len() {
+        return None;
+    }
+    if is_calm_on(at, calm, x, parts) {
         return None;
     }
     let c = look.bounds(x);
