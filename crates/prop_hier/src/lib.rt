@@ -6,6 +6,7 @@ mod asking;
 mod counts;
 mod member_test;
 mod possible;
+mod reaches;
 mod relations;
 mod table;
 mod watch;

@@ -5,6 +5,7 @@ ghost use Rattle.refute_hier.specs.code.Rows.{some_refutes};
 ghost use Rattle.prop_hier.specs.code.Ready.{IsReady, is_about, is_quick};
 
 use crate::counts::{Change, Counts, counts_after, counts_refute};
+use crate::reaches::{reach_into, window_around, window_of};
 use refute_hier::{Family, known, some_refutes};
 use region::{Guess, GuessTest, Region};
 use sched_base::Itv;
@@ -90,7 +91,13 @@ impl<'a> GuessTest for MemberTest<'a> {
         some_refutes(&self.region.look(guess, None), self.family)
     }
 
-    fn reach(&self, _: Guess) -> Option<u64> {
-        None
+    fn reach(&self, guess: Guess) -> Option<u64> {
+        let look = self.region.look(None, None);
+        let window = if self.x.0 == self.family.a.0 {
+            window_around(&look, self.family.parts)
+        } else {
+            window_of(&look, self.family.a)
+        };
+        reach_into(window, known(&look, self.x), guess)
     }
 }

@@ -12,7 +12,7 @@ ghost use Rattle.refute_hier.specs.Hier.{refutes};
 ghost use Rattle.prop_hier.specs.code.Tables.{IsFor, watch_of};
 ghost use Rattle.prop_hier.specs.code.Tasks.{size_of, quiet, watching, watching_best, is_bound, is_cell_of};
 
-use crate::asking::ask_constraint;
+use crate::asking::{Placed, ask_constraint};
 use crate::watch::{Watch, watch_each};
 use findings::Finding;
 use refute_hier::HierWitness;
@@ -27,6 +27,8 @@ use std::alloc::Global;
 pub struct PropHier {
     /// What each watches.
     watches: Vec<Watch>,
+    /// At which of its intervals each found something last: it begins there. Nothing hangs on it.
+    places: Vec<usize>,
 }
 
 impl std::marker::Model for PropHier {
@@ -47,7 +49,8 @@ impl PropHier {
         ensures { IfOk result (λ p. IsFor p model.now) }
     {
         let watches = watch_each(alloc, model, model.constraints())?;
-        Ok(PropHier { watches })
+        let places = vec![in alloc; 0; watches.len()]?;
+        Ok(PropHier { watches, places })
     }
 
     /// How many there are.
@@ -74,7 +77,13 @@ impl PropHier {
         ensures some { IfSome result (IsFinding refutes model.now region.now.region best) }
         ensures busy { IfSome result (λ f. quiet model.now k region.now.region best → ⊥) }
     {
-        ask_constraint(model, region, best, k, self.watch(k).intervals.as_slice())
+        let from = self.places.get(k as usize).copied().unwrap_or(0);
+        let intervals = self.watch(k).intervals.as_slice();
+        let Placed { found, place } = ask_constraint(model, region, best, k, intervals, from)?;
+        if let Some(last) = self.places.get_mut(k as usize) {
+            *last = place;
+        }
+        Some(found)
     }
 
     /// What it watches.

@@ -1,5 +1,5 @@
 use Rattle.prop_hier.specs.laws.Quiet.{quiet_from}
-use Rattle.prop_hier.proofs.Asked.{parts_of, none_is, busy_from, found_from, if_none, if_some, constraint_at, quiet_listed, silent_listed}
+use Rattle.prop_hier.proofs.Asked.{parts_of, none_is, busy_from, found_from, constraint_at, quiet_listed, silent_listed}
 use Rattle.prop_hier.proofs.asking.ask_constraint.Goals as goal
 use Rattle.refute_hier.specs.laws.Parts.{listed}
 
@@ -7,15 +7,15 @@ use Rattle.refute_hier.specs.laws.Parts.{listed}
 pub ask_relation-requires-clause-is : goal.ask_relation-requires-clause-is
 ask_relation-requires-clause-is c = constraint_at c.args.model.now c.constraints.result.now c.args.c c.in_ok-constraint.constraint.now c.constraints.ensures.list c.in_ok-constraint.ensures
 
-pub returns-in_default-clause-none : goal.returns-in_default-clause-none
-returns-in_default-clause-none c =
+pub returns-in_err-found-clause-none : goal.returns-in_err-found-clause-none
+returns-in_err-found-clause-none c =
     let is = constraint_at c.args.model.now c.constraints.result.now c.args.c c.in_ok-constraint.constraint.now c.constraints.ensures.list c.in_ok-constraint.ensures in
-    if_none c.ask_relation.result (quiet_listed c.args.model.now c.args.c c.args.region.now.region c.args.best c.in_ok-constraint.constraint.now c.args.members.now c.requires.of is c.in_default.ensures.none c.requires.members) c.ask_relation.ensures.none
+    none_is _ (quiet_listed c.args.model.now c.args.c c.args.region.now.region c.args.best c.in_ok-constraint.constraint.now c.args.members.now c.requires.of is c.in_default.ensures.none c.requires.members c.in_err-found.ensures.none)
 
 pub returns-in_default-clause-busy : goal.returns-in_default-clause-busy
 returns-in_default-clause-busy c =
     let is = constraint_at c.args.model.now c.constraints.result.now c.args.c c.in_ok-constraint.constraint.now c.constraints.ensures.list c.in_ok-constraint.ensures in
-    if_some c.ask_relation.result (silent_listed c.args.model.now c.args.c c.args.region.now.region c.args.best c.in_ok-constraint.constraint.now c.args.members.now is c.requires.members) c.ask_relation.ensures.busy
+    λ still. c.in_ok-found.ensures.busy (silent_listed c.args.model.now c.args.c c.args.region.now.region c.args.best c.in_ok-constraint.constraint.now c.args.members.now is c.requires.members still)
 
 pub returns-in_err-guess-clause-none : goal.returns-in_err-guess-clause-none
 returns-in_err-guess-clause-none c =
