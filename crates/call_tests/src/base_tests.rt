@@ -1,5 +1,5 @@
 //! Lists, boxes, desks in memory, and lines of words.
-use sched_base::{Boxed, Desk, File, Inlet, List, MemDesk, NoMemory, Port, at, read_up_to};
+use sched_base::{Boxed, CalmDesk, Desk, File, Inlet, List, MemDesk, NoMemory, Port, at, read_up_to};
 use std::alloc::Global;
 use std::test::Fail;
 use textline::{Words, push_number, read_count, read_number};
@@ -166,6 +166,28 @@ fn reads_whole(alloc: Global) -> Result<bool, NoMemory> {
 #[test]
 fn reads_to_the_end(rt: HostRuntime) -> Result<(), Fail> {
     assert!(rt; reads_whole(rt.alloc())?);
+    Ok(())
+}
+
+/// Whether nothing fails on a calm desk with the file `m` but to open another.
+fn is_calm(desk: &mut CalmDesk) -> bool {
+    desk.open_in(Inlet::Model, "n").is_err()
+        && desk.open_in(Inlet::Log, "m").is_ok()
+        && desk.create_log("l").is_ok()
+        && desk.write(Port::Log, b"ij").is_ok()
+}
+
+fn calm_reads(alloc: Global) -> Result<bool, NoMemory> {
+    let files = one_file(alloc)?;
+    let mut desk = CalmDesk::new(alloc, files)?;
+    let calm = is_calm(&mut desk);
+    let mut piece = [0; 4];
+    Ok(calm && desk.read(Inlet::Log, &mut piece) == Ok(4) && piece == *b"hell")
+}
+
+#[test]
+fn stays_calm(rt: HostRuntime) -> Result<(), Fail> {
+    assert!(rt; calm_reads(rt.alloc())?);
     Ok(())
 }
 

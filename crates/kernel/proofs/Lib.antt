@@ -3,6 +3,7 @@ pub mod LineTests
 pub mod Stepped
 pub mod Regions
 pub mod Sols
+pub mod Budget
 pub mod Readies
 pub mod Used
 pub mod Sounds

@@ -1,10 +1,11 @@
-ghost use Rattle.std.specs.Prelude.{◌≡◌, List};
+ghost use Rattle.std.specs.Prelude.{◌≡◌, ◌<◌, List};
 ghost use Rattle.sched_base.specs.declared.ids.Con.{Con};
 ghost use Rattle.sched_model.specs.declared.types.Assignment.{Assignment};
 ghost use Rattle.sched_model.specs.declared.types.Verdict.TheVariants.{Infeasible};
 ghost use Rattle.sched_model.specs.Data.{Data};
 ghost use Rattle.sched_model.specs.Valid.{IsValid};
 ghost use Rattle.sched_model.specs.Solution.{Meets};
+ghost use Rattle.region.specs.Points.{budget_of};
 ghost use Rattle.kernel.specs.declared.types.Line.{Line};
 ghost use Rattle.kernel.specs.Named.{named_with};
 ghost use Rattle.kernel.specs.Used.{IsUsed, used_in};
@@ -16,12 +17,14 @@ use region::Refuter;
 
 /// Whatever lines step one after another from the opening state: what was found is a solution, each
 /// better one is allowed by a region that is left, each such region has a point that no other has,
-/// and the verdict means what it says.
+/// the verdict means what it says, and fewer nodes than the budget were opened.
 pub fn loses_nothing<X: Refuter>()
     ensures keeps { (m : Data) (lines : List (Line X.Witness)) (s : LogState) → IsValid m
         → Steps (refutes_with X.refuting) m (opening m) lines s → LosesNothing m s.found (open_regions s) }
     ensures verdict { (m : Data) (lines : List (Line X.Witness)) (s : LogState) → IsValid m
         → Steps (refutes_with X.refuting) m (opening m) lines s → Means m (verdict_of s) }
+    ensures few { (m : Data) (lines : List (Line X.Witness)) (s : LogState) → IsValid m
+        → Steps (refutes_with X.refuting) m (opening m) lines s → s.nodes < budget_of m }
 {}
 
 /// Whatever lines step one after another from the opening state to one that shows no solution: the
