@@ -6,7 +6,7 @@
 //! | `verdict` | standard output up to the number of nodes |
 //! | `first=N`, `last=N` | its first or its last lines |
 //! | `tail=N` | its last bytes |
-//! | `lines` | how many lines it has |
+//! | `lines`, `entries` | how many lines it has, and how many the log has |
 //!
 //! Before them stands the status. Where `searched` is the first part, 0 and 20 are told as one, and
 //! where it is `ran`, all are.
@@ -110,6 +110,7 @@ fn put_part(out: &mut String, told: &Told, part: &str) -> Result<(), NoMemory> {
             back(text, text.len().saturating_sub(number(n) as usize)),
         ),
         "lines" => put_count(out, lines_in(text)),
+        "entries" => put_count(out, lines_in(told.log.as_slice())),
         "searched" => Ok(()),
         "ran" => Ok(()),
         _ => put_lines(out, "what is this: ", part),
