@@ -1,6 +1,6 @@
 //! Logs that are fed in pieces, cut anywhere.
 use kernel::NoExtra;
-use log_lines::LineReader;
+use log_lines::{LineFault, LineReader};
 use logtext::{EntryFault, LogReader};
 use sched_base::NoMemory;
 use std::alloc::Global;
@@ -29,11 +29,11 @@ fn spell_lines(
                 }
             }
             Ok(None) => return Ok(true),
-            Err(EntryFault::Bad) => {
+            Err(LineFault::Bad { line: _, at: _ }) => {
                 spelled.push_str("bad")?;
                 return Ok(false);
             }
-            Err(EntryFault::NoMemory) => return Err(NoMemory),
+            Err(LineFault::NoMemory) => return Err(NoMemory),
         }
     }
     Ok(false)
@@ -179,7 +179,8 @@ fn reads_pieces_as_a_whole(rt: HostRuntime) -> Result<(), Fail> {
 enum Next {
     Whole,
     Waits,
-    Bad,
+    /// The number of the line, and its first byte.
+    Bad(u64, u128),
     NoMemory,
 }
 
@@ -187,29 +188,33 @@ fn next_line(alloc: Global, lines: &mut LineReader<NoExtra>) -> Next {
     match lines.next(alloc) {
         Ok(Some(_)) => Next::Whole,
         Ok(None) => Next::Waits,
-        Err(EntryFault::Bad) => Next::Bad,
-        Err(EntryFault::NoMemory) => Next::NoMemory,
+        Err(LineFault::Bad { line, at }) => Next::Bad(line, at),
+        Err(LineFault::NoMemory) => Next::NoMemory,
     }
 }
 
-fn is_bad(alloc: Global, lines: &mut LineReader<NoExtra>) -> bool {
-    next_line(alloc, lines) == Next::Bad
+fn is_bad(alloc: Global, lines: &mut LineReader<NoExtra>, line: u64, at: u128) -> bool {
+    next_line(alloc, lines) == Next::Bad(line, at)
 }
 
 fn waits(alloc: Global, lines: &mut LineReader<NoExtra>) -> bool {
     next_line(alloc, lines) == Next::Waits
 }
 
-fn stays_bad_on(alloc: Global, lines: &mut LineReader<NoExtra>) -> Result<bool, NoMemory> {
-    feed(lines, b"en")?;
-    let waits = waits(alloc, lines);
-    feed(lines, b"d \nend\n")?;
-    let bad = is_bad(alloc, lines) && is_bad(alloc, lines) && is_bad(alloc, lines);
-    feed(lines, b"end\n")?;
-    Ok(waits && bad && is_bad(alloc, lines) && lines.count() == 13 && !lines.is_empty())
+fn takes(alloc: Global, lines: &mut LineReader<NoExtra>) -> bool {
+    next_line(alloc, lines) == Next::Whole
 }
 
-/// Behind a bad line there is none, whatever else is fed.
+fn stays_bad_on(alloc: Global, lines: &mut LineReader<NoExtra>) -> Result<bool, NoMemory> {
+    feed(lines, b"schedlog 1\nen")?;
+    let waits = takes(alloc, lines) && lines.place() == 11 && waits(alloc, lines);
+    feed(lines, b"d \nend\n")?;
+    let bad = is_bad(alloc, lines, 2, 11) && is_bad(alloc, lines, 2, 11);
+    feed(lines, b"end\n")?;
+    Ok(waits && bad && is_bad(alloc, lines, 2, 11) && lines.count() == 24 && !lines.is_empty())
+}
+
+/// Behind a bad line there is none, whatever else is fed, and its number and place stay.
 fn stays_bad(alloc: Global) -> Result<bool, NoMemory> {
     let mut lines = LineReader::new(alloc);
     stays_bad_on(alloc, &mut lines)
@@ -230,7 +235,7 @@ fn passes_limit_on(
     feed(lines, most)?;
     let waits = waits(alloc, lines);
     feed(lines, b"1")?;
-    Ok(waits && is_bad(alloc, lines))
+    Ok(waits && is_bad(alloc, lines, 1, 0))
 }
 
 fn passes_limit_by(alloc: Global, piece: &[u8]) -> Result<bool, NoMemory> {

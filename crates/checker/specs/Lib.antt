@@ -1,4 +1,4 @@
 pub mod Judgement
 pub mod Checking
-pub mod code
 pub mod Laws
+pub mod code

@@ -1,7 +1,6 @@
-ghost use Rattle.checker.specs.Laws.{OneVerdict, OneLine, NotBoth, WholeLogIsAccepted, AcceptedMeans};
+ghost use Rattle.checker.specs.Laws.{OneVerdict, OneLine, NotBoth, NeverTooLong, WholeLogIsAccepted, AcceptedMeans};
 
-use kernel::{NoExtra, loses_nothing};
-use logtext::spelling_is_determined;
+use logtext::LogExtra;
 
 /// Stands for laws of the definitions: bytes have one judgement, a log that is written whole is
 /// accepted, and what is accepted means what it says.
@@ -9,9 +8,9 @@ pub fn judgement_is_determined()
     ensures one_verdict { OneVerdict }
     ensures one_line { OneLine }
     ensures not_both { NotBoth }
+    ensures never_too_long { NeverTooLong }
     ensures whole { WholeLogIsAccepted }
     ensures means { AcceptedMeans }
 {
-    spelling_is_determined::<NoExtra>();
-    loses_nothing::<NoExtra>();
+    replay::judgement_is_determined::<LogExtra>();
 }

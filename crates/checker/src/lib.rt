@@ -3,7 +3,6 @@
 
 mod judging;
 mod laws;
-mod reading;
 
 pub use judging::{CheckFault, Checked, check};
 pub use laws::judgement_is_determined;

@@ -18,8 +18,8 @@ use Rattle.kernel.specs.Promises.{Means}
 use Rattle.checker.specs.declared.judging.Checked.{Checked}
 use Rattle.checker.specs.declared.judging.CheckFault.{CheckFault}
 use Rattle.checker.specs.declared.judging.CheckFault.TheVariants as fault
-use Rattle.checker.specs.Judgement.{log_limit}
-use Rattle.checker.specs.Checking.{Checks, Judges, log_bytes}
+use Rattle.logtext.specs.Judgement.{log_limit, log_bytes}
+use Rattle.checker.specs.Checking.{Checks, Judges}
 use Rattle.given_files.specs.Files.{IfFile, FileDeserves, ReadsModel}
 use Rattle.given_files.specs.code.Reading.{OnlyReads}
 use Rattle.commands.specs.Runs.{AcceptsLog, ReadsLog}

@@ -9,7 +9,7 @@ use Rattle.cpo_text.specs.declared.text.Refusal.{Refusal}
 use Rattle.command_line.specs.declared.shop.Shop.{Shop}
 use Rattle.command_line.specs.Commands.{Command, Solve, Check, Verify, Show, Gen, Trial}
 use Rattle.textline.specs.Lines.{Bytes}
-use Rattle.checker.specs.Judgement.{log_limit}
+use Rattle.logtext.specs.Judgement.{log_limit}
 use Rattle.given_files.specs.declared.stop.Stop.TheVariants as given
 use Rattle.given_files.specs.Files.{file_of, schedule_limit, ReadsModel, ReadsSchedule}
 use Rattle.given_files.specs.Told.{Reports, fault_line, memory_line, refusal_line, unfit_line}

@@ -5,10 +5,10 @@ use Rattle.sched_base.specs.State.{State, with_log}
 use Rattle.sched_base.specs.Calls.{Creates, appended}
 use Rattle.sched_model.specs.declared.types.Solved.{Solved}
 use Rattle.sched_model.specs.Data.{Data}
-use Rattle.kernel.specs.NoExtra.{refutes_none}
 use Rattle.kernel.specs.Refuting.{refutes_with}
 use Rattle.kernel.specs.Steps.{LogState, opening}
 use Rattle.textline.specs.Lines.{Bytes}
+use Rattle.logtext.specs.Extra.{log_refutes}
 use Rattle.logtext.specs.Logs.{PlainLine, plain_log}
 use Rattle.solver.specs.code.Solving.{IsSolved, Solves}
 use Rattle.commands.specs.Runs.{LogPromise}
@@ -27,7 +27,7 @@ log_promise m limit solved lines state before is = record {
   splits = is.splits;
   written = refl;
   accepted = record { lines = lines; state = state; log = is.log; text = refl; verdict = sym is.verdict; nodes = is.nodes };
-  schedule = last_shown (refutes_with refutes_none) m lines (opening m) state _ is.log.steps refl is.shown;
+  schedule = last_shown (refutes_with log_refutes) m lines (opening m) state _ is.log.steps refl is.shown;
   few = subst (λ n. n ≤ limit) (sym is.nodes) is.few;
   limited = λ open_one. (
     is.nodes ∙ is.limited open_one,

@@ -23,8 +23,8 @@ use Rattle.textline.specs.Lines.{Bytes}
 use Rattle.sched_text.specs.Answers.{answer_text, summary_text, check_text}
 use Rattle.sched_text.specs.Canonical.{canonical_text}
 use Rattle.logtext.specs.Logs.{PlainLine, IsPlainLog, plain_log}
-use Rattle.checker.specs.Judgement.{IsAccepted, IsRefused, IsTooLong, log_limit}
-use Rattle.checker.specs.Checking.{log_bytes}
+use Rattle.logtext.specs.Judgement.{log_limit, log_bytes}
+use Rattle.checker.specs.Judgement.{IsAccepted, IsRefused, IsTooLong}
 use Rattle.solver.specs.Splits.{SplitFrom}
 use Rattle.sched_model.specs.Answers.{verdict_in}
 use Rattle.solver.specs.Answers.{IsAnswer, shown_in, is_unfinished}

@@ -3,7 +3,7 @@ ghost use Rattle.std.specs.Prelude.{◌≡◌, true, IfOk};
 ghost use Rattle.sched_base.specs.State.{is_opened};
 ghost use Rattle.kernel.specs.Promises.{Means};
 ghost use Rattle.checker.specs.Checking.{Checks};
-ghost use Rattle.checker.specs.Laws.{OneVerdict, OneLine, NotBoth, WholeLogIsAccepted, AcceptedMeans};
+ghost use Rattle.checker.specs.Laws.{OneVerdict, OneLine, NotBoth, NeverTooLong, WholeLogIsAccepted, AcceptedMeans};
 
 use checker::{CheckFault, Checked};
 use sched_base::{Desk, Inlet};
@@ -22,6 +22,7 @@ pub fn judgement_is_determined()
     ensures one_verdict { OneVerdict }
     ensures one_line { OneLine }
     ensures not_both { NotBoth }
+    ensures never_too_long { NeverTooLong }
     ensures whole { WholeLogIsAccepted }
     ensures means { AcceptedMeans }
 {

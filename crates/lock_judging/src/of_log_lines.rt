@@ -1,9 +1,9 @@
 //! The lines of a log that comes in pieces.
 ghost use Rattle.std.specs.Prelude.{◌≡◌, ◌↔◌, IsTrue, [], ◌+◌, ◌≤◌, ◌^◌, length, OnOk, OnErr};
-ghost use Rattle.log_lines.specs.code.Pieces.{nothing_fed, fed_more, ReadsNext};
+ghost use Rattle.log_lines.specs.code.Pieces.{nothing_fed, fed_more, next_place, ReadsNext};
 
-use log_lines::LineReader;
-use logtext::{Entry, EntryFault};
+use log_lines::{LineFault, LineReader};
+use logtext::Entry;
 use region::Refuter;
 use sched_base::NoMemory;
 use std::alloc::Global;
@@ -18,6 +18,12 @@ pub fn count<X: Refuter>(lines: &LineReader<X>) -> usize
     ensures { result ≡ lines.now.count }
 {
     lines.count()
+}
+
+pub fn place<X: Refuter>(lines: &LineReader<X>) -> usize
+    ensures { result ≡ next_place lines.now }
+{
+    lines.place()
 }
 
 pub fn is_empty<X: Refuter>(lines: &LineReader<X>) -> bool
@@ -38,7 +44,7 @@ pub fn feed<X: Refuter>(lines: &mut LineReader<X>, piece: &[u8]) -> Result<(), N
 pub fn next<X: Refuter>(
     lines: &mut LineReader<X>,
     alloc: Global,
-) -> Result<Option<Entry<X::Witness>>, EntryFault>
+) -> Result<Option<Entry<X::Witness>>, LineFault>
     ensures { ReadsNext X.Witness.numbers X.Witness.is_valid result lines.old lines.new }
 {
     lines.next(alloc)

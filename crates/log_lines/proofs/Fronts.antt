@@ -35,9 +35,9 @@ first_line numbers valid held at to e line = record {
   spells = let same : to - at ≡ to - at - 0 = omega arith in subst (λ n. Spells numbers valid (take n (drop at held)) e) same line.spells;
 }
 
-pub line_taken : {W : Type 0} (numbers : W → List ℤ) (valid : W → Bool) (old : Fed) (held : Bytes) (at to count : ℕ) (bad : Bool) (e : Entry W) → record { count = count; rest = drop at held; is_bad = bad } ≡ old → bad ≡ false → IsLineAt numbers valid held at to e
-    → (old.is_bad ≡ false) × ((n : ℕ) × IsLineAt numbers valid old.rest 0 n e × (record { count = count; rest = drop to held; is_bad = bad } ≡ record old { rest = drop n old.rest }))
-line_taken {W} numbers valid old held at to count bad e view good line =
+pub line_taken : {W : Type 0} (numbers : W → List ℤ) (valid : W → Bool) (old : Fed) (held : Bytes) (at to count taken : ℕ) (bad : Bool) (e : Entry W) → record { count = count; taken = taken; rest = drop at held; is_bad = bad } ≡ old → bad ≡ false → IsLineAt numbers valid held at to e
+    → (old.is_bad ≡ false) × ((n : ℕ) × IsLineAt numbers valid old.rest 0 n e × (record { count = count; taken = taken + 1; rest = drop to held; is_bad = bad } ≡ record old { taken = old.taken + 1; rest = drop n old.rest }))
+line_taken {W} numbers valid old held at to count taken bad e view good line =
     let place : at + (to - at) ≡ to = omega (arith, line.further) in
-    let Taken : Fed → Type 0 = λ f. (f.is_bad ≡ false) × ((n : ℕ) × IsLineAt numbers valid f.rest 0 n e × (record { count = count; rest = drop to held; is_bad = bad } ≡ record f { rest = drop n f.rest })) in
-    subst Taken view (good, (to - at, first_line numbers valid held at to e line, ap (λ bs. record { count = count; rest = bs; is_bad = bad }) (sym (drop-drop (to - at) at held ∙ ap (λ n. drop n held) place))))
+    let Taken : Fed → Type 0 = λ f. (f.is_bad ≡ false) × ((n : ℕ) × IsLineAt numbers valid f.rest 0 n e × (record { count = count; taken = taken + 1; rest = drop to held; is_bad = bad } ≡ record f { taken = f.taken + 1; rest = drop n f.rest })) in
+    subst Taken view (good, (to - at, first_line numbers valid held at to e line, ap (λ bs. record { count = count; taken = taken + 1; rest = bs; is_bad = bad }) (sym (drop-drop (to - at) at held ∙ ap (λ n. drop n held) place))))

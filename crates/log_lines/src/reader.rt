@@ -1,8 +1,9 @@
 ghost use Rattle.std.specs.Prelude.{◌≡◌, ◌+◌, ◌≤◌, ◌^◌, ◌==◌, ◌↔◌, true, not, IsTrue, [], length, take, drop, OnOk, OnErr, vec_len};
 ghost use Rattle.std.specs.List.{list_all};
 ghost use Rattle.logtext.specs.Reading.{HasNoWholeLine};
-ghost use Rattle.log_lines.specs.code.Pieces.{nothing_fed, fed_more, ReadsNext};
+ghost use Rattle.log_lines.specs.code.Pieces.{nothing_fed, fed_more, next_place, bad_line, ReadsNext};
 
+use crate::fault::LineFault;
 use logtext::{Entry, EntryFault, LogReader};
 use memchr::memchr;
 use region::Refuter;
@@ -48,6 +49,7 @@ pub struct LineReader<X: Refuter> {
     at: usize,
     searched: usize,
     count: usize,
+    taken: u64,
     is_bad: bool,
     refuter: PhantomData<X>,
 }
@@ -58,9 +60,9 @@ impl<X: Refuter> std::marker::Model for LineReader<X> {
 
     ghost Value = { Fed };
 
-    ghost view = { λ r. record { count = r.count; rest = drop r.at r.held.items; is_bad = r.is_bad } };
+    ghost view = { λ r. record { count = r.count; taken = r.taken; rest = drop r.at r.held.items; is_bad = r.is_bad } };
 
-    ghost invariant = { λ r. IsHeld r.held.items r.at r.searched r.count };
+    ghost invariant = { λ r. IsHeld r.held.items r.at r.searched r.count r.taken };
 }
 
 impl<X: Refuter> LineReader<X> {
@@ -74,6 +76,7 @@ impl<X: Refuter> LineReader<X> {
             at: 0,
             searched: 0,
             count: 0,
+            taken: 0,
             is_bad: false,
             refuter: PhantomData,
         }
@@ -84,6 +87,23 @@ impl<X: Refuter> LineReader<X> {
         ensures { result ≡ self.now.count }
     {
         self.count
+    }
+
+    /// The place behind the last line that was taken, where the next one begins.
+    pub fn place(&self) -> usize
+        ensures { result ≡ next_place self.now }
+    {
+        self.count - (self.held.len() - self.at)
+    }
+
+    /// The next line, which is bad: its number, and its first byte.
+    fn bad(&self) -> LineFault
+        ensures { result ≡ bad_line self.now }
+    {
+        LineFault::Bad {
+            line: self.taken + 1,
+            at: self.place() as u128,
+        }
     }
 
     /// Whether lines have taken all that was fed.
@@ -111,13 +131,14 @@ impl<X: Refuter> LineReader<X> {
     }
 
     /// The next line. None where what was fed holds no further whole line, nor 16,777,216 bytes of
-    /// one. `Bad` where the line is no spelling or too long, and from then on. Only a line that is
-    /// given is taken, so after a want of memory it can be asked for again.
-    pub fn next(&mut self, alloc: Global) -> Result<Option<Entry<X::Witness>>, EntryFault>
+    /// one. `Bad` where the line is no spelling or too long, with its number and its first byte, and
+    /// the same from then on. Only a line that is given is taken, so after a want of memory it can be
+    /// asked for again.
+    pub fn next(&mut self, alloc: Global) -> Result<Option<Entry<X::Witness>>, LineFault>
         ensures { ReadsNext X.Witness.numbers X.Witness.is_valid result self.old self.new }
     {
         if self.is_bad {
-            return Err(EntryFault::Bad);
+            return Err(self.bad());
         }
         let (_, rest) = self.held.split_at(self.at);
         if goes_on(rest, self.searched) {
@@ -131,6 +152,7 @@ impl<X: Refuter> LineReader<X> {
             Ok(Some((entry, to))) => {
                 self.at = to;
                 self.searched = 0;
+                self.taken += 1;
                 Ok(Some(entry))
             }
             Ok(None) => {
@@ -139,9 +161,9 @@ impl<X: Refuter> LineReader<X> {
             }
             Err(EntryFault::Bad) => {
                 self.is_bad = true;
-                Err(EntryFault::Bad)
+                Err(self.bad())
             }
-            Err(EntryFault::NoMemory) => Err(EntryFault::NoMemory),
+            Err(EntryFault::NoMemory) => Err(LineFault::NoMemory),
         }
     }
 }

@@ -1,7 +1,7 @@
 //! What a line of a log shows of the first region of a model.
 use cpo_elab::read_model;
-use kernel::{Kernel, Line, NoExtra, NoWitness, StepFault};
-use logtext::{Entry, EntryFault, LogReader};
+use kernel::{Kernel, Line, StepFault};
+use logtext::{Entry, EntryFault, LogExtra, LogReader, LogWitness};
 use sched_base::NoMemory;
 use sched_model::Model;
 use std::alloc::Global;
@@ -19,14 +19,14 @@ pub enum Shown {
 fn fault_of(
     alloc: Global,
     model: &Model,
-    line: Line<NoWitness>,
+    line: Line<LogWitness>,
 ) -> Result<Option<StepFault>, NoMemory> {
-    let mut kernel = Kernel::<NoExtra>::new(alloc, model)?;
+    let mut kernel = Kernel::<LogExtra>::new(alloc, model)?;
     Ok(kernel.step(model, line).err())
 }
 
 /// Whether the witness of a line refutes, under the guess of the line where it has one.
-fn shown_of(alloc: Global, model: &Model, line: Line<NoWitness>) -> Result<Shown, NoMemory> {
+fn shown_of(alloc: Global, model: &Model, line: Line<LogWitness>) -> Result<Shown, NoMemory> {
     match fault_of(alloc, model, line)? {
         None => Ok(Shown::Refutes),
         Some(StepFault::NotTight) => Ok(Shown::Refutes),
@@ -36,7 +36,7 @@ fn shown_of(alloc: Global, model: &Model, line: Line<NoWitness>) -> Result<Shown
 }
 
 fn shown_by(alloc: Global, model: &Model, text: &[u8]) -> Result<Shown, NoMemory> {
-    match LogReader::new(alloc).read_entry::<NoExtra>(alloc, text, 0) {
+    match LogReader::new(alloc).read_entry::<LogExtra>(alloc, text, 0) {
         Ok(Some((Entry::Step(line), _))) => shown_of(alloc, model, line),
         Ok(_) => Ok(Shown::NoLine),
         Err(EntryFault::Bad) => Ok(Shown::NoLine),

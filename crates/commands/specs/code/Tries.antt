@@ -11,7 +11,7 @@ use Rattle.kernel.specs.Promises.{Means}
 use Rattle.textline.specs.Lines.{Bytes}
 use Rattle.checker.specs.declared.judging.Checked.{Checked}
 use Rattle.checker.specs.Judgement.{IsAccepted, IsRefused, IsTooLong}
-use Rattle.checker.specs.Checking.{log_bytes}
+use Rattle.logtext.specs.Judgement.{log_bytes}
 use Rattle.solver.specs.Answers.{IsAnswer}
 use Rattle.given_files.specs.declared.stop.Stop.{Stop as GivenStop}
 use Rattle.given_files.specs.declared.stop.Stop.TheVariants as given

@@ -1,18 +1,15 @@
-use Rattle.std.proofs.Common.{true, false, subst}
-use Rattle.checker.proofs.Desk.{HeadAnswer, refuses_head}
+use Rattle.std.proofs.Common.{◌≡◌, Err, sym, subst, rules}
+use Rattle.checker.specs.Checking.{Checks}
+use Rattle.checker.specs.code.Faults.{fault_of}
+use Rattle.checker.proofs.Replayed.{falls_short, accepts}
 use Rattle.checker.proofs.judging.check.Goals as goal
 
-pub returns-then-not-branch-clause-checks : goal.returns-then-not-branch-clause-checks
-returns-then-not-branch-clause-checks g c =
-    let found : HeadAnswer (g.D.Desk.state c.args.desk.now) (g.D.Desk.state c.take_head.new.desk) c.take_head.new.lines false = subst (HeadAnswer (g.D.Desk.state c.args.desk.now) (g.D.Desk.state c.take_head.new.desk) c.take_head.new.lines) c.if-not-branch.true c.in_ok-take_head.ensures.head in
-    refuses_head c.args.model.now (g.D.Desk.state c.args.desk.now) (g.D.Desk.state c.take_head.new.desk) found.0 found.1.reading found.1.few found.2
-
-pub judge_lines-requires-clause-begun : goal.judge_lines-requires-clause-begun
-judge_lines-requires-clause-begun g c =
-    let found : HeadAnswer (g.D.Desk.state c.args.desk.now) (g.D.Desk.state c.take_head.new.desk) c.take_head.new.lines true = subst (HeadAnswer (g.D.Desk.state c.args.desk.now) (g.D.Desk.state c.take_head.new.desk) c.take_head.new.lines) c.if-not-branch.false c.in_ok-take_head.ensures.head in
-    (g.D.Desk.state c.args.desk.now, found)
+pub returns-in_err-kernel-clause-checks : goal.returns-in_err-kernel-clause-checks
+returns-in_err-kernel-clause-checks g c =
+    let is : c.from_residual.result ≡ Err (fault_of c.in_err-kernel.field-0.0) = search rules in
+    subst (λ r. Checks c.args.model.now r (g.D.Desk.state c.args.desk.now) (g.D.Desk.state c.replay.new.desk)) (sym is)
+    (falls_short _ _ _ c.args.model.now c.in_err-kernel.field-0.0 (g.D.Desk.state c.args.desk.now) (g.D.Desk.state c.replay.new.desk) c.in_err-kernel.ensures.replays)
 
 pub returns-clause-checks : goal.returns-clause-checks
 returns-clause-checks g c =
-    let found : HeadAnswer (g.D.Desk.state c.args.desk.now) (g.D.Desk.state c.take_head.new.desk) c.take_head.new.lines true = subst (HeadAnswer (g.D.Desk.state c.args.desk.now) (g.D.Desk.state c.take_head.new.desk) c.take_head.new.lines) c.if-not-branch.false c.in_ok-take_head.ensures.head in
-    c.judge_lines.ensures.checks (g.D.Desk.state c.args.desk.now) found
+    accepts _ _ _ c.args.model.now c.in_ok-kernel.kernel (record { verdict = c.verdict.result; nodes = c.nodes.result }) (g.D.Desk.state c.args.desk.now) (g.D.Desk.state c.replay.new.desk) c.verdict.ensures.value c.nodes.ensures c.in_ok-kernel.ensures.replays

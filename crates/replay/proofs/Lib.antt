@@ -1,0 +1,11 @@
+pub mod Feeds
+pub mod Spelt
+pub mod Logs
+pub mod Reached
+pub mod Judged
+pub mod Determined
+pub mod Feeding
+pub mod Shown
+pub mod Ends
+pub mod Wholes
+pub mod Desk
