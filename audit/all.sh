@@ -22,6 +22,7 @@ audit() {
 audit layers.py
 audit statements.py
 audit reading.py --rooms
+audit reading.py --page
 audit names.py
 audit unused.py
 audit clones.py
