@@ -1,5 +1,5 @@
 -- Where the levels around an interval leave room for its pulse, no guess on it raises the level too far.
-use Rattle.std.specs.Prelude.{◌≡◌, ℕ, ◌<◌, ℤ, pos, ◌+ℤ◌, ◌-ℤ◌, ◌≤ℤ◌, ◌<ℤ◌, Bool, true, false, not, ◌&&◌, if◌then◌else◌, List, [], ◌∷◌, length, Option, Some, None, neg_ℤ, int_le, int_lt, nat_lt}
+use Rattle.std.specs.Prelude.{◌≡◌, ℕ, ◌<◌, ℤ, pos, ◌+ℤ◌, ◌-ℤ◌, ◌≤ℤ◌, ◌<ℤ◌, Bool, true, false, not, ◌&&◌, if◌then◌else◌, List, [], ◌∷◌, length, Some, None, neg_ℤ, int_le, int_lt, nat_lt}
 use Rattle.std.specs.Int.{int_min, int_max}
 use Rattle.std.specs.List.{filter}
 use Rattle.std.specs.Ordering.{int_eq}
@@ -12,7 +12,7 @@ use Rattle.sched_model.specs.declared.types.Part.{Part}
 use Rattle.sched_model.specs.declared.types.Shape.{Shape}
 use Rattle.sched_model.specs.declared.types.Shape.TheVariants.{Pulse, Step, PulseOf, StepAtStart, StepAtEnd}
 use Rattle.sched_model.specs.Data.{Data, same, parts_of}
-use Rattle.sched_model.specs.Cumulative.{between, signed}
+use Rattle.sched_model.specs.Cumulative.{signed}
 use Rattle.region.specs.declared.types.Bounds.{Bounds}
 use Rattle.region.specs.declared.types.Presence.{Presence}
 use Rattle.region.specs.declared.types.Presence.TheVariants as presence
@@ -20,7 +20,6 @@ use Rattle.region.specs.declared.types.Claim.{Claim}
 use Rattle.region.specs.declared.types.Claim.TheVariants.{Present, Absent, StartLe, StartGe, EndLe, EndGe}
 use Rattle.region.specs.declared.types.Topic.{Topic}
 use Rattle.region.specs.declared.types.Topic.TheVariants.{One, Two}
-use Rattle.region.specs.declared.types.Guess.{Guess}
 use Rattle.region.specs.Cells.{Region, unknown, bounds_of, says_present, says_absent, says_maybe}
 use Rattle.region.specs.Claims.{guessed, is_open_at}
 use Rattle.region.specs.Guesses.{admits, admits_topic, topic, assumed, with_guess}
@@ -28,7 +27,7 @@ use Rattle.region.specs.Looks.{IsRegionOf, is_narrowed, lst_in, ect_in}
 use Rattle.region.specs.laws.Lists.{both_true, placewise-at, placewise-length}
 use Rattle.region.specs.laws.Intervals.{bounds_there}
 use Rattle.region.specs.laws.OneSequence.{same_is}
-use Rattle.findings.specs.Ends.{is_end, is_open_end}
+use Rattle.findings.specs.Ends.{is_end}
 use Rattle.findings.specs.code.Search.{is_on}
 use Rattle.refute_cumul.specs.declared.bound.Bound.{Bound}
 use Rattle.refute_cumul.specs.declared.profile.Level.{Level}
@@ -108,7 +107,7 @@ runs minus _ c t = false
 abbrev stands : Bool → ℤ → ℤ
 stands b h = if b then h else pos 0
 
-no_height : (t : ℤ) → between (pos 0) (pos 0) (pos 0) t ≡ pos 0
+no_height : (t : ℤ) → height_at nothing t ≡ pos 0
 no_height t = by_case (int_le (pos 0) t && int_lt t (pos 0))
   where
     by_case : (b : Bool) → (if b then pos 0 else pos 0) ≡ pos 0
@@ -193,9 +192,6 @@ less_true t u h = grind (arith, ints)
 both_but : (p q r : Bool) → p ≡ true → q ≡ true → r ≡ false → (p && q && not r) ≡ true
 both_but p q r h k l = rw (h, k, l) refl
 
-first_off : (p q r : Bool) → p ≡ false → (p && q && r) ≡ false
-first_off p q r h = rw h refl
-
 step_off : (p q r : Bool) → (p && q) ≡ false → (p && q && r) ≡ false
 step_off p q r h = rw h refl
 
@@ -204,8 +200,9 @@ unless_kept : (pc : Bool) (q r : Bool) → (pc ≡ true → (q && r) ≡ false) 
 unless_kept true q r h = h refl
 unless_kept false q r h = refl
 
-off_by_first : (q r : Bool) → q ≡ false → (q && r) ≡ false
-off_by_first q r h = rw h refl
+unless_first : (pc : Bool) (q r : Bool) → (pc ≡ true → q ≡ false) → (pc && q && r) ≡ false
+unless_first true q r h = rw (h refl) refl
+unless_first false q r h = refl
 
 within_both : (smin smax emin emax t : ℤ) → smin ≤ℤ smax → emax ≤ℤ emin → (int_le smin t && int_lt t emin) ≡ false → (int_le smax t && int_lt t emax) ≡ false
 within_both smin smax emin emax t a b h = grind (arith, ints, a, b, h)
@@ -263,13 +260,13 @@ taken_there (PulseOf x h) c d t end near below off on =
 taken_there (StepAtStart x h) c d t end near below off on =
     let one = both_true (not (says_absent c.presence)) (int_le c.smin t) on in
     both_but (int_le c.smin t) (int_lt t end) (says_present c.presence && int_le c.smax t && int_lt t end) one.1 (less_true t end below)
-    (unless_kept (says_present c.presence) (int_le c.smax t) (int_lt t end) (λ there.
-    off_by_first (int_le c.smax t) (int_lt t end) (not_past d.smin c.smax t near.last_start (counts_so c d (int_le d.smin t) near there off))))
+    (unless_first (says_present c.presence) (int_le c.smax t) (int_lt t end) (λ there.
+    (not_past d.smin c.smax t near.last_start (counts_so c d (int_le d.smin t) near there off))))
 taken_there (StepAtEnd x h) c d t end near below off on =
     let one = both_true (not (says_absent c.presence)) (int_le (ect_in c) t) on in
     both_but (int_le (ect_in c) t) (int_lt t end) (says_present c.presence && int_le (greatest_end c) t && int_lt t end) one.1 (less_true t end below)
-    (unless_kept (says_present c.presence) (int_le (greatest_end c) t) (int_lt t end) (λ there.
-    off_by_first (int_le (greatest_end c) t) (int_lt t end) (not_past (ect_in d) (greatest_end c) t (no_later d.smin c.smax d.emin c.emax c.pmin d.pmin near.last_start near.last_end near.size) (counts_so c d (int_le (ect_in d) t) near there off))))
+    (unless_first (says_present c.presence) (int_le (greatest_end c) t) (int_lt t end) (λ there.
+    (not_past (ect_in d) (greatest_end c) t (no_later d.smin c.smax d.emin c.emax c.pmin d.pmin near.last_start near.last_end near.size) (counts_so c d (int_le (ect_in d) t) near there off))))
   where
     no_later : (smin smax emin emax pmin pmin' : ℤ) → smin ≤ℤ smax → emin ≤ℤ emax → pmin' ≡ pmin → int_max emin (smin +ℤ pmin') ≤ℤ int_max emax (smax +ℤ pmin)
     no_later smin smax emin emax pmin pmin' a b c =

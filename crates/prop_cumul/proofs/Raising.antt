@@ -1,5 +1,5 @@
 -- What a guess adds stays between changes.
-use Rattle.std.specs.Prelude.{◌≡◌, ℕ, suc, ◌+◌, ◌<◌, ◌≤◌, ℤ, pos, ◌+ℤ◌, ◌-ℤ◌, ◌≤ℤ◌, ◌<ℤ◌, Bool, true, false, not, ◌&&◌, if◌then◌else◌, List, [], ◌∷◌, length, map, int_le, int_lt, Option, Some, None, IfSome, IfNone}
+use Rattle.std.specs.Prelude.{◌≡◌, ℕ, suc, ◌+◌, ◌<◌, ◌≤◌, ℤ, pos, ◌+ℤ◌, ◌-ℤ◌, ◌≤ℤ◌, ◌<ℤ◌, Bool, true, false, not, ◌&&◌, if◌then◌else◌, List, [], ◌∷◌, length, map, int_le, int_lt, Option, Some, None, IfSome, IfNone, is_some}
 use Rattle.std.proofs.Common.{refl, sym, ap, subst, ◌∙◌, arith, get_or, inl, inr}
 use Rattle.std.proofs.lemmas.Int.{ints}
 use Rattle.std.proofs.lemmas.List.{get_or_default}
@@ -11,7 +11,7 @@ use Rattle.sched_model.specs.Words.{total}
 use Rattle.sched_model.specs.Cumulative.{between, signed}
 use Rattle.region.specs.Cells.{Region}
 use Rattle.refute_cumul.specs.declared.profile.Level.{Level}
-use Rattle.refute_cumul.specs.code.Loads.{bounded, height_at, load_of, load}
+use Rattle.refute_cumul.specs.code.Loads.{bounded, height_at, is_from, load_of, load}
 use Rattle.refute_cumul.specs.code.Profiles.{level_in, IsFirstAbove, StaysBelow}
 use Rattle.prop_cumul.specs.code.Extra.{extra, gain, IsUnmoved, IsStillOf, AreStill, IsStill, IsRaisedAbove, StaysLow}
 
@@ -217,3 +217,14 @@ if_some_so (Some x) f p = f x p
 pub if_none_so : {X : Type 0} {P Q : Type 0} (o : Option X) → (P → Q) → IfNone o P → IfNone o Q
 if_none_so None f p = f p
 if_none_so (Some x) f p = tt
+
+pub decided : {X : Type 0} (o : Option X) (h : Bool) → IfSome o (λ x. h ≡ true) → IfNone o (h ≡ false) → is_some o ≡ h
+decided None h some none = sym none
+decided (Some x) h some none = sym some
+
+-- a moment from the first until before the second
+pub from_first : (u v t : ℤ) → is_from u v t ≡ true → u ≤ℤ t
+from_first u v t h = grind (arith, ints, h)
+
+pub until_second : (u v t : ℤ) → is_from u v t ≡ true → t <ℤ v
+until_second u v t h = grind (arith, ints, h)

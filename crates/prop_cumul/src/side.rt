@@ -1,5 +1,5 @@
 //! What a bound of a cumulative function gives on one of its sides.
-ghost use Rattle.std.specs.Prelude.{◌≡◌, ◌≤◌, ℤ, true, length, None, Some, IsTrue, IfSome, IfNone, slice_get};
+ghost use Rattle.std.specs.Prelude.{◌≡◌, ◌≤◌, ◌<ℤ◌, ◌+ℤ◌, pos, ℤ, true, length, None, Some, IsTrue, IfSome, IfNone, slice_get};
 ghost use Rattle.std.specs.List.{filter};
 ghost use Rattle.sched_model.specs.Words.{passes_if_any};
 ghost use Rattle.sched_model.specs.Data.{parts_of, has};
@@ -7,14 +7,16 @@ ghost use Rattle.region.specs.Guesses.{admits, topic, looked_at};
 ghost use Rattle.region.specs.Looks.{seen_at};
 ghost use Rattle.region.specs.Tight.{IsTightened};
 ghost use Rattle.findings.specs.Found.{IsFinding};
+ghost use Rattle.findings.specs.code.Search.{is_on};
 ghost use Rattle.refute_cumul.specs.declared.witness.CumulWitness.TheVariants.{Point};
 ghost use Rattle.refute_cumul.specs.OnCumul.{refutes};
 ghost use Rattle.refute_cumul.specs.laws.Loads.{side};
 ghost use Rattle.refute_cumul.specs.Listed.{names_of};
+ghost use Rattle.refute_cumul.specs.code.Loads.{is_from};
 ghost use Rattle.refute_cumul.specs.code.Sides.{is_high};
 ghost use Rattle.prop_cumul.specs.code.Tables.{is_of};
 ghost use Rattle.prop_cumul.specs.code.Calm.{IsCalm};
-ghost use Rattle.prop_cumul.specs.code.Asking.{IsReady, NeverHigh, IsQuietUnder, IsQuietOn, IsBusy};
+ghost use Rattle.prop_cumul.specs.code.Asking.{IsTested, IsReady, NeverHigh, IsQuietUnder, IsQuietOn, IsBusy};
 ghost use Rattle.findings.specs.laws.EndGuesses.{IsAnEnd};
 ghost use Rattle.prop_cumul.specs.laws.Asking.{TellsExtra, IsRefutedUnder};
 
@@ -68,30 +70,104 @@ fn reach_of(guess: Guess, t: i64) -> Option<u64> {
     u64::try_from(reach).ok()
 }
 
-/// The test by the row of a witness at a moment, from which it can be told how far a guess may move.
+/// Whether a guess is on this interval.
+fn is_on(x: Itv, guess: Guess) -> bool
+    ensures { result ≡ is_on x (topic guess) }
+{
+    match guess {
+        Guess::Present(y) => y.0 == x.0,
+        Guess::Absent(y) => y.0 == x.0,
+        Guess::StartLe(y, _) => y.0 == x.0,
+        Guess::StartGe(y, _) => y.0 == x.0,
+        Guess::EndLe(y, _) => y.0 == x.0,
+        Guess::EndGe(y, _) => y.0 == x.0,
+        Guess::Before(..) => false,
+    }
+}
+
+/// Whether a moment is one of those from the first until before the second.
+fn is_from(span: (i64, i64), t: i64) -> bool
+    ensures { result ≡ is_from span.0 span.1 t }
+{
+    span.0 <= t && t < span.1
+}
+
+/// The moment behind one that is before another.
+fn behind(t: i64, end: i64) -> i64
+    requires { t <ℤ end }
+    ensures { result ≡ t +ℤ pos 1 }
+{
+    let _ = end;
+    t + 1
+}
+
+/// Whether the bound is passed at a moment under a guess, of which these parts tell what it adds.
+fn is_high_at(at: &Side<'_>, parts: &[Part], guess: Option<Guess>, t: i64) -> bool
+    requires ready { IsReady at.now.model.now at.now.region.now.region at.now.c at.now.bound at.now.below at.now.profile.now }
+    requires admitted { IsTrue (passes_if_any (admits at.now.region.now.region) guess) }
+    requires few { length parts.now ≤ 100000 }
+    requires tells { TellsExtra at.now.model.now at.now.region.now.region (looked_at guess at.now.region.now.region) at.now.bound at.now.below parts.now }
+    ensures { result ≡ is_high at.now.model.now (looked_at guess at.now.region.now.region) at.now.bound at.now.below t }
+{
+    let plain = at.region.look(None, None);
+    let under = at.region.look(guess, None);
+    let window = window_of(&under, at.bound.window);
+    if !is_from(window, t) {
+        return false;
+    }
+    let limit = limit_of(at.below, at.bound.lo, at.bound.hi);
+    let one = (t, behind(t, window.1));
+    let found = first_raised(at.profile, &plain, &under, at.below, parts, one, limit);
+    found.is_some()
+}
+
+/// The test by the row of a witness at a moment, from which it can be told how far a guess may move. Of
+/// guesses on an interval the profile tells it, with what its parts add; of others the row itself.
 #[derive(Drop)]
 struct PointTest<'a> {
-    model: &'a Model,
-    region: &'a Region,
-    best: Option<i64>,
+    at: &'a Side<'a>,
+    x: Itv,
+    parts: &'a [Part],
     witness: CumulWitness,
     t: i64,
 }
 
+impl<'a> PointTest<'a> {
+    /// What the profile tells.
+    fn is_high_under(&self, g: Guess) -> bool
+        requires tested { IsTested self.now.at.now.model.now self.now.at.now.region.now.region self.now.at.now.c self.now.at.now.bound self.now.at.now.below self.now.at.now.profile.now self.now.x self.now.parts.now self.now.t self.now.witness }
+        requires admitted { IsTrue (admits self.now.at.now.region.now.region g) }
+        requires on { is_on self.now.x (topic g) ≡ true }
+        ensures { result ≡ refutes self.now.at.now.model.now (seen_at self.now.at.now.region.now.region self.now.at.now.best (Some g)) self.now.witness }
+    {
+        is_high_at(self.at, self.parts, Some(g), self.t)
+    }
+}
+
 impl<'a> GuessTest for PointTest<'a> {
-    ghost use Rattle.region.specs.Looks.{IsRegionOf, seen_at};
-    ghost use Rattle.refute_cumul.specs.declared.witness.CumulWitness.TheVariants.{Point};
+    ghost use Rattle.region.specs.Looks.{seen_at};
     ghost use Rattle.refute_cumul.specs.OnCumul.{refutes};
-    ghost use Rattle.refute_cumul.specs.laws.Loads.{side};
+    ghost use Rattle.prop_cumul.specs.code.Asking.{IsTested};
 
-    ghost region = { λ t. t.region.now.region };
+    ghost region = { λ t. t.at.now.region.now.region };
 
-    ghost is_ready = { λ t. IsRegionOf t.model.now t.region.now.region };
+    ghost is_ready = { λ t. IsTested t.at.now.model.now t.at.now.region.now.region t.at.now.c t.at.now.bound t.at.now.below t.at.now.profile.now t.x t.parts.now t.t t.witness };
 
-    ghost refuting = { λ t guess. refutes t.model.now (seen_at t.region.now.region t.best guess) t.witness };
+    ghost refuting = { λ t guess. refutes t.at.now.model.now (seen_at t.at.now.region.now.region t.at.now.best guess) t.witness };
 
     fn refutes(&self, guess: Option<Guess>) -> bool {
-        region::refutes::<OnCumul>(self.model, self.region, self.best, guess, &self.witness)
+        if let Some(g) = guess {
+            if is_on(self.x, g) {
+                return self.is_high_under(g);
+            }
+        }
+        let Side {
+            model,
+            region,
+            best,
+            ..
+        } = *self.at;
+        region::refutes::<OnCumul>(model, region, best, guess, &self.witness)
     }
 
     fn reach(&self, guess: Guess) -> Option<u64> {
@@ -99,86 +175,80 @@ impl<'a> GuessTest for PointTest<'a> {
     }
 }
 
-/// The finding of a witness at a moment that refutes under a guess.
-fn finding(
-    at: &Side<'_>,
-    witness: CumulWitness,
-    guess: Option<Guess>,
-    t: i64,
-) -> Finding<CumulWitness>
-    requires ready { IsReady at.now.model.now at.now.region.now.region at.now.c at.now.bound at.now.below at.now.profile.now }
-    requires admitted { IsTrue (passes_if_any (admits at.now.region.now.region) guess) }
-    requires refuted { IsTrue (refutes at.now.model.now (seen_at at.now.region.now.region at.now.best guess) witness) }
-    ensures { IsFinding refutes at.now.model.now at.now.region.now.region at.now.best result }
-{
-    match guess {
-        None => Finding {
-            guess: None,
-            witness,
-        },
-        Some(g) => {
-            let test = PointTest {
-                model: at.model,
-                region: at.region,
-                best: at.best,
-                witness,
-                t,
-            };
-            Finding {
-                guess: Some(tighten_by(&test, at.region, g)),
-                witness,
-            }
-        }
-    }
-}
-
 /// Whether a guess lets its interval start or end no later than a moment: the later the moment at
 /// which the bound is passed, the further it moves.
-fn is_early(guess: Option<Guess>) -> bool {
-    matches!(guess, Some(Guess::StartLe(..) | Guess::EndLe(..)))
+fn is_early(guess: Guess) -> bool {
+    matches!(guess, Guess::StartLe(..) | Guess::EndLe(..))
 }
 
 /// Of a run of moments that begins with one at which the bound is passed under a guess, one that moves
 /// the guess further, if the bound is passed there too.
-fn best_moment(at: &Side<'_>, guess: Option<Guess>, raised: Raised) -> i64
+fn best_moment(at: &Side<'_>, parts: &[Part], g: Guess, raised: Raised) -> i64
     requires ready { IsReady at.now.model.now at.now.region.now.region at.now.c at.now.bound at.now.below at.now.profile.now }
-    requires admitted { IsTrue (passes_if_any (admits at.now.region.now.region) guess) }
-    requires refuted { IsTrue (refutes at.now.model.now (seen_at at.now.region.now.region at.now.best guess) (Point at.now.c raised.t (side at.now.below))) }
-    ensures { IsTrue (refutes at.now.model.now (seen_at at.now.region.now.region at.now.best guess) (Point at.now.c result (side at.now.below))) }
+    requires admitted { IsTrue (admits at.now.region.now.region g) }
+    requires few { length parts.now ≤ 100000 }
+    requires tells { TellsExtra at.now.model.now at.now.region.now.region (looked_at (Some g) at.now.region.now.region) at.now.bound at.now.below parts.now }
+    requires high { is_high at.now.model.now (looked_at (Some g) at.now.region.now.region) at.now.bound at.now.below raised.t ≡ true }
+    ensures { is_high at.now.model.now (looked_at (Some g) at.now.region.now.region) at.now.bound at.now.below result ≡ true }
 {
-    if !is_early(guess) || raised.end <= raised.t {
+    if !is_early(g) || raised.end <= raised.t {
         return raised.t;
     }
     let t = raised.end - 1;
-    let witness = CumulWitness::Point {
-        c: at.c,
-        t,
-        u: side(at.below),
-    };
-    if region::refutes::<OnCumul>(at.model, at.region, at.best, guess, &witness) {
+    if is_high_at(at, parts, Some(g), t) {
         return t;
     }
     raised.t
 }
 
-/// What the bound gives under a guess, of which these parts tell what it adds.
-fn ask_under(at: &Side<'_>, parts: &[Part], guess: Option<Guess>) -> Option<Finding<CumulWitness>>
-    requires ready { IsReady at.now.model.now at.now.region.now.region at.now.c at.now.bound at.now.below at.now.profile.now }
-    requires admitted { IsTrue (passes_if_any (admits at.now.region.now.region) guess) }
-    requires few { length parts.now ≤ 100000 }
-    requires tells { TellsExtra at.now.model.now at.now.region.now.region (looked_at guess at.now.region.now.region) at.now.bound at.now.below parts.now }
-    ensures none { IfNone result (NeverHigh at.now.model.now (looked_at guess at.now.region.now.region) at.now.bound at.now.below) }
-    ensures some { IfSome result (IsFinding refutes at.now.model.now at.now.region.now.region at.now.best) }
-    ensures busy { IfSome result (λ f. IsRefutedUnder at.now.model.now at.now.region.now.region at.now.best at.now.c guess) }
+/// The witness at a moment.
+fn point_at(at: &Side<'_>, t: i64) -> CumulWitness
+    ensures { result ≡ Point at.now.c t (side at.now.below) }
 {
-    let raised = moment_under(at, parts, guess)?;
-    let t = best_moment(at, guess, raised);
-    let witness = CumulWitness::Point {
+    CumulWitness::Point {
         c: at.c,
         t,
         u: side(at.below),
+    }
+}
+
+/// The finding at a moment at which the bound is passed under a guess on an interval with these parts.
+fn found_at(at: &Side<'_>, x: Itv, parts: &[Part], g: Guess, t: i64) -> Finding<CumulWitness>
+    requires ready { IsReady at.now.model.now at.now.region.now.region at.now.c at.now.bound at.now.below at.now.profile.now }
+    requires admitted { IsTrue (admits at.now.region.now.region g) }
+    requires parts { parts.now ≡ filter (is_of x) (parts_of at.now.model.now at.now.bound.f) }
+    requires few { length parts.now ≤ 100000 }
+    requires high { is_high at.now.model.now (looked_at (Some g) at.now.region.now.region) at.now.bound at.now.below t ≡ true }
+    ensures { IsFinding refutes at.now.model.now at.now.region.now.region at.now.best result }
+{
+    let witness = point_at(at, t);
+    let test = PointTest {
+        at,
+        x,
+        parts,
+        witness,
+        t,
     };
-    Some(finding(at, witness, guess, t))
+    Finding {
+        guess: Some(tighten_by(&test, at.region, g)),
+        witness,
+    }
+}
+
+/// What the bound gives under a guess on an interval with these parts.
+fn ask_under(at: &Side<'_>, x: Itv, parts: &[Part], g: Guess) -> Option<Finding<CumulWitness>>
+    requires ready { IsReady at.now.model.now at.now.region.now.region at.now.c at.now.bound at.now.below at.now.profile.now }
+    requires admitted { IsTrue (admits at.now.region.now.region g) }
+    requires on { is_on x (topic g) ≡ true }
+    requires parts { parts.now ≡ filter (is_of x) (parts_of at.now.model.now at.now.bound.f) }
+    requires few { length parts.now ≤ 100000 }
+    ensures none { IfNone result (NeverHigh at.now.model.now (looked_at (Some g) at.now.region.now.region) at.now.bound at.now.below) }
+    ensures some { IfSome result (IsFinding refutes at.now.model.now at.now.region.now.region at.now.best) }
+    ensures busy { IfSome result (λ f. IsRefutedUnder at.now.model.now at.now.region.now.region at.now.best at.now.c (Some g)) }
+{
+    let raised = moment_under(at, parts, Some(g))?;
+    let t = best_moment(at, parts, g, raised);
+    Some(found_at(at, x, parts, g, t))
 }
 
 /// What it gives under a guess at the end of a cell of an interval with these parts, if that is open.
@@ -195,7 +265,7 @@ fn ask_end(at: &Side<'_>, x: Itv, parts: &[Part], g: Guess) -> Option<Finding<Cu
     if !at.region.admits(g) {
         return None;
     }
-    ask_under(at, parts, Some(g))
+    ask_under(at, x, parts, g)
 }
 
 /// What it gives of an interval with these parts: presences come first, then the guesses that leave
@@ -246,5 +316,9 @@ pub fn ask_plain(at: &Side<'_>) -> Option<Finding<CumulWitness>>
     ensures some { IfSome result (IsFinding refutes at.now.model.now at.now.region.now.region at.now.best) }
     ensures busy { IfSome result (λ f. IsBusy at.now.model.now at.now.region.now.region at.now.best at.now.c) }
 {
-    ask_under(at, &[], None)
+    let raised = moment_under(at, &[], None)?;
+    Some(Finding {
+        guess: None,
+        witness: point_at(at, raised.t),
+    })
 }

@@ -1,6 +1,8 @@
 -- What is asked of a bound on one of its sides.
-use Rattle.std.specs.Prelude.{◌≡◌, ℕ, ℤ, Bool, true, false, List, Option}
+use Rattle.std.specs.Prelude.{◌≡◌, ℕ, ◌≤◌, ℤ, Bool, true, false, List, Option, length}
+use Rattle.std.specs.List.{filter}
 use Rattle.sched_base.specs.declared.ids.Itv.{Itv}
+use Rattle.sched_model.specs.declared.types.Part.{Part}
 use Rattle.sched_model.specs.Data.{Data, has, parts_of}
 use Rattle.region.specs.declared.types.Guess.{Guess}
 use Rattle.region.specs.Cells.{Region}
@@ -10,11 +12,14 @@ use Rattle.findings.specs.Ends.{is_open_end, is_asked}
 use Rattle.findings.specs.code.Search.{is_on}
 use Rattle.refute_cumul.specs.declared.bound.Bound.{Bound}
 use Rattle.refute_cumul.specs.declared.witness.CumulWitness.{CumulWitness}
+use Rattle.refute_cumul.specs.declared.witness.CumulWitness.TheVariants.{Point}
 use Rattle.refute_cumul.specs.Witness.{constraint_of}
+use Rattle.refute_cumul.specs.laws.Loads.{side}
 use Rattle.refute_cumul.specs.OnCumul.{refutes}
 use Rattle.refute_cumul.specs.Listed.{lists}
 use Rattle.refute_cumul.specs.code.Profiles.{Profile, IsProfileOf}
 use Rattle.refute_cumul.specs.code.Sides.{is_high, IsBoundOf}
+use Rattle.prop_cumul.specs.code.Tables.{is_of}
 
 -- a bound of a constraint, and the profile of its function on a side of the region
 pub record IsReady (m : Data) (r : Region) (c : ℕ) (b : Bound) (below : Bool) (p : Profile) : Type 0 where
@@ -48,3 +53,10 @@ pub record IsBusy (m : Data) (r : Region) (best : Option ℤ) (c : ℕ) : Type 0
   pub names : constraint_of witness ≡ c
   pub asked : is_asked (lists m witness) r guess ≡ true
   pub refutes : refutes m (seen_at r best guess) witness ≡ true
+
+-- a witness at a moment, tested by the parts of an interval
+pub record IsTested (m : Data) (r : Region) (c : ℕ) (b : Bound) (below : Bool) (p : Profile) (x : Itv) (is : List Part) (t : ℤ) (w : CumulWitness) : Type 0 where
+  pub ready : IsReady m r c b below p
+  pub parts : is ≡ filter (is_of x) (parts_of m b.f)
+  pub few : length is ≤ 100000
+  pub witness : w ≡ Point c t (side below)

@@ -41,7 +41,7 @@ use Rattle.refute_cumul.specs.Listed.{names_of, lists}
 use Rattle.refute_cumul.specs.code.Profiles.{Profile, level_in}
 use Rattle.refute_cumul.specs.code.Sides.{is_high, IsBoundOf, HasRoom, as_constraint}
 use Rattle.refute_cumul.specs.laws.Loads.{window_is, side}
-use Rattle.refute_cumul.specs.laws.Sides.{high_refutes, both_silent, few_parts, has_room}
+use Rattle.refute_cumul.specs.laws.Sides.{high_refutes, low_silent, both_silent, few_parts, has_room}
 use Rattle.prop_cumul.specs.declared.task.Task.{Task}
 use Rattle.prop_cumul.specs.code.Tables.{is_of, is_cumul, IsTaskOf}
 use Rattle.prop_cumul.specs.code.Tasks.{looks_after, quiet}
@@ -106,6 +106,41 @@ low_never m r q b below p is span limit profile tells window at h t =
         by_case true false i j = refl
         by_case false q i j = refl
 
+-- the same at one moment
+pub high_at : (m : Data) (r q : Region) (b : Bound) (below : Bool) (p : Profile) (is : List Part) (span : ℤ × ℤ) (limit t u : ℤ) → ((v : ℤ) → level_in p.levels v ≡ load r below (parts_of m b.f) v) → TellsExtra m r q b below is → span ≡ window_of q b.window → limit ≡ limit_of below b.lo b.hi
+    → span.0 ≤ℤ t → t <ℤ span.1 → IsRaisedAbove p.levels (extra r q below is) t (t +ℤ pos 1) limit u → is_high m q b below t ≡ true
+high_at m r q b below p is span limit t u profile tells window at since until h =
+    raised_high m r q b below p is span limit t profile tells window at (since, until, subst (λ v. limit <ℤ (level_in p.levels v +ℤ extra r q below is v)) (alone u t h.0 h.1) h.2)
+  where
+    alone : (u t : ℤ) → t ≤ℤ u → u <ℤ (t +ℤ pos 1) → u ≡ t
+    alone u t h k = omega (arith, ints, h, k)
+
+pub low_at : (m : Data) (r q : Region) (b : Bound) (below : Bool) (p : Profile) (is : List Part) (span : ℤ × ℤ) (limit t : ℤ) → ((v : ℤ) → level_in p.levels v ≡ load r below (parts_of m b.f) v) → TellsExtra m r q b below is → span ≡ window_of q b.window → limit ≡ limit_of below b.lo b.hi
+    → StaysLow p.levels (extra r q below is) t (t +ℤ pos 1) limit → is_high m q b below t ≡ false
+low_at m r q b below p is span limit t profile tells window at low =
+    ap (λ s. s && is_over q (parts_of m b.f) b.lo b.hi below t) (sym (window_is q b.window t) ∙ sym (ap (λ w. is_from w.0 w.1 t) window))
+    ∙ ap (λ z. is_from span.0 span.1 t && int_lt z (load q below (parts_of m b.f) t)) (sym at)
+    ∙ ap (λ z. is_from span.0 span.1 t && int_lt limit z) (sym (total_load m r q b below p is t profile tells))
+    ∙ second (is_from span.0 span.1 t) (int_lt limit (level_in p.levels t +ℤ extra r q below is t)) (no_more limit _ (low t (here t) (next t)))
+  where
+    here : (t : ℤ) → t ≤ℤ t
+    here t = omega (arith, ints)
+
+    next : (t : ℤ) → t <ℤ (t +ℤ pos 1)
+    next t = omega (arith, ints)
+
+    no_more : (limit z : ℤ) → z ≤ℤ limit → int_lt limit z ≡ false
+    no_more limit z k = grind (arith, ints, k)
+
+    second : (p q : Bool) → q ≡ false → (p && q) ≡ false
+    second true q h = h
+    second false q h = refl
+
+-- outside the window it never is
+pub outside_low : (m : Data) (q : Region) (b : Bound) (below : Bool) (span : ℤ × ℤ) (t : ℤ) → span ≡ window_of q b.window → is_from span.0 span.1 t ≡ false → is_high m q b below t ≡ false
+outside_low m q b below span t window off =
+    ap (λ s. s && is_over q (parts_of m b.f) b.lo b.hi below t) (sym (window_is q b.window t) ∙ sym (ap (λ w. is_from w.0 w.1 t) window) ∙ off)
+
 -- a witness of the constraint refutes under a guess
 pub record IsRefutedUnder (m : Data) (r : Region) (best : Option ℤ) (c : ℕ) (guess : Option Guess) : Type 0 where
   pub witness : CumulWitness
@@ -119,6 +154,12 @@ refutes_under m r best c b below guess t of bound admitted high = high_refutes m
 pub refuted_under : (m : Data) (r : Region) (best : Option ℤ) (c : ℕ) (b : Bound) (below : Bool) (guess : Option Guess) (t : ℤ) → IsRegionOf m r → IsBoundOf m c b → passes_if_any (admits r) guess ≡ true → is_high m (looked_at guess r) b below t ≡ true
     → IsRefutedUnder m r best c guess
 refuted_under m r best c b below guess t of bound admitted high = record { witness = Point c t (side below); names = refl; refutes = refutes_under m r best c b below guess t of bound admitted high }
+
+-- by that the witness at the moment refutes, or doesn't
+pub test_is : (m : Data) (r : Region) (best : Option ℤ) (c : ℕ) (b : Bound) (below : Bool) (guess : Option Guess) (t : ℤ) (h : Bool) → IsRegionOf m r → IsBoundOf m c b → passes_if_any (admits r) guess ≡ true → h ≡ is_high m (looked_at guess r) b below t
+    → h ≡ refutes m (seen_at r best guess) (Point c t (side below))
+test_is m r best c b below guess t true of bound admitted is = sym (refutes_under m r best c b below guess t of bound admitted (sym is))
+test_is m r best c b below guess t false of bound admitted is = sym (low_silent m (seen_at r best guess) c b below t bound (sym is))
 
 pub plain_found : (m : Data) (r : Region) (best : Option ℤ) (w : CumulWitness) → refutes m (seen_at r best None) w ≡ true → IsFinding refutes m r best (record { guess = None; witness = w })
 plain_found m r best w h = record { admitted = refl; refuted = h; tight = refl }

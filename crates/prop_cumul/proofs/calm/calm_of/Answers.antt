@@ -1,4 +1,4 @@
-use Rattle.std.proofs.Common.{◌≡◌, rules, to_z, of_z, w64, ℤ}
+use Rattle.std.proofs.Common.{◌≡◌, rules, to_z, of_z, w64}
 use Rattle.std.specs.Int.{w128}
 use Rattle.region.specs.Cells.{Region}
 use Rattle.refute_cumul.specs.code.Loads.{limit_of, window_of}

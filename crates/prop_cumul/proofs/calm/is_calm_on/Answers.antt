@@ -1,4 +1,4 @@
-use Rattle.std.proofs.Common.{◌≡◌, ◌∷◌, [], false, get_or, length, sym, subst, rules, to_z, of_z, w64}
+use Rattle.std.proofs.Common.{◌≡◌, false, get_or, length, sym, subst, rules, to_z, of_z, w64}
 use Rattle.std.specs.Prelude.{Some, pos}
 use Rattle.sched_model.specs.declared.types.Part.{Part}
 use Rattle.sched_model.specs.declared.types.Shape.TheVariants.{Pulse}

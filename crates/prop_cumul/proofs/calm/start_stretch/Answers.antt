@@ -1,4 +1,4 @@
-use Rattle.std.proofs.Common.{◌≡◌, ◌∙◌, true, false, sym, ap, rules}
+use Rattle.std.proofs.Common.{◌≡◌, ◌∙◌, false, sym, ap, rules}
 use Rattle.prop_cumul.specs.code.Calm.{start_stretch}
 use Rattle.prop_cumul.proofs.Calming.{stretch_is}
 use Rattle.prop_cumul.proofs.calm.start_stretch.Goals as goal

@@ -1,4 +1,4 @@
-use Rattle.std.proofs.Common.{◌≡◌, ◌-ℤ◌, rules, true}
+use Rattle.std.proofs.Common.{◌≡◌, ◌-ℤ◌, rules}
 use Rattle.std.specs.Int.{int_min, int_max}
 use Rattle.refute_cumul.specs.code.Profiles.{StaysBelow}
 use Rattle.prop_cumul.proofs.Calming.{lower_between}
