@@ -2,7 +2,7 @@ ghost use Rattle.std.specs.Prelude.{◌≡◌, ◌≤◌, length, is_some, IfOk}
 
 use sched_base::{Desk, Failed, Inlet, Port};
 use std::fs;
-use std::io::{Read, Write};
+use std::io::{ErrorKind, Read, Write};
 use std::rt::Files;
 
 /// The desk over real files and two writers, the trusted edge of a program: it tells nothing of
@@ -20,19 +20,32 @@ pub struct RealDesk<R: Files + Drop, O: Write + Drop, E: Write + Drop> {
     faults: u64,
 }
 
+/// How often in a row a read or a write is tried that a signal interrupts.
+const TRIES: u32 = 1_000;
+
+/// Writes a part of a piece.
+fn write_some<W: Write>(writer: &mut W, bytes: &[u8]) -> Result<usize, Failed>
+    ensures { IfOk result (λ n. n ≤ length bytes.now) }
+{
+    for _ in 0..TRIES {
+        match writer.write(bytes) {
+            Ok(n) => return Ok(n),
+            Err(e) if e.kind() == ErrorKind::Interrupted => {}
+            Err(_) => return Err(Failed),
+        }
+    }
+    Err(Failed)
+}
+
 /// Writes all of a piece.
 fn write_whole<W: Write>(writer: &mut W, bytes: &[u8]) -> Result<(), Failed> {
     let mut left = bytes;
     while !left.is_empty() {
-        match writer.write(left) {
-            Err(_) => return Err(Failed),
-            Ok(n) => {
-                if n == 0 {
-                    return Err(Failed);
-                }
-                left = &left[n..];
-            }
+        let n = write_some(writer, left)?;
+        if n == 0 {
+            return Err(Failed);
         }
+        left = &left[n..];
     }
     Ok(())
 }
@@ -57,6 +70,21 @@ fn created<R: Files>(files: &Option<R>, name: &str) -> Result<R::File, Failed> {
     }
 }
 
+/// Reads into the front of a piece.
+fn read_some<F: Read>(file: &mut F, into: &mut [u8]) -> Result<usize, Failed>
+    ensures within { IfOk result (λ n. n ≤ length into.old) }
+    ensures same { length into.new ≡ length into.old }
+{
+    for _ in 0..TRIES {
+        match file.read(into) {
+            Ok(n) => return Ok(n),
+            Err(e) if e.kind() == ErrorKind::Interrupted => {}
+            Err(_) => return Err(Failed),
+        }
+    }
+    Err(Failed)
+}
+
 fn read_from<F: Read>(file: &mut Option<F>, into: &mut [u8]) -> Result<usize, Failed>
     ensures within { IfOk result (λ n. n ≤ length into.old) }
     ensures same { length into.new ≡ length into.old }
@@ -64,10 +92,7 @@ fn read_from<F: Read>(file: &mut Option<F>, into: &mut [u8]) -> Result<usize, Fa
 {
     match file {
         None => Err(Failed),
-        Some(file) => match file.read(into) {
-            Ok(n) => Ok(n),
-            Err(_) => Err(Failed),
-        },
+        Some(file) => read_some(file, into),
     }
 }
 
