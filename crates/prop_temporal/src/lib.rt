@@ -3,6 +3,7 @@
 
 mod calm;
 mod ends;
+mod guard;
 mod heights;
 mod likely;
 mod members;

@@ -11,9 +11,11 @@ ghost use Rattle.refute_basic.specs.Basic.{refutes};
 ghost use Rattle.refute_basic.specs.laws.Arc.{ends_of};
 ghost use Rattle.refute_basic.specs.Standing.{is_no_overlap};
 ghost use Rattle.prop_temporal.specs.code.Tasks.{size_of, quiet, watching, watching_best, is_cell_of, is_bound, is_of_walks, has_sequence};
+ghost use Rattle.prop_temporal.specs.code.Heights.{AreTouched};
 ghost use Rattle.prop_temporal.specs.code.Tables.{FitEach, AreOptional, AreDisjunctive, IsFor};
 
 use crate::ends::ask_constraint;
+use crate::guard::{Guard, Known};
 use crate::moves::Moves;
 use crate::sources::Sources;
 use crate::touching::touching_of;
@@ -36,6 +38,8 @@ pub struct PropTemporal {
     touching: Vec<List<u32>>,
     sources: Sources,
     walks: Walks,
+    /// Whether walks are asked for soon. Nothing hangs on it.
+    guard: Guard,
     /// Whether no interval may be put off for long.
     narrow: bool,
     /// Which precedences may move a point. Nothing hangs on it.
@@ -176,6 +180,29 @@ fn move_nothing(region: &Region, way: Way, back: Option<Way>) -> bool {
     }
 }
 
+/// What CYCLE finds. Where no walk is found the heights that show it serve from then on to tell whether one may
+/// have closed.
+fn next_walk(
+    walks: &mut Walks,
+    guard: &mut Guard,
+    model: &Model,
+    region: &Region,
+    best: Option<i64>,
+    touching: &[List<u32>],
+) -> Result<Option<Finding<BasicWitness>>, NoMemory>
+    requires of { IsRegionOf model.now region.now.region }
+    requires touching { AreTouched model.now touching.now }
+    ensures none { IfOk result (λ o. IfNone o (quiet model.now 0 region.now.region best)) }
+    ensures some { IfOk result (λ o. IfSome o (IsFinding refutes model.now region.now.region best)) }
+    ensures busy { IfOk result (λ o. IfSome o (λ f. quiet model.now 0 region.now.region best → ⊥)) }
+{
+    let found = walks.next(model, region, best, touching)?;
+    if let Some(heights) = walks.held_heights() {
+        guard.settle(heights);
+    }
+    Ok(found)
+}
+
 impl PropTemporal {
     /// The propagators of a model.
     pub fn new(alloc: Global, model: &Model) -> Result<PropTemporal, NoMemory>
@@ -193,6 +220,7 @@ impl PropTemporal {
             touching,
             sources,
             walks: Walks::new(alloc),
+            guard: Guard::new(alloc, model.intervals().len())?,
             narrow: are_narrow(model.intervals()),
             moves: Moves::new(alloc, model.constraints().len())?,
         })
@@ -222,7 +250,8 @@ impl PropTemporal {
         ensures busy { IfOk result (λ o. IfSome o (λ f. quiet model.now k region.now.region best → ⊥)) }
     {
         if k == 0 {
-            return self.walks.next(model, region, best, &self.touching);
+            let (walks, guard) = (&mut self.walks, &mut self.guard);
+            return next_walk(walks, guard, model, region, best, &self.touching);
         }
         let c = k - 1;
         let ends = self.ends[c as usize].as_slice();
@@ -241,7 +270,12 @@ impl PropTemporal {
         ensures kept { (m : Data) → IsFor self.old m → IsFor self.new m }
     {
         if k == 0 {
-            return false;
+            return self.guard.is_calm(&Known {
+                model,
+                region,
+                sources: &self.sources,
+                touching: &self.touching,
+            });
         }
         let c = k - 1;
         let Some(way) = way_of(model, c, 0) else {
@@ -280,8 +314,9 @@ impl PropTemporal {
             CellName::Presence(x) => {
                 self.moves.note(self.sources.movers(x, Side::Earlier));
                 self.moves.note(self.sources.movers(x, Side::Later));
+                self.guard.note_presence(x);
             }
-            CellName::Order(..) => {}
+            CellName::Order(p, x, y) => self.guard.note_order(p, x, y),
         }
     }
 

@@ -171,6 +171,14 @@ impl Walks {
         }
     }
 
+    /// The heights that fall along all arcs of the region that was asked about last, where such are known.
+    pub fn held_heights(&self) -> Option<&[i64]> {
+        if self.held {
+            return Some(self.heights.as_slice());
+        }
+        None
+    }
+
     /// A walk along all arcs that a look shows.
     fn search_all(
         &mut self,

@@ -1,4 +1,5 @@
 //! A precedence read one way, and by how much it moves its points. No promise hangs on this.
+use refute_basic::Arc;
 use region::{Bounds, Presence, Region};
 use sched_base::{Itv, at};
 use sched_model::{Constraint, End, Model};
@@ -14,6 +15,25 @@ pub struct Way {
     pub second: Itv,
     pub to: End,
     pub z: i64,
+}
+
+/// The place of a point among the heights.
+pub fn point(end: End, x: Itv) -> usize {
+    match end {
+        End::Start => 2 * (x.0 as usize),
+        End::Finish => 2 * (x.0 as usize) + 1,
+    }
+}
+
+impl Way {
+    /// Its arc, where both intervals are present.
+    pub fn arc(&self) -> Arc {
+        Arc {
+            tail: point(self.from, self.first),
+            weight: self.z,
+            head: point(self.to, self.second),
+        }
+    }
 }
 
 /// Which point a way moves: the second one, which gets later, or the first one, which gets earlier.
