@@ -1,5 +1,7 @@
 //! Lists, boxes, desks in memory, and lines of words.
-use sched_base::{Boxed, CalmDesk, Desk, File, Inlet, List, MemDesk, NoMemory, Port, at, read_up_to};
+use sched_base::{
+    Boxed, CalmDesk, Desk, File, Inlet, List, MemDesk, NoMemory, Port, at, read_up_to,
+};
 use std::alloc::Global;
 use std::test::Fail;
 use textline::{Words, push_number, read_count, read_number};
@@ -59,7 +61,7 @@ enum Act {
 }
 
 /// Whether so many bytes of the file `m` are these.
-fn reads(alloc: Global, desk: &mut MemDesk, slot: Inlet, most: usize, want: &[u8]) -> bool {
+fn reads<D: Desk>(alloc: Global, desk: &mut D, slot: Inlet, most: usize, want: &[u8]) -> bool {
     if desk.open_in(slot, "m").is_err() {
         return false;
     }
@@ -69,7 +71,7 @@ fn reads(alloc: Global, desk: &mut MemDesk, slot: Inlet, most: usize, want: &[u8
     }
 }
 
-fn logs(desk: &mut MemDesk, name: &str, bytes: &[u8]) -> bool {
+fn logs<D: Desk>(desk: &mut D, name: &str, bytes: &[u8]) -> bool {
     if desk.create_log(name).is_err() {
         return false;
     }
@@ -170,24 +172,19 @@ fn reads_to_the_end(rt: HostRuntime) -> Result<(), Fail> {
 }
 
 /// Whether nothing fails on a calm desk with the file `m` but to open another.
-fn is_calm(desk: &mut CalmDesk) -> bool {
-    desk.open_in(Inlet::Model, "n").is_err()
-        && desk.open_in(Inlet::Log, "m").is_ok()
-        && desk.create_log("l").is_ok()
-        && desk.write(Port::Log, b"ij").is_ok()
-}
-
-fn calm_reads(alloc: Global) -> Result<bool, NoMemory> {
+fn is_calm(alloc: Global) -> Result<bool, NoMemory> {
     let files = one_file(alloc)?;
     let mut desk = CalmDesk::new(alloc, files)?;
-    let calm = is_calm(&mut desk);
-    let mut piece = [0; 4];
-    Ok(calm && desk.read(Inlet::Log, &mut piece) == Ok(4) && piece == *b"hell")
+    Ok(
+        desk.open_in(Inlet::Model, "n").is_err()
+            && reads(alloc, &mut desk, Inlet::Log, 9, b"hello")
+            && logs(&mut desk, "l", b"ij"),
+    )
 }
 
 #[test]
 fn stays_calm(rt: HostRuntime) -> Result<(), Fail> {
-    assert!(rt; calm_reads(rt.alloc())?);
+    assert!(rt; is_calm(rt.alloc())?);
     Ok(())
 }
 
