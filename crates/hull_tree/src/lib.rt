@@ -4,6 +4,7 @@
 #![tactic(auto)]
 
 mod atoms;
+mod beside;
 mod building;
 mod combine;
 mod nodes;

@@ -11,12 +11,13 @@ ghost use Rattle.hull_tree.specs.code.Atoms.{AreAtoms, HasReach};
 ghost use Rattle.hull_tree.specs.code.Trees.{IsTreeOf, IsEvaluated, IsRootRange, changed};
 
 use crate::atoms::{Atom, atoms_of, intervals_of};
+use crate::beside::beside;
 use crate::building::build;
 use crate::combine::{Ends, narrowed};
 use crate::nodes::{Node, Op, Span};
 use crate::reach::{other_reach, reach_of};
 use crate::walk::{Walk, evaluate, under};
-use region::{Guess, Look, Region};
+use region::{Bounds, Guess, Look, Region};
 use sched_base::{Itv, NoMemory};
 use sched_model::{CompareOp, Expr, Model};
 use std::alloc::Global;
@@ -198,5 +199,16 @@ impl HullTree {
             left: narrowed(under(model, &look, &walk, a)),
             right: narrowed(under(model, &look, &walk, b)),
         })
+    }
+
+    /// The range in the region that was evaluated last, as it stands.
+    pub fn kept_range(&self) -> (i64, i64) {
+        narrowed(self.ends[self.root as usize])
+    }
+
+    /// The range in the region that was evaluated last, where one interval has other bounds. It costs as
+    /// much as `range`; nothing is proved of it, for it only tells where to look first.
+    pub fn range_with(&self, x: Itv, bounds: Bounds) -> (i64, i64) {
+        narrowed(beside(&self.walk(x, x), bounds, self.root))
     }
 }

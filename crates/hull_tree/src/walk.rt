@@ -51,7 +51,7 @@ pub struct Walk<'a> {
 }
 
 /// Whether nothing at these places tells of either interval.
-fn is_clear(walk: &Walk<'_>, span: Span) -> bool
+pub fn is_clear(walk: &Walk<'_>, span: Span) -> bool
     requires rising { IsNonDecreasingBy key_of walk.now.atoms.now }
     requires reaches { HasReach walk.now.atoms.now walk.now.x × HasReach walk.now.atoms.now walk.now.y }
     ensures { result ≡ true → IsClear walk.now.atoms.now walk.now.x.interval span × IsClear walk.now.atoms.now walk.now.y.interval span }
