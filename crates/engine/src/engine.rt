@@ -20,7 +20,7 @@ ghost use Rattle.engine.specs.declared.stops.EngineFault.TheVariants as fault;
 use crate::lines::Lines;
 use crate::propagator::Propagator;
 use crate::stops::{EngineFault, Stop};
-use crate::turns::find;
+use crate::turns::{find, sleep};
 use crate::watchers::Watchers;
 use findings::Finding;
 use kernel::{Line, NoWitness, Witness};
@@ -160,6 +160,14 @@ impl<P: Propagator> Engine<P> {
         ensures calm { (m : Data) (r : Cells) (best : Option ℤ) → IsCalm P.Propagator m r best self.old → IsCalm P.Propagator m r best self.new }
     {
         self.propagators.forget_changes();
+    }
+
+    /// Puts every propagator to sleep. It is for a region of which nothing is left to derive.
+    pub fn rest(&mut self)
+        ensures made { (m : Data) → IsFor P.Propagator m self.old → IsFor P.Propagator m self.new }
+        ensures calm { (m : Data) (r : Cells) (best : Option ℤ) → AreQuiet P.Propagator m r best → IsCalm P.Propagator m r best self.new }
+    {
+        sleep(&mut self.levels);
     }
 
     fn find(

@@ -71,3 +71,15 @@ pub fn find<P: Propagator>(
         return Ok(Some(f));
     }
 }
+
+/// Puts all to sleep that are awake.
+pub fn sleep(levels: &mut WakeLevels)
+    ensures { levels.new.below ≡ levels.old.below }
+{
+    for _k in 0..levels.count() {
+        let Some(turn) = levels.first() else {
+            return;
+        };
+        levels.unwake(turn.k);
+    }
+}
