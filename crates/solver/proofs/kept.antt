@@ -1,3 +1,4 @@
 pub mod Assigned
 pub mod Keeping
+pub mod Silent
 pub mod Segments

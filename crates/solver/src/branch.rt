@@ -1,17 +1,16 @@
-ghost use Rattle.std.specs.Prelude.{◌≡◌, ◌<◌, ◌^◌, ◌≤ℤ◌, ◌<ℤ◌, true, length, IsTrue, IfSome, IfNone};
+ghost use Rattle.std.specs.Prelude.{◌≡◌, ◌<◌, ◌^◌, ◌≤ℤ◌, ◌<ℤ◌, ◌-ℤ◌, pos, true, length, IsTrue, IfSome, IfNone};
 ghost use Rattle.sched_model.specs.Valid.{is_moment};
 ghost use Rattle.region.specs.declared.types.Presence.TheVariants as presence;
-ghost use Rattle.region.specs.Cells.{is_fixed};
+ghost use Rattle.region.specs.Cells.{bounds_of, is_fixed};
 ghost use Rattle.region.specs.Looks.{HasMoments};
-ghost use Rattle.solver.specs.Cuts.{IsMiddle};
+ghost use Rattle.solver.specs.Cuts.{IsCut, IsMiddle};
 ghost use Rattle.solver.specs.code.Searching.{Cuts, is_ordered};
 
-use region::{Bounds, Guess, Presence};
+use region::{Bounds, Guess, Look, Presence};
 use sched_base::Itv;
-use sched_model::Slot;
 
 /// Half of the sum, rounded down.
-fn middle(lo: i64, hi: i64) -> i64
+pub fn middle(lo: i64, hi: i64) -> i64
     requires lo { IsTrue (is_moment lo) }
     requires hi { IsTrue (is_moment hi) }
     ensures middle { IsMiddle lo hi result }
@@ -20,43 +19,25 @@ fn middle(lo: i64, hi: i64) -> i64
     (lo + hi).div_euclid(2)
 }
 
-fn cut_presence(x: Itv, c: Bounds, slot: Option<Slot>) -> Guess
-    requires { c.presence ≡ presence.Maybe }
-    ensures { Cuts x c result }
-{
-    match slot {
-        Some(Slot::Absent) => Guess::Absent(x),
-        _ => Guess::Present(x),
-    }
-}
-
-fn cut_start(x: Itv, c: Bounds, slot: Option<Slot>) -> Guess
+fn cut_start(x: Itv, c: Bounds) -> Guess
     requires present { c.presence ≡ presence.Present }
     requires moments { HasMoments c }
     requires wide { c.smin <ℤ c.smax }
     ensures { Cuts x c result }
 {
-    let t = middle(c.smin, c.smax);
-    match slot {
-        Some(Slot::Present { s, .. }) if t < s => Guess::StartGe(x, t + 1),
-        _ => Guess::StartLe(x, t),
-    }
+    Guess::StartLe(x, middle(c.smin, c.smax))
 }
 
-fn cut_end(x: Itv, c: Bounds, slot: Option<Slot>) -> Guess
+fn cut_end(x: Itv, c: Bounds) -> Guess
     requires present { c.presence ≡ presence.Present }
     requires moments { HasMoments c }
     requires wide { c.emin <ℤ c.emax }
     ensures { Cuts x c result }
 {
-    let t = middle(c.emin, c.emax);
-    match slot {
-        Some(Slot::Present { e, .. }) if t < e => Guess::EndGe(x, t + 1),
-        _ => Guess::EndLe(x, t),
-    }
+    Guess::EndLe(x, middle(c.emin, c.emax))
 }
 
-fn cut_bounds(x: Itv, c: Bounds, slot: Option<Slot>) -> Option<Guess>
+fn cut_bounds(x: Itv, c: Bounds) -> Option<Guess>
     requires present { c.presence ≡ presence.Present }
     requires moments { HasMoments c }
     requires ordered { IsTrue (is_ordered c) }
@@ -64,18 +45,17 @@ fn cut_bounds(x: Itv, c: Bounds, slot: Option<Slot>) -> Option<Guess>
     ensures none { IfNone result (IsTrue (is_fixed c)) }
 {
     if c.smin < c.smax {
-        return Some(cut_start(x, c, slot));
+        return Some(cut_start(x, c));
     }
     if c.emin < c.emax {
-        return Some(cut_end(x, c, slot));
+        return Some(cut_end(x, c));
     }
     None
 }
 
 /// A guess that cuts what is open of an interval: its presence, or else its start, or else its end, at
-/// the middle. It is the part that has the slot, where there is one, and else that it is present, or
-/// the earlier half.
-pub fn cut(x: Itv, c: Bounds, slot: Option<Slot>) -> Option<Guess>
+/// the middle.
+pub fn cut(x: Itv, c: Bounds) -> Option<Guess>
     requires moments { HasMoments c }
     requires ordered { IsTrue (is_ordered c) }
     ensures some { IfSome result (λ g. Cuts x c g) }
@@ -83,7 +63,64 @@ pub fn cut(x: Itv, c: Bounds, slot: Option<Slot>) -> Option<Guess>
 {
     match c.presence {
         Presence::Absent => None,
-        Presence::Maybe => Some(cut_presence(x, c, slot)),
-        Presence::Present => cut_bounds(x, c, slot),
+        Presence::Maybe => Some(Guess::Present(x)),
+        Presence::Present => cut_bounds(x, c),
+    }
+}
+
+/// The middle of what is open of a start.
+fn middle_start(look: &Look<'_>, x: Itv) -> Option<i64>
+    ensures { IfSome result (IsMiddle (bounds_of look.now.region x).smin (bounds_of look.now.region x).smax) }
+{
+    if x.0 as usize >= look.len() {
+        return None;
+    }
+    let c = look.bounds(x);
+    Some(middle(c.smin, c.smax))
+}
+
+/// The middle of what is open of an end.
+fn middle_end(look: &Look<'_>, x: Itv) -> Option<i64>
+    ensures { IfSome result (IsMiddle (bounds_of look.now.region x).emin (bounds_of look.now.region x).emax) }
+{
+    if x.0 as usize >= look.len() {
+        return None;
+    }
+    let c = look.bounds(x);
+    Some(middle(c.emin, c.emax))
+}
+
+/// The moment after the middle of what is open of a start.
+fn next_start(look: &Look<'_>, x: Itv) -> Option<i64>
+    ensures { IfSome result (λ t. IsMiddle (bounds_of look.now.region x).smin (bounds_of look.now.region x).smax (t -ℤ pos 1)) }
+{
+    if x.0 as usize >= look.len() {
+        return None;
+    }
+    let c = look.bounds(x);
+    Some(middle(c.smin, c.smax) + 1)
+}
+
+/// The moment after the middle of what is open of an end.
+fn next_end(look: &Look<'_>, x: Itv) -> Option<i64>
+    ensures { IfSome result (λ t. IsMiddle (bounds_of look.now.region x).emin (bounds_of look.now.region x).emax (t -ℤ pos 1)) }
+{
+    if x.0 as usize >= look.len() {
+        return None;
+    }
+    let c = look.bounds(x);
+    Some(middle(c.emin, c.emax) + 1)
+}
+
+/// Whether a guess on a bound cuts it at the middle.
+pub fn is_cut(look: &Look<'_>, guess: Guess) -> bool
+    ensures { IsTrue result → IsCut look.now.region guess }
+{
+    match guess {
+        Guess::StartLe(x, t) => middle_start(look, x) == Some(t),
+        Guess::StartGe(x, t) => next_start(look, x) == Some(t),
+        Guess::EndLe(x, t) => middle_end(look, x) == Some(t),
+        Guess::EndGe(x, t) => next_end(look, x) == Some(t),
+        Guess::Present(_) | Guess::Absent(_) | Guess::Before(..) => true,
     }
 }

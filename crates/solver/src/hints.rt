@@ -1,4 +1,4 @@
-use crate::weights::Weights;
+use branching::Weights;
 use refute_seq::members_of;
 use sched_base::NoMemory;
 use sched_model::{Assignment, Constraint, Model};
@@ -11,7 +11,9 @@ pub struct Hints {
     pub weights: Weights,
     /// A schedule that is followed.
     pub guide: Option<Assignment>,
-    /// Whether there are more pairs in sequences without overlap than a preparation has nodes.
+    /// How many pairs of members of sequences without overlap there are.
+    pub pairs: u64,
+    /// Whether there are more of them than a preparation has nodes.
     pub many_pairs: bool,
 }
 
@@ -36,10 +38,12 @@ fn count_pairs(model: &Model) -> u64 {
 impl Hints {
     /// Nothing is known, and a preparation has so many nodes.
     pub fn new(alloc: Global, model: &Model, nodes: u64) -> Result<Hints, NoMemory> {
+        let pairs = count_pairs(model);
         Ok(Hints {
             weights: Weights::new(alloc, model)?,
             guide: None,
-            many_pairs: count_pairs(model) > nodes,
+            pairs,
+            many_pairs: pairs > nodes,
         })
     }
 }

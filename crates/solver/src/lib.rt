@@ -1,25 +1,31 @@
 //! Branch and bound that writes the log of its search.
 #![tactic(auto)]
 
+mod aims;
 mod answer;
 mod branch;
+mod chooser;
 mod fault;
-mod guide;
 mod hints;
+mod keeping;
 mod log_lines;
+mod lookahead;
 mod luby;
 mod mark;
+mod neighbourhood;
 mod open_intervals;
-mod open_pairs;
 mod order;
 mod preparing;
+mod random;
 mod rehearsal;
 mod search;
 mod settled;
 mod silence;
+mod silent;
 mod solving;
+mod starts;
 mod state;
-mod weights;
+mod turns;
 
 pub use fault::SolveFault;
 pub use solving::solve;

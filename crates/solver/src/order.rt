@@ -1,36 +1,13 @@
 ghost use Rattle.std.specs.Prelude.{◌≡◌, ◌<◌, ◌≤◌, length, not, IsTrue, IfSome, IfNone};
 ghost use Rattle.std.specs.List.{list_all};
-ghost use Rattle.region.specs.Orders.{says_unknown};
-ghost use Rattle.region.specs.Cells.{cells_of, is_there, is_known_order, is_ordered};
+ghost use Rattle.region.specs.Cells.{cells_of, is_known_order, is_ordered};
 ghost use Rattle.region.specs.Looks.{IsRegionOf};
 ghost use Rattle.solver.specs.code.Searching.{CutsRegion, IsLater, AreMembers};
 
-use region::{Guess, Look, OrderCell, Presence};
+use branching::is_open_order;
+use region::{Guess, Look};
 use sched_base::{Itv, Seq};
 use sched_model::Model;
-
-fn is_unknown(order: OrderCell) -> bool
-    ensures { result ≡ says_unknown order }
-{
-    match order {
-        OrderCell::Unknown => true,
-        OrderCell::Forward => false,
-        OrderCell::Backward => false,
-    }
-}
-
-pub fn is_there(look: &Look<'_>, x: Itv) -> bool
-    ensures { result ≡ is_there look.now.region x }
-{
-    (x.0 as usize) < look.len() && look.presence(x) == Presence::Present
-}
-
-/// Whether the two are both told to be there, and their order isn't known.
-pub fn is_open_order(look: &Look<'_>, p: Seq, x: Itv, y: Itv) -> bool
-    ensures { not result ≡ is_known_order look.now.region (cells_of look.now.region p) x y }
-{
-    is_there(look, x) && is_there(look, y) && is_unknown(look.order(p, x, y))
-}
 
 /// A guess on the order of a member and one of the later ones.
 fn cut_with(look: &Look<'_>, p: Seq, x: Itv, later: &[Itv]) -> Option<Guess>

@@ -1,14 +1,12 @@
-ghost use Rattle.std.specs.Prelude.{ℤ, Option};
-ghost use Rattle.region.specs.Cells.{Region as Cells};
-ghost use Rattle.region.specs.Looks.{IsRegionOf};
-ghost use Rattle.engine.specs.code.Engines.{AreAwake, AreQuiet, IsFor};
-ghost use Rattle.propagators.specs.Quiet.{IsQuietRegion};
+ghost use Rattle.engine.specs.code.Engines.{AreAwake, IsFor};
+ghost use Rattle.solver.specs.code.Searching.{IsHolding};
 
 use crate::hints::Hints;
-use crate::luby::Luby;
 use crate::rehearsal::Rehearsal;
+use crate::starts::Budget;
+use crate::turns::Turns;
 use engine::{Engine, Propagator};
-use propagators::{covers, start};
+use propagators::start;
 use sched_base::NoMemory;
 use sched_model::Model;
 use std::alloc::Global;
@@ -16,18 +14,24 @@ use std::alloc::Global;
 /// A preparation has at most so many nodes.
 const MOST_NODES: u64 = 20_000;
 
-/// It ends when so many nodes brought no better schedule.
-const IDLE_NODES: u64 = 2_000;
-
-/// So many refuted regions end the shortest run.
-const REFUTED: u64 = 150;
-
-/// How many nodes have brought no better schedule, behind some more.
-fn idle_after(idle: u64, spent: u64, before: Option<i64>, best: Option<i64>) -> u64 {
-    if before == best {
-        return idle.saturating_add(spent);
-    }
-    0
+/// Looks for schedules, the first ones by simple rules.
+fn search_for<P: Propagator>(
+    alloc: Global,
+    model: &Model,
+    rehearsal: &mut Rehearsal<P>,
+    pairs: u64,
+    nodes: u64,
+) -> Result<(), NoMemory>
+    requires { IsHolding P.Propagator model.now rehearsal.old.search }
+{
+    let mut budget = Budget {
+        whole: nodes,
+        left: nodes,
+        is_over: false,
+    };
+    rehearsal.make_starts(alloc, model, pairs, &mut budget)?;
+    let mut turns = Turns::new(alloc, model)?;
+    turns.take_each(alloc, model, rehearsal, &mut budget)
 }
 
 fn rehearse<P: Propagator>(
@@ -37,33 +41,19 @@ fn rehearse<P: Propagator>(
     hints: Hints,
     nodes: u64,
 ) -> Result<Hints, NoMemory>
-    requires covers { (r : Cells) (best : Option ℤ) → IsRegionOf model.now r → AreQuiet P.Propagator model.now r best → IsQuietRegion model.now r best }
     requires made { IsFor P.Propagator model.now engine }
     requires awake { AreAwake P.Propagator model.now engine }
 {
+    let pairs = hints.pairs;
     let mut rehearsal = Rehearsal::new(alloc, model, engine, hints)?;
-    let mut luby = Luby::new();
-    let mut left = nodes;
-    let mut idle = 0;
-    for _ in 0..nodes {
-        let before = rehearsal.best();
-        let most = left.min(MOST_NODES);
-        let refuted = luby.next().saturating_mul(REFUTED);
-        let Some(spent) = rehearsal.turn(alloc, model, most, refuted)? else {
-            break;
-        };
-        left = left.saturating_sub(spent);
-        idle = idle_after(idle, spent, before, rehearsal.best());
-        if left == 0 || idle >= IDLE_NODES {
-            break;
-        }
-    }
+    search_for(alloc, model, &mut rehearsal, pairs, nodes)?;
     Ok(rehearsal.into_hints())
 }
 
 /// Searches without a log, so that the search with one knows where to look first: at most a fifth as
-/// many nodes as that one may open, and at most 20,000. It begins anew again and again, and ends
-/// where nothing is left to look at, or where the last 2,000 nodes or more brought no better schedule.
+/// many nodes as that one may open, and at most 20,000. It begins with schedules that simple rules
+/// find, and then takes turns between runs that look at everything and runs near the best schedule. It
+/// ends where nothing is left to look for.
 pub fn prepare(alloc: Global, model: &Model, nodes: u64) -> Result<Hints, NoMemory> {
     let most = (nodes / 5).min(MOST_NODES);
     let hints = Hints::new(alloc, model, most)?;
@@ -73,6 +63,5 @@ pub fn prepare(alloc: Global, model: &Model, nodes: u64) -> Result<Hints, NoMemo
     let engine = start(alloc, model)?;
     // The model is valid by its type.
     let _ = model.intervals();
-    covers();
     rehearse(alloc, model, engine, hints, most)
 }

@@ -1,38 +1,92 @@
-ghost use Rattle.std.specs.Prelude.{◌≡◌, ℤ, Option, ◌<◌, ◌≤◌, ◌^◌, ◌+◌, true, false, IsTrue, Some, IfOk, IfSome, OnOk};
+ghost use Rattle.std.specs.Prelude.{◌≡◌, true, IsTrue, IfOk, IfSome, OnOk};
 ghost use Rattle.sched_model.specs.Domain.{is_in_domain};
-ghost use Rattle.sched_model.specs.Solution.{objective_of};
-ghost use Rattle.region.specs.Cells.{Region as Cells, is_settled};
 ghost use Rattle.region.specs.Looks.{IsRegionOf};
 ghost use Rattle.kernel.specs.Steps.{best_of};
 ghost use Rattle.engine.specs.code.Engines.{AreQuiet, AreAwake, IsFor};
 ghost use Rattle.engine.specs.Runs.{Ends};
-ghost use Rattle.propagators.specs.Quiet.{IsQuietRegion};
-ghost use Rattle.solver.specs.code.Searching.{IsReady, QuietUnlessFailed};
+ghost use Rattle.solver.specs.code.Searching.{IsHolding, IsReady};
 
 use crate::hints::Hints;
-use crate::search::is_capped;
 use crate::settled::settled_assignment;
 use crate::silence::Silence;
 use crate::state::Search;
+use branching::Soonest;
 use engine::{Engine, Propagator, Stop};
-use kernel::{Found, Line};
+use kernel::Found;
+use region::Guess;
 use sched_base::{Con, NoMemory};
 use sched_model::{Assignment, Model, beats, holds, in_domain, value};
 use std::alloc::Global;
 
+/// So many lines for each cell may derive at a root, as many as the engine puts; elsewhere one.
+const LINES_AT_ROOT: u64 = 16;
+
+/// Where there are few cells, so many lines may derive.
+const FEW_LINES: u64 = 1_000;
+
 /// A search without a log, in which each interval is also tried at its least start and end.
 #[derive(Drop)]
 pub struct Rehearsal<P: Propagator> {
-    search: Search<P>,
+    pub search: Search<P>,
     /// The constraint that failed last.
     failed: u32,
+    /// The best schedule so far, which is followed.
+    pub guide: Option<Assignment>,
+    /// Its value.
+    pub best: Option<i64>,
+    pub is_found: bool,
+    /// Whether the schedule is followed.
+    pub follows: bool,
+    /// Whether the rule is one that goes straight for a schedule to the wish of the objective, which
+    /// least starts would hide.
+    is_wished: bool,
+    /// How many regions were looked at in this run.
+    pub spent: u64,
+    /// How many guesses were assumed and lines derived at its root.
+    pub assumed: u64,
+    /// The run ends before it goes back to one of so many saved regions.
+    floor: usize,
+    /// Whether the first region that was saved is the root, or the region is.
+    is_rooted: bool,
+    /// Whether a region was given up, so that runs show nothing.
+    pub gave_up: bool,
 }
 
-/// What a node left: whether a region is left, and whether a witness refuted its own.
+/// When a run ends.
+#[derive(Clone, Copy, Debug)]
+pub struct Limits {
+    /// After so many regions.
+    pub nodes: u64,
+    /// After so many that witnesses refuted.
+    pub refuted: u64,
+    /// At the first schedule.
+    pub first: bool,
+}
+
+/// What a region left.
 #[derive(Clone, Copy, Debug)]
 struct Tried {
+    /// Whether a region is left.
     more: bool,
+    /// Whether a witness refuted it.
     refuted: bool,
+    /// Whether there was a better schedule in it.
+    found: bool,
+}
+
+/// How a run ended.
+#[derive(Clone, Copy, Debug, PartialEq, Eq)]
+pub enum Ending {
+    /// No region is left.
+    Exhausted,
+    Stopped,
+}
+
+fn if_followed(guide: &Option<Assignment>, follows: bool) -> Option<&Assignment> {
+    if !follows {
+        return None;
+    }
+    guide.as_ref()
 }
 
 impl<P: Propagator> Rehearsal<P> {
@@ -44,13 +98,49 @@ impl<P: Propagator> Rehearsal<P> {
     ) -> Result<Rehearsal<P>, NoMemory>
         requires made { IsFor P.Propagator model.now engine }
         requires awake { AreAwake P.Propagator model.now engine }
-        ensures ready { IfOk result (λ r. IsReady P.Propagator model.now r.search) }
-        ensures none { IfOk result (λ r. r.search.nodes ≡ 0) }
+        ensures { IfOk result (λ r. IsHolding P.Propagator model.now r.search) }
     {
         Ok(Rehearsal {
             search: Search::new(alloc, model, engine, hints)?,
             failed: 0,
+            guide: None,
+            best: None,
+            is_found: false,
+            follows: true,
+            is_wished: false,
+            spent: 0,
+            assumed: 0,
+            floor: 0,
+            is_rooted: false,
+            gave_up: false,
         })
+    }
+
+    /// From the root again, by a rule that goes straight for a schedule, or by that which looks at
+    /// everything.
+    pub fn begin(
+        &mut self,
+        alloc: Global,
+        model: &Model,
+        rule: Option<Soonest>,
+    ) -> Result<(), NoMemory>
+        requires { IsHolding P.Propagator model.now self.old.search }
+        ensures { OnOk result (IsReady P.Propagator model.now self.new.search) }
+    {
+        self.is_wished = matches!(
+            rule,
+            Some(Soonest {
+                is_wished: true,
+                ..
+            })
+        );
+        self.search.intervals.follow(rule);
+        self.spent = 0;
+        self.assumed = 0;
+        self.floor = 0;
+        self.is_rooted = false;
+        self.gave_up = false;
+        self.search.restart(alloc, model)
     }
 
     /// Whether every constraint holds. What failed last is tested first.
@@ -71,7 +161,7 @@ impl<P: Propagator> Rehearsal<P> {
         true
     }
 
-    /// Whether a value is better than the best, if there is one.
+    /// Whether a value is better than what is to be beaten, if there is such.
     fn improves(&self, model: &Model, value: Option<i64>) -> bool {
         let (Some(objective), Some(value)) = (model.objective(), value) else {
             return true;
@@ -85,8 +175,7 @@ impl<P: Propagator> Rehearsal<P> {
     /// The schedule at the least starts and ends, where it is a solution, and better than the best.
     fn shifted(&mut self, alloc: Global, model: &Model) -> Result<Option<Found>, NoMemory>
         requires { IsRegionOf model.now self.old.search.region.region }
-        ensures same { self.new.search ≡ self.old.search }
-        ensures own { IfOk result (λ o. IfSome o (λ f. f.value ≡ objective_of model.now f.assignment)) }
+        ensures { self.new.search ≡ self.old.search }
     {
         let assignment = settled_assignment(alloc, model, &self.search.region.look(None, None))?;
         if !in_domain(model, &assignment) {
@@ -99,7 +188,20 @@ impl<P: Propagator> Rehearsal<P> {
         Ok(Some(Found { assignment, value }))
     }
 
-    /// The same where nothing is left to derive, and all presences and orders are known.
+    /// Takes a better schedule, to look for what is better still.
+    fn take(&mut self, alloc: Global, model: &Model, found: Found)
+        requires { IsReady P.Propagator model.now self.old.search }
+        ensures { IsReady P.Propagator model.now self.new.search }
+    {
+        let Found { assignment, value } = found;
+        self.best = value;
+        self.is_found = true;
+        self.guide = Some(assignment);
+        self.search.aim(alloc, model, value);
+    }
+
+    /// The schedule at the least starts and ends, where nothing is left to derive, and all presences and
+    /// orders are known.
     fn better(
         &mut self,
         alloc: Global,
@@ -107,145 +209,265 @@ impl<P: Propagator> Rehearsal<P> {
         stop: &Stop,
     ) -> Result<Option<Found>, NoMemory>
         requires { IsReady P.Propagator model.now self.old.search }
-        ensures same { self.new.search ≡ self.old.search }
-        ensures own { IfOk result (λ o. IfSome o (λ f. f.value ≡ objective_of model.now f.assignment)) }
+        ensures { self.new.search ≡ self.old.search }
     {
-        if !matches!(stop, Stop::Quiet) || !self.search.knows_orders(model) {
+        if self.is_wished || !matches!(stop, Stop::Quiet) || !self.search.knows_orders(model) {
             return Ok(None);
         }
         self.shifted(alloc, model)
     }
 
-    /// Derives what follows at the region.
-    fn derive(&mut self, model: &Model) -> Result<Stop, NoMemory>
+    /// Takes the schedule of a region in which nothing is open, where it is a better one; whether it is.
+    fn take_settled(&mut self, alloc: Global, model: &Model) -> Result<bool, NoMemory>
         requires { IsReady P.Propagator model.now self.old.search }
-        ensures ready { OnOk result (IsReady P.Propagator model.now self.new.search) }
-        ensures nodes { self.new.search.nodes ≡ self.old.search.nodes }
-        ensures settled { IfOk result (λ stop. IsTrue (is_settled self.new.search.region.region) → QuietUnlessFailed (AreQuiet P.Propagator model.now self.new.search.region.region (best_of self.new.search.found)) stop) }
-        ensures stop { IfOk result (Ends (AreQuiet P.Propagator model.now self.new.search.region.region (best_of self.new.search.found)) model.now (best_of self.new.search.found) self.new.search.region.region) }
+        ensures { OnOk result (IsReady P.Propagator model.now self.new.search) }
     {
-        // No line can fail here, so a fault is want of memory.
-        match self.search.derive(model, &mut Silence) {
-            Ok(stop) => Ok(stop),
-            Err(_) => Err(NoMemory),
+        let Some(found) = self.shifted(alloc, model)? else {
+            return Ok(false);
+        };
+        self.take(alloc, model, found);
+        Ok(true)
+    }
+
+    /// Goes back from a region that is done with.
+    fn back(&mut self, model: &Model, refuted: bool, found: bool) -> Tried
+        requires { IsHolding P.Propagator model.now self.old.search }
+        ensures ready { IsTrue result.more → IsReady P.Propagator model.now self.new.search }
+        ensures kept { IsHolding P.Propagator model.now self.new.search }
+    {
+        // Called for its clause alone.
+        let _ = model.intervals();
+        if self.search.marks.len() <= self.floor {
+            return Tried {
+                more: false,
+                refuted,
+                found,
+            };
+        }
+        Tried {
+            more: self.search.back(),
+            refuted,
+            found,
         }
     }
 
-    /// Ends the node.
-    fn end(&mut self, alloc: Global, model: &Model, stop: Stop) -> Result<Tried, NoMemory>
-        requires covers { (r : Cells) (best : Option ℤ) → IsRegionOf model.now r → AreQuiet P.Propagator model.now r best → IsQuietRegion model.now r best }
-        requires nodes { self.old.search.nodes < 2 ^ 63 }
+    /// Splits a region of which nothing is left to derive, or takes its schedule.
+    fn leave(&mut self, alloc: Global, model: &Model, found: bool) -> Result<Tried, NoMemory>
         requires ready { IsReady P.Propagator model.now self.old.search }
-        requires settled { IsTrue (is_settled self.old.search.region.region) → QuietUnlessFailed (AreQuiet P.Propagator model.now self.old.search.region.region (best_of self.old.search.found)) stop }
-        requires stop { Ends (AreQuiet P.Propagator model.now self.old.search.region.region (best_of self.old.search.found)) model.now (best_of self.old.search.found) self.old.search.region.region stop }
+        requires quiet { AreQuiet P.Propagator model.now self.old.search.region.region (best_of self.old.search.found) }
         ensures ready { IfOk result (λ t. IsTrue t.more → IsReady P.Propagator model.now self.new.search) }
-        ensures nodes { OnOk result (self.new.search.nodes ≡ self.old.search.nodes + 1) }
+        ensures kept { OnOk result (IsHolding P.Propagator model.now self.new.search) }
     {
-        let capped = is_capped(&stop);
-        let line = self.search.closing(alloc, model, stop)?;
-        let refuted = matches!(line, Line::Fail(_));
-        let more = self.search.close(model, line, capped)?;
-        Ok(Tried { more, refuted })
-    }
-
-    /// Keeps a better schedule, and ends the node where still better ones are looked for. Without an
-    /// objective none is better.
-    fn improve(&mut self, alloc: Global, model: &Model, found: Found) -> Result<Tried, NoMemory>
-        requires covers { (r : Cells) (best : Option ℤ) → IsRegionOf model.now r → AreQuiet P.Propagator model.now r best → IsQuietRegion model.now r best }
-        requires nodes { self.old.search.nodes < 2 ^ 63 }
-        requires ready { IsReady P.Propagator model.now self.old.search }
-        requires own { found.value ≡ objective_of model.now found.assignment }
-        ensures ready { IfOk result (λ t. IsTrue t.more → IsReady P.Propagator model.now self.new.search) }
-        ensures nodes { IfOk result (λ t. IsTrue t.more → self.new.search.nodes ≡ self.old.search.nodes + 1) }
-    {
-        if found.value.is_none() {
-            self.search.found = Some(found);
+        let schedule = if_followed(&self.guide, self.follows);
+        if let Some(guess) = self.search.choose_freely(model, schedule) {
+            self.search.split(guess, false)?;
             return Ok(Tried {
-                more: false,
+                more: true,
                 refuted: false,
+                found,
             });
         }
-        self.search.adopt(found);
-        let stop = self.derive(model)?;
-        self.end(alloc, model, stop)
+        let is_better = self.take_settled(alloc, model)?;
+        Ok(self.back(model, false, found || is_better))
+    }
+
+    /// Ends the node. A region where too much derives is given up.
+    fn end(
+        &mut self,
+        alloc: Global,
+        model: &Model,
+        stop: Stop,
+        found: bool,
+    ) -> Result<Tried, NoMemory>
+        requires ready { IsReady P.Propagator model.now self.old.search }
+        requires stop { Ends (AreQuiet P.Propagator model.now self.old.search.region.region (best_of self.old.search.found)) model.now (best_of self.old.search.found) self.old.search.region.region stop }
+        ensures ready { IfOk result (λ t. IsTrue t.more → IsReady P.Propagator model.now self.new.search) }
+        ensures kept { OnOk result (IsHolding P.Propagator model.now self.new.search) }
+    {
+        match stop {
+            Stop::Capped => Ok(self.give_up(model, found)),
+            Stop::Failed(w) => {
+                let look = self.search.region.look(None, None);
+                self.search.intervals.blame(model, &look, &w);
+                Ok(self.back(model, true, found))
+            }
+            Stop::Quiet => self.leave(alloc, model, found),
+        }
+    }
+
+    /// Derives what follows. None where it is too much.
+    fn derive(&mut self, model: &Model) -> Result<Option<Stop>, NoMemory>
+        requires { IsReady P.Propagator model.now self.old.search }
+        ensures ready { IfOk result (λ o. IfSome o (λ stop. IsReady P.Propagator model.now self.new.search)) }
+        ensures holding { OnOk result (IsHolding P.Propagator model.now self.new.search) }
+        ensures stop { IfOk result (λ o. IfSome o (Ends (AreQuiet P.Propagator model.now self.new.search.region.region (best_of self.new.search.found)) model.now (best_of self.new.search.found) self.new.search.region.region)) }
+    {
+        let cells = self.search.region.cells();
+        let most = cells.saturating_mul(LINES_AT_ROOT);
+        let few = if self.spent <= 1 {
+            most
+        } else {
+            cells.max(FEW_LINES)
+        };
+        self.search
+            .derive_silently(model, &mut Silence::new(few.min(most)))
+    }
+
+    /// Derives what follows, and ends the node.
+    fn go_on(&mut self, alloc: Global, model: &Model, found: bool) -> Result<Tried, NoMemory>
+        requires ready { IsReady P.Propagator model.now self.old.search }
+        ensures ready { IfOk result (λ t. IsTrue t.more → IsReady P.Propagator model.now self.new.search) }
+        ensures kept { OnOk result (IsHolding P.Propagator model.now self.new.search) }
+    {
+        match self.derive(model)? {
+            None => Ok(self.give_up(model, found)),
+            Some(stop) => self.end(alloc, model, stop, found),
+        }
     }
 
     /// Opens a node and ends it.
     fn visit(&mut self, alloc: Global, model: &Model) -> Result<Tried, NoMemory>
-        requires covers { (r : Cells) (best : Option ℤ) → IsRegionOf model.now r → AreQuiet P.Propagator model.now r best → IsQuietRegion model.now r best }
-        requires nodes { self.old.search.nodes < 2 ^ 63 }
         requires ready { IsReady P.Propagator model.now self.old.search }
         ensures ready { IfOk result (λ t. IsTrue t.more → IsReady P.Propagator model.now self.new.search) }
-        ensures nodes { IfOk result (λ t. IsTrue t.more → self.new.search.nodes ≡ self.old.search.nodes + 1) }
+        ensures kept { OnOk result (IsHolding P.Propagator model.now self.new.search) }
     {
-        let stop = self.derive(model)?;
+        let Some(stop) = self.derive(model)? else {
+            return Ok(self.give_up(model, false));
+        };
         if let Some(found) = self.better(alloc, model, &stop)? {
-            return self.improve(alloc, model, found);
+            self.take(alloc, model, found);
+            return self.go_on(alloc, model, true);
         }
-        self.end(alloc, model, stop)
+        self.end(alloc, model, stop, false)
     }
 
-    /// Opens nodes until no region is left, but at most so many, and until witnesses refuted so many
-    /// of them; whether a region is left.
-    fn run(
-        &mut self,
-        alloc: Global,
-        model: &Model,
-        nodes: u64,
-        refuted: u64,
-    ) -> Result<bool, NoMemory>
-        requires covers { (r : Cells) (best : Option ℤ) → IsRegionOf model.now r → AreQuiet P.Propagator model.now r best → IsQuietRegion model.now r best }
-        requires few { nodes ≤ 2 ^ 62 }
-        requires none { self.old.search.nodes ≡ 0 }
-        requires ready { IsReady P.Propagator model.now self.old.search }
-        ensures ready { IfOk result (λ more. IsTrue more → IsReady P.Propagator model.now self.new.search) }
+    /// What it is that no region is left. Where one was given up it says nothing.
+    fn exhausted(&self) -> Ending {
+        if self.gave_up {
+            return Ending::Stopped;
+        }
+        Ending::Exhausted
+    }
+
+    /// Gives a region up.
+    fn give_up(&mut self, model: &Model, found: bool) -> Tried
+        requires { IsHolding P.Propagator model.now self.old.search }
+        ensures ready { IsTrue result.more → IsReady P.Propagator model.now self.new.search }
+        ensures kept { IsHolding P.Propagator model.now self.new.search }
     {
-        let mut left = refuted;
-        for _n in 0..nodes {
+        self.gave_up = true;
+        self.back(model, false, found)
+    }
+
+    /// Opens nodes until no region is left, or a limit is met.
+    pub fn run(&mut self, alloc: Global, model: &Model, limits: Limits) -> Result<Ending, NoMemory>
+        requires { IsReady P.Propagator model.now self.old.search }
+        ensures { OnOk result (IsHolding P.Propagator model.now self.new.search) }
+    {
+        // Without a save the root itself is narrowed.
+        self.is_rooted = self.is_rooted && self.floor > 0;
+        let ends_at_first = limits.first || model.objective().is_none();
+        let mut left = limits.refuted;
+        for _n in 0..limits.nodes {
+            self.spent = self.spent.saturating_add(1);
             let tried = self.visit(alloc, model)?;
+            if tried.found && ends_at_first {
+                return Ok(Ending::Stopped);
+            }
             if !tried.more {
-                return Ok(false);
+                return Ok(self.exhausted());
             }
             if tried.refuted {
                 left = left.saturating_sub(1);
             }
             if left == 0 {
-                return Ok(true);
+                return Ok(Ending::Stopped);
             }
         }
-        Ok(true)
+        Ok(Ending::Stopped)
     }
 
-    /// The same, and then from the root again; whether a region is left.
-    pub fn turn(
-        &mut self,
-        alloc: Global,
-        model: &Model,
-        nodes: u64,
-        refuted: u64,
-    ) -> Result<Option<u64>, NoMemory>
-        requires covers { (r : Cells) (best : Option ℤ) → IsRegionOf model.now r → AreQuiet P.Propagator model.now r best → IsQuietRegion model.now r best }
-        requires few { nodes ≤ 2 ^ 62 }
-        requires none { self.old.search.nodes ≡ 0 }
-        requires ready { IsReady P.Propagator model.now self.old.search }
-        ensures ready { IfOk result (λ o. IfSome o (λ n. IsReady P.Propagator model.now self.new.search)) }
-        ensures none { IfOk result (λ o. IfSome o (λ n. self.new.search.nodes ≡ 0)) }
+    /// Derives at the root; whether the region is worth a search.
+    pub fn derive_root(&mut self, model: &Model) -> Result<bool, NoMemory>
+        requires { IsReady P.Propagator model.now self.old.search }
+        ensures ready { IfOk result (λ b. IsTrue b → IsReady P.Propagator model.now self.new.search) }
+        ensures holding { OnOk result (IsHolding P.Propagator model.now self.new.search) }
     {
-        if !self.run(alloc, model, nodes, refuted)? {
-            return Ok(None);
+        let most = self.search.region.cells().saturating_mul(LINES_AT_ROOT);
+        let mut silence = Silence::new(most);
+        let stop = self.search.derive_silently(model, &mut silence)?;
+        let lines = most.saturating_sub(silence.left());
+        self.assumed = self.assumed.saturating_add(lines);
+        match stop {
+            Some(Stop::Quiet) => Ok(true),
+            _ => Ok(false),
         }
-        let spent = self.search.nodes;
-        self.search.restart(alloc, model)?;
-        Ok(Some(spent))
     }
 
-    /// The value of the best schedule so far.
-    pub fn best(&self) -> Option<i64> {
-        self.search.best()
+    /// Goes to the root, which may have been saved.
+    fn go_to_root(&mut self, alloc: Global, model: &Model) -> Result<(), NoMemory>
+        requires { IsHolding P.Propagator model.now self.old.search }
+        ensures { OnOk result (IsReady P.Propagator model.now self.new.search) }
+    {
+        if !self.is_rooted {
+            return self.begin(alloc, model, None);
+        }
+        // Called for its clause alone.
+        let _ = model.intervals();
+        if !self.search.unwind(alloc, model) {
+            return self.begin(alloc, model, None);
+        }
+        self.spent = 0;
+        self.assumed = 0;
+        self.gave_up = false;
+        Ok(())
+    }
+
+    /// Goes to the root, of which nothing is left to derive; false where it is refuted.
+    pub fn begin_at_root(&mut self, alloc: Global, model: &Model) -> Result<bool, NoMemory>
+        requires { IsHolding P.Propagator model.now self.old.search }
+        ensures ready { IfOk result (λ b. IsTrue b → IsReady P.Propagator model.now self.new.search) }
+        ensures holding { OnOk result (IsHolding P.Propagator model.now self.new.search) }
+    {
+        self.go_to_root(alloc, model)?;
+        self.floor = 0;
+        self.is_rooted = self.derive_root(model)?;
+        Ok(self.is_rooted)
+    }
+
+    /// Assumes a guess, where it splits the region. The first one is a split of the root, so that it can
+    /// be gone back to.
+    pub fn assume(&mut self, model: &Model, guess: Guess) -> Result<(), NoMemory>
+        requires { IsReady P.Propagator model.now self.old.search }
+        ensures { OnOk result (IsReady P.Propagator model.now self.new.search) }
+    {
+        // Called for its clause alone.
+        let _ = model.intervals();
+        if !self.search.region.splits(guess) {
+            return Ok(());
+        }
+        self.assumed = self.assumed.saturating_add(1);
+        if self.search.marks.is_empty() {
+            self.floor = 1;
+            // What is left to derive at the root isn't told here.
+            return self.search.split(guess, true);
+        }
+        self.search.narrow(model, guess)
+    }
+
+    /// What a schedule costs at least, by what derives at the root.
+    pub fn root_cost(&mut self, model: &Model) -> Result<i64, NoMemory>
+        requires { IsReady P.Propagator model.now self.old.search }
+        ensures { OnOk result (IsHolding P.Propagator model.now self.new.search) }
+    {
+        let _ = self.derive_root(model)?;
+        self.search.intervals.evaluate(model, &self.search.region);
+        Ok(self.search.intervals.goal().cost())
     }
 
     /// What the next search begins with.
     pub fn into_hints(self) -> Hints {
-        self.search.into_hints()
+        let Rehearsal { search, guide, .. } = self;
+        search.into_hints(guide)
     }
 }

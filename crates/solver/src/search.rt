@@ -13,17 +13,17 @@ ghost use Rattle.engine.specs.code.Engines.{AreQuiet, AreAwake, IsCalm, IsFor};
 ghost use Rattle.engine.specs.Plain.{refutes_plain};
 ghost use Rattle.engine.specs.Runs.{Ends};
 ghost use Rattle.propagators.specs.Quiet.{IsQuietRegion};
-ghost use Rattle.solver.specs.code.Searching.{HasValue, IsHolding, IsReady, Closes, RefutesIf, Derived, GoesOn, IsLogged, QuietUnlessFailed, is_failed, is_capped, behind_in, left_in, state_in, node_in, CutsRegion};
+ghost use Rattle.solver.specs.code.Searching.{IsHolding, IsReady, IsResting, Closes, Derived, GoesOn, IsLogged, QuietUnlessFailed, is_failed, is_capped, behind_in, left_in, state_in, node_in, CutsRegion};
 
+use crate::branch::is_cut;
+use crate::chooser::{Chooser, WIDTH};
 use crate::fault::SolveFault;
-use crate::guide::Guide;
 use crate::hints::Hints;
 use crate::mark::Mark;
-use crate::open_intervals::OpenIntervals;
-use crate::open_pairs::Pair;
 use crate::order::cut_orders;
 use crate::settled::settled_assignment;
 use crate::state::Search;
+use branching::Guide;
 use engine::{Engine, Lines, Propagator, Stop};
 use kernel::{Found, Line, NoWitness, Pending};
 use region::{Guess, Region};
@@ -72,13 +72,14 @@ impl<P: Propagator> Search<P> {
             weights,
             guide,
             many_pairs,
+            ..
         } = hints;
         Ok(Search {
             region: Region::root(alloc, model)?,
             pending: Pending::new(alloc),
             marks: Vec::new(alloc),
             engine,
-            intervals: OpenIntervals::new(alloc, model, weights, many_pairs)?,
+            intervals: Chooser::new(alloc, model, weights, many_pairs)?,
             found: None,
             nodes: 0,
             guide,
@@ -87,9 +88,8 @@ impl<P: Propagator> Search<P> {
 
     /// From the root of the model again, with what was found.
     pub fn restart(&mut self, alloc: Global, model: &Model) -> Result<(), NoMemory>
-        requires { IsReady P.Propagator model.now self.old }
+        requires { IsHolding P.Propagator model.now self.old }
         ensures ready { OnOk result (IsReady P.Propagator model.now self.new) }
-        ensures none { OnOk result (self.new.nodes ≡ 0) }
     {
         // Called for its clause alone.
         let _ = model.intervals();
@@ -103,15 +103,6 @@ impl<P: Propagator> Search<P> {
         Ok(())
     }
 
-    /// Takes a solution from elsewhere, at the region as it is.
-    pub fn adopt(&mut self, found: Found)
-        ensures ready { (m : Data) → IsReady P.Propagator m self.old → HasValue m found → IsReady P.Propagator m self.new }
-        ensures nodes { self.new.nodes ≡ self.old.nodes }
-    {
-        self.found = Some(found);
-        self.engine.wake_best();
-    }
-
     /// Whether all presences are known, and all orders of present members of sequences without
     /// overlap.
     pub fn knows_orders(&mut self, model: &Model) -> bool
@@ -121,22 +112,14 @@ impl<P: Propagator> Search<P> {
         self.intervals.knows_orders(model, &look)
     }
 
-    /// What a next search begins with.
-    pub fn into_hints(self) -> Hints {
-        let Search {
-            intervals,
-            found,
-            guide,
-            ..
-        } = self;
+    /// What a next search begins with, with a schedule to follow.
+    pub fn into_hints(self, guide: Option<Assignment>) -> Hints {
+        let Search { intervals, .. } = self;
         let (weights, many_pairs) = intervals.into_weights();
-        let guide = match found {
-            None => guide,
-            Some(f) => Some(f.assignment),
-        };
         Hints {
             weights,
             guide,
+            pairs: 0,
             many_pairs,
         }
     }
@@ -170,19 +153,24 @@ impl<P: Propagator> Search<P> {
         Ok(self.engine.run(model, &mut self.region, best, lines)?)
     }
 
-    /// The guess to split by: a presence first, then the order of a pair, then a bound, and then any
-    /// order that is open.
-    fn pick(&self, model: &Model, cut: Option<Guess>, pair: Option<Pair>) -> Option<Guess>
+    /// Whether a guess splits the region, and cuts a bound at the middle.
+    fn cuts(&self, guess: Guess) -> bool
+        ensures { IsTrue result → CutsRegion self.now.region.region guess }
+    {
+        self.region.splits(guess) && is_cut(&self.region.look(None, None), guess)
+    }
+
+    /// The guess that was picked, where it cuts the region, or else another one, or an order that is open.
+    fn pick(&self, model: &Model, cut: Option<Guess>, picked: Option<Guess>) -> Option<Guess>
         requires of { IsRegionOf model.now self.now.region.region }
         requires cut { IfSome cut (CutsRegion self.now.region.region) }
         requires fixed { IfNone cut (IsTrue (list_all is_fixed self.now.region.region.bounds)) }
         ensures some { IfSome result (CutsRegion self.now.region.region) }
         ensures none { IfNone result (IsTrue (is_settled self.now.region.region)) }
     {
-        if let Some(pair) = pair {
-            let before = Guess::Before(pair.p, pair.first, pair.second);
-            if self.region.splits(before) {
-                return Some(before);
+        if let Some(guess) = picked {
+            if self.cuts(guess) {
+                return Some(guess);
             }
         }
         if cut.is_some() {
@@ -191,19 +179,62 @@ impl<P: Propagator> Search<P> {
         cut_orders(model, &self.region.look(None, None))
     }
 
-    /// A guess that splits the region; none where it is settled.
-    fn choose(&mut self, model: &Model) -> Option<Guess>
-        requires ready { IsReady P.Propagator model.now self.old }
+    /// Lets the rule offer guesses, so many at most, near the schedule that is followed. A guess that cuts
+    /// an interval of which something is open, if there is one.
+    fn propose(&mut self, model: &Model, most: usize) -> Option<Guess>
+        requires { IsReady P.Propagator model.now self.old }
+        ensures ready { IsReady P.Propagator model.now self.new }
+        ensures same { self.new ≡ record self.old { intervals = self.new.intervals } }
+        ensures some { IfSome result (CutsRegion self.old.region.region) }
+        ensures none { IfNone result (IsTrue (list_all is_fixed self.old.region.region.bounds)) }
+    {
+        let cut = self.intervals.sift(model, &self.region.look(None, None));
+        let guide = guide_of(&self.found, &self.guide);
+        self.intervals
+            .offer(model, &self.region, &guide, false, most);
+        cut
+    }
+
+    /// The guess that the rule picks, where it cuts the region, or else another one that does.
+    fn choose_first(&mut self, model: &Model) -> Option<Guess>
+        requires { IsReady P.Propagator model.now self.old }
         ensures ready { IsReady P.Propagator model.now self.new }
         ensures same { self.new ≡ record self.old { intervals = self.new.intervals } }
         ensures some { IfSome result (CutsRegion self.old.region.region) }
         ensures none { IfNone result (IsTrue (is_settled self.old.region.region)) }
     {
-        let look = self.region.look(None, None);
-        let guide = guide_of(&self.found, &self.guide);
-        let cut = self.intervals.choose(model, &look, &guide);
-        let pair = self.intervals.tightest_pair(model, &look, cut, &guide);
-        self.pick(model, cut, pair)
+        let cut = self.propose(model, 1);
+        let picked = self.intervals.pick(0);
+        self.pick(model, cut, picked)
+    }
+
+    /// The same of several guesses, of which both parts are tried.
+    fn choose_best(&mut self, model: &Model) -> Result<Option<Guess>, NoMemory>
+        requires { IsResting P.Propagator model.now self.old }
+        ensures ready { OnOk result (IsReady P.Propagator model.now self.new) }
+        ensures same { OnOk result (self.new ≡ record self.old { engine = self.new.engine; intervals = self.new.intervals; region = record self.old.region { spare = self.new.region.spare } }) }
+        ensures some { IfOk result (λ o. IfSome o (CutsRegion self.old.region.region)) }
+        ensures none { IfOk result (λ o. IfNone o (IsTrue (is_settled self.old.region.region))) }
+    {
+        let cut = self.propose(model, WIDTH);
+        let picked = self.best_pick(model)?;
+        Ok(self.pick(model, cut, picked))
+    }
+
+    /// A guess that splits the region; none where it is settled. Where nothing is left to derive, both
+    /// parts of several splits are tried.
+    fn choose(&mut self, model: &Model, is_quiet: bool) -> Result<Option<Guess>, NoMemory>
+        requires ready { IsReady P.Propagator model.now self.old }
+        requires quiet { is_quiet ≡ true → AreQuiet P.Propagator model.now self.old.region.region (best_of self.old.found) }
+        ensures ready { OnOk result (IsReady P.Propagator model.now self.new) }
+        ensures same { OnOk result (self.new ≡ record self.old { engine = self.new.engine; intervals = self.new.intervals; region = record self.old.region { spare = self.new.region.spare } }) }
+        ensures some { IfOk result (λ o. IfSome o (CutsRegion self.old.region.region)) }
+        ensures none { IfOk result (λ o. IfNone o (IsTrue (is_settled self.old.region.region))) }
+    {
+        if is_quiet {
+            return self.choose_best(model);
+        }
+        Ok(self.choose_first(model))
     }
 
     /// Room for the cells that the two parts of a split write.
@@ -217,24 +248,35 @@ impl<P: Propagator> Search<P> {
 
     /// What is left of a region that isn't refuted: two parts, or the solution of a settled one, of
     /// which all is quiet.
-    fn leave(&mut self, alloc: Global, model: &Model) -> Result<Line<NoWitness>, NoMemory>
+    fn leave(
+        &mut self,
+        alloc: Global,
+        model: &Model,
+        is_quiet: bool,
+    ) -> Result<Line<NoWitness>, NoMemory>
         requires ready { IsReady P.Propagator model.now self.old }
+        requires rests { is_quiet ≡ true → AreQuiet P.Propagator model.now self.old.region.region (best_of self.old.found) }
         requires quiet { IsTrue (is_settled self.old.region.region) → IsQuietRegion model.now self.old.region.region (best_of self.old.found) }
-        ensures ready { IsReady P.Propagator model.now self.new }
-        ensures same { self.new ≡ record self.old { intervals = self.new.intervals; region = record self.old.region { spare = self.new.region.spare } } }
+        ensures ready { OnOk result (IsReady P.Propagator model.now self.new) }
+        ensures same { OnOk result (self.new ≡ record self.old { engine = self.new.engine; intervals = self.new.intervals; region = record self.old.region { spare = self.new.region.spare } }) }
         ensures room { IfOk result (λ line. (g : GuessData) → line ≡ line_is.Split g → 2 ≤ self.new.region.spare) }
         ensures line { IfOk result (Closes model.now self.old.region.region (best_of self.old.found) false) }
     {
         // The model is valid by its type.
         let _ = model.intervals();
-        if let Some(g) = self.choose(model) {
+        let guess = self.choose(model, is_quiet)?;
+        match guess {
             // Before the line is put there is room for the save and for the cell of the first part.
             // That of the second takes the save's place, so `back` is never refused it.
-            self.make_room()?;
-            return Ok(Line::Split(g));
+            Some(g) => {
+                self.make_room()?;
+                Ok(Line::Split(g))
+            }
+            None => {
+                let look = self.region.look(None, None);
+                Ok(Line::Sol(settled_assignment(alloc, model, &look)?))
+            }
         }
-        let look = self.region.look(None, None);
-        Ok(Line::Sol(settled_assignment(alloc, model, &look)?))
     }
 
     /// The line that ends the node.
@@ -246,10 +288,10 @@ impl<P: Propagator> Search<P> {
     ) -> Result<Line<NoWitness>, NoMemory>
         requires ready { IsReady P.Propagator model.now self.old }
         requires covers { (r : Cells) (best : Option ℤ) → IsRegionOf model.now r → AreQuiet P.Propagator model.now r best → IsQuietRegion model.now r best }
-        requires stop { RefutesIf model.now self.old.region.region (best_of self.old.found) stop }
+        requires stop { Ends (AreQuiet P.Propagator model.now self.old.region.region (best_of self.old.found)) model.now (best_of self.old.found) self.old.region.region stop }
         requires settled { IsTrue (is_settled self.old.region.region) → QuietUnlessFailed (AreQuiet P.Propagator model.now self.old.region.region (best_of self.old.found)) stop }
-        ensures ready { IsReady P.Propagator model.now self.new }
-        ensures same { self.new ≡ record self.old { intervals = self.new.intervals; region = record self.old.region { spare = self.new.region.spare } } }
+        ensures ready { OnOk result (IsReady P.Propagator model.now self.new) }
+        ensures same { OnOk result (self.new ≡ record self.old { engine = self.new.engine; intervals = self.new.intervals; region = record self.old.region { spare = self.new.region.spare } }) }
         ensures room { IfOk result (λ line. (g : GuessData) → line ≡ line_is.Split g → 2 ≤ self.new.region.spare) }
         ensures line { IfOk result (Closes model.now self.old.region.region (best_of self.old.found) (is_failed stop)) }
     {
@@ -259,18 +301,19 @@ impl<P: Propagator> Search<P> {
                 self.intervals.blame(model, &look, &w);
                 Ok(Line::Fail(w))
             }
-            Stop::Quiet => self.leave(alloc, model),
-            Stop::Capped => self.leave(alloc, model),
+            Stop::Quiet => self.leave(alloc, model, true),
+            Stop::Capped => self.leave(alloc, model, false),
         }
     }
 
     /// Goes to the newest region that waits; false where none does.
-    fn back(&mut self) -> bool
+    pub fn back(&mut self) -> bool
         requires { (m : Data) × IsHolding P.Propagator m self.old }
         ensures left { left_in result self.new ≡ behind_in self.old }
         ensures nodes { self.new.nodes ≡ self.old.nodes }
         ensures found { self.new.found ≡ self.old.found }
         ensures ready { (m : Data) → IsHolding P.Propagator m self.old → IsTrue result → IsReady P.Propagator m self.new }
+        ensures holding { (m : Data) → IsHolding P.Propagator m self.old → IsHolding P.Propagator m self.new }
     {
         let Some(mark) = self.marks.pop() else {
             return false;
@@ -285,7 +328,7 @@ impl<P: Propagator> Search<P> {
     }
 
     /// Wakes whoever may not be quiet for the region that was saved, at the best value of now.
-    fn rouse(&mut self, mark: Mark)
+    pub fn rouse(&mut self, mark: Mark)
         ensures same { self.new ≡ record self.old { engine = self.new.engine } }
         ensures made { (m : Data) → IsFor P.Propagator m self.old.engine → IsFor P.Propagator m self.new.engine }
         ensures calm { (m : Data) (r : Cells) → IsFor P.Propagator m self.old.engine → IsRegionOf m r → (mark.capped ≡ false → AreQuiet P.Propagator m r mark.best)
@@ -302,7 +345,7 @@ impl<P: Propagator> Search<P> {
     }
 
     /// Goes to the part with the guess; the part with its fact waits.
-    fn split(&mut self, g: Guess, capped: bool) -> Result<(), NoMemory>
+    pub fn split(&mut self, g: Guess, capped: bool) -> Result<(), NoMemory>
         requires ready { (m : Data) × IsReady P.Propagator m self.old }
         requires splits { IsTrue (splits self.old.region.region g) }
         ensures left { OnOk result (left_in true self.new ≡ with_guess g self.old.region.region ∷ with_fact g self.old.region.region ∷ behind_in self.old) }

@@ -1,5 +1,5 @@
+use crate::chooser::Chooser;
 use crate::mark::Mark;
-use crate::open_intervals::OpenIntervals;
 use engine::{Engine, Propagator};
 use kernel::{Found, Pending};
 use region::Region;
@@ -13,7 +13,7 @@ pub struct Search<P: Propagator> {
     pub pending: Pending,
     pub marks: Vec<Mark>,
     pub engine: Engine<P>,
-    pub intervals: OpenIntervals,
+    pub intervals: Chooser,
     pub found: Option<Found>,
     pub nodes: u64,
     /// The schedule that is followed before the first is found.

@@ -155,25 +155,25 @@ ordered_at m r x of within = all_ordered m.intervals r.bounds x.0 of.bounds with
 next_fits : (t : ℤ) → is_moment t ≡ true → SFits w64 (t +ℤ pos 1)
 next_fits t h = grind (arith, ints)
 
-pub early_start : (x : Itv) (c : Bounds) (t : ℤ) → SFits w64 c.smin → SFits w64 c.smax → SFits w64 t → c.presence ≡ presence.Present → c.smin <ℤ c.smax → IsMiddle (to_z w64 (of_z w64 c.smin)) (to_z w64 (of_z w64 c.smax)) t
+pub start_cut : (x : Itv) (c : Bounds) (t : ℤ) → SFits w64 c.smin → SFits w64 c.smax → SFits w64 t → c.presence ≡ presence.Present → c.smin <ℤ c.smax → IsMiddle (to_z w64 (of_z w64 c.smin)) (to_z w64 (of_z w64 c.smax)) t
     → Cuts x c (StartLe x (to_z w64 (of_z w64 t)))
-early_start x c t lo hi fits here less middle = simp to_z-of_z (cuts_start x c t here less (simp to_z-of_z at middle))
+start_cut x c t lo hi fits here less middle = simp to_z-of_z (cuts_start x c t here less (simp to_z-of_z at middle))
 
-pub late_start : (x : Itv) (c : Bounds) (t : ℤ) → SFits w64 c.smin → SFits w64 c.smax → SFits w64 t → is_moment t ≡ true → c.presence ≡ presence.Present → c.smin <ℤ c.smax → IsMiddle (to_z w64 (of_z w64 c.smin)) (to_z w64 (of_z w64 c.smax)) t
-    → Cuts x c (StartGe x (to_z w64 (of_z w64 (to_z w64 (of_z w64 t) +ℤ pos 1))))
-late_start x c t lo hi fits moment here less middle =
-    let next = next_fits t moment in
-    simp to_z-of_z (cuts_start_after x c t here less (simp to_z-of_z at middle))
-
-pub early_end : (x : Itv) (c : Bounds) (t : ℤ) → SFits w64 c.emin → SFits w64 c.emax → SFits w64 t → c.presence ≡ presence.Present → c.emin <ℤ c.emax → IsMiddle (to_z w64 (of_z w64 c.emin)) (to_z w64 (of_z w64 c.emax)) t
+pub end_cut : (x : Itv) (c : Bounds) (t : ℤ) → SFits w64 c.emin → SFits w64 c.emax → SFits w64 t → c.presence ≡ presence.Present → c.emin <ℤ c.emax → IsMiddle (to_z w64 (of_z w64 c.emin)) (to_z w64 (of_z w64 c.emax)) t
     → Cuts x c (EndLe x (to_z w64 (of_z w64 t)))
-early_end x c t lo hi fits here less middle = simp to_z-of_z (cuts_end x c t here less (simp to_z-of_z at middle))
+end_cut x c t lo hi fits here less middle = simp to_z-of_z (cuts_end x c t here less (simp to_z-of_z at middle))
 
-pub late_end : (x : Itv) (c : Bounds) (t : ℤ) → SFits w64 c.emin → SFits w64 c.emax → SFits w64 t → is_moment t ≡ true → c.presence ≡ presence.Present → c.emin <ℤ c.emax → IsMiddle (to_z w64 (of_z w64 c.emin)) (to_z w64 (of_z w64 c.emax)) t
-    → Cuts x c (EndGe x (to_z w64 (of_z w64 (to_z w64 (of_z w64 t) +ℤ pos 1))))
-late_end x c t lo hi fits moment here less middle =
+pub middle_at : (lo hi t : ℤ) → SFits w64 lo → SFits w64 hi → SFits w64 t → IsMiddle (to_z w64 (of_z w64 lo)) (to_z w64 (of_z w64 hi)) t → IsMiddle lo hi (to_z w64 (of_z w64 t))
+middle_at lo hi t low high fits middle = simp to_z-of_z (simp to_z-of_z at middle)
+
+pub next_sum : (t : ℤ) → SFits w64 t → is_moment t ≡ true → SFits w64 (to_z w64 (of_z w64 t) +ℤ pos 1)
+next_sum t fits moment = simp to_z-of_z (next_fits t moment)
+
+pub next_middle : (lo hi t : ℤ) → SFits w64 lo → SFits w64 hi → SFits w64 t → is_moment t ≡ true → IsMiddle (to_z w64 (of_z w64 lo)) (to_z w64 (of_z w64 hi)) t
+    → IsMiddle lo hi (to_z w64 (of_z w64 (to_z w64 (of_z w64 t) +ℤ pos 1)) -ℤ pos 1)
+next_middle lo hi t low high fits moment middle =
     let next = next_fits t moment in
-    simp to_z-of_z (cuts_end_after x c t here less (simp to_z-of_z at middle))
+    simp to_z-of_z (subst (IsMiddle lo hi) (sym (back_from t)) (simp to_z-of_z at middle))
 
 -- a cut of an interval of the region splits it, and cuts it so
 pub cut_region : (r : Region) (x : Itv) (c : Bounds) (g : Guess) → x.0 < length r.bounds → c ≡ bounds_of r x → Cuts x c g → CutsRegion r g

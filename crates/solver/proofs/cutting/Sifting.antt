@@ -149,9 +149,9 @@ fewer_left old new i one within = omega (arith, one, within)
 pub nearer : (count i : ℕ) → i < count → count - (i + 1) < count - i
 nearer count i within = omega (arith, within)
 
-pub if_none : {T X : Type 0} (o : Option T) → X → IfNone o X
-if_none None x = x
-if_none (Some t) x = tt
+pub none_then : {T : Type 0} (o : Option T) (X : Type 0) → (o ≡ None → X) → IfNone o X
+none_then None X h = h refl
+none_then (Some t) X h = tt
 
 range_more : (a n : ℕ) → range_with_len a n ++ (a + n) ∷ [] ≡ range_with_len a (suc n)
 range_more a zero = ap (λ k. k ∷ []) (at a)

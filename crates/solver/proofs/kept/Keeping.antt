@@ -11,7 +11,6 @@ use Rattle.region.specs.Guesses.{admits, splits, with_guess}
 use Rattle.region.specs.code.Held.{Held, IsHeldOf}
 use Rattle.region.specs.Looks.{IsRegionOf}
 use Rattle.region.specs.laws.Narrowing.{guess_stays, splitting, as_many_bounds}
-use Rattle.kernel.specs.declared.types.Found.{Found}
 use Rattle.kernel.specs.code.Pending.{ArePending, AreOpen, Takes, after_saved}
 use Rattle.kernel.specs.laws.Pending.{pending_kept}
 use Rattle.kernel.specs.Steps.{best_of}
@@ -200,24 +199,6 @@ counted_ready p m s n ready = record {
     valued = ready.holding.valued;
   };
   calm = ready.calm;
-  within = ready.within;
-  holds = ready.holds;
-}
-
--- a solution from elsewhere
-pub adopted_ready : {P : Type 0} (p : Ghosts P) (m : Data) (s : Search P) (f : Found) (e : EngineValue P) → IsReady p m s → HasValue m f → IsFor p m e → IsCalm p m s.region.region f.value e
-    → (let t : Search P = record s { found = Some f; engine = e } in IsReady p m t)
-adopted_ready p m s f e ready valued for calm = record {
-  holding = record {
-    of = ready.holding.of;
-    pending = ready.holding.pending;
-    engine = for;
-    below = ready.holding.below;
-    marks = ready.holding.marks;
-    fewer = ready.holding.fewer;
-    valued = valued;
-  };
-  calm = calm;
   within = ready.within;
   holds = ready.holds;
 }

@@ -74,16 +74,13 @@ pub split_steps : (m : Data) (node : Node) (g : Guess) → splits node.region g 
 split_steps m node g h = unless_true _ NotSplitting _ h
 
 -- a better solution is wanted where a region waits
-value_some : (m : Data) (a : Assignment) (v : ℤ) → objective_of m a ≡ Some v → (o : Objective) × (m.objective ≡ Some o)
-value_some m a v h = by_case m.objective refl h
-  where
-    by_case : (q : Option Objective) → m.objective ≡ q → objective_of m a ≡ Some v → (o : Objective) × (m.objective ≡ Some o)
-    by_case None is k = let none : objective_of m a ≡ None = ap (option_map _) is in cc
-    by_case (Some o) is k = (o, is)
+some_there : {X : Type 0} (o : Option X) → is_some o ≡ true → (x : X) × (o ≡ Some x)
+some_there None h = cc
+some_there (Some x) h = (x, refl)
 
 wanted_by : (m : Data) (f : Found) (a : Assignment) (v : Option ℤ) → f.value ≡ v → HasValue m f → passes_if_any (λ o. is_better m v a) m.objective ≡ true → (is_some v && is_better m v a) ≡ true
 wanted_by m f a None is has better = absurd (true≢false (sym has.some ∙ ap is_some is))
-wanted_by m f a (Some v) is has better = let o = value_some m f.assignment v (sym has.own ∙ is) in
+wanted_by m f a (Some v) is has better = let o = some_there m.objective has.objective in
     sym (ap (passes_if_any (λ p. is_better m (Some v) a)) o.1) ∙ better
 
 pub wanted : (m : Data) (found : Option Found) (a : Assignment) → IfSome found (HasValue m) → passes_if_any (λ o. is_better m (best_of found) a) m.objective ≡ true → is_wanted m found a ≡ true

@@ -25,7 +25,7 @@ use Rattle.std.specs.Result.{IsErrAnd}
 use Rattle.engine.specs.Plain.{refutes_plain}
 use Rattle.engine.specs.Runs.{Led, Broke, held, further, broken, Ends, Counts}
 use Rattle.solver.specs.Splits.{IsWellSplit, SplitFrom, derived_after, derived_in}
-use Rattle.solver.specs.code.Searching.{IsSearchLog, IsLogged, IsAtNode, IsSpent, RefutesIf, Stopped, between, within, Breaks, Causes, Derived, GoesOn}
+use Rattle.solver.specs.code.Searching.{IsSearchLog, IsLogged, IsAtNode, IsSpent, Stopped, between, within, Breaks, Causes, Derived, GoesOn}
 use Rattle.solver.specs.declared.fault.SolveFault.{SolveFault}
 use Rattle.solver.specs.declared.state.Search.{Search}
 use Rattle.solver.specs.code.Faults.{passed_on}
@@ -157,11 +157,6 @@ pub spent_by : (quiet : Type 0) (n : ℕ) (m : Data) (best : Option ℤ) (r : Re
 spent_by quiet n m best r Quiet ends counts = ends
 spent_by quiet n m best r (Failed w) ends counts = tt
 spent_by quiet n m best r Capped ends counts = counts.0
-
-pub refutes_by : (quiet : Type 0) (m : Data) (best : Option ℤ) (r : Region) (stop : Stop) → Ends quiet m best r stop → RefutesIf m r best stop
-refutes_by quiet m best r Quiet ends = tt
-refutes_by quiet m best r (Failed w) ends = ends
-refutes_by quiet m best r Capped ends = tt
 
 -- a fault that is handed on
 pub derive_stops : {P L : Type 0} (p : PropagatorGhosts P) (l : Ghosts L) (m : Data) (from now : L) (s : Search P) (r : Result Stop SolveFault) (why : SolveFault) → IsErrAnd r (λ f. f ≡ why) → Breaks l m why from now → Derived p l m from now s r

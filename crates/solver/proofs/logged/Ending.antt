@@ -20,7 +20,7 @@ use Rattle.solver.specs.laws.Quiet.{quiet_solves}
 use Rattle.solver.specs.Splits.{IsWellSplit, derived_after}
 use Rattle.kernel.specs.Steps.{LogState, Node, step_at, best_of, closed, left_after, found_in}
 use Rattle.region.specs.Guesses.{with_guess, with_fact}
-use Rattle.solver.specs.code.Searching.{RefutesIf, Closes, IsSpent, HasValue, QuietUnlessFailed, is_failed, is_capped}
+use Rattle.solver.specs.code.Searching.{Closes, IsSpent, HasValue, QuietUnlessFailed, is_failed, is_capped}
 use Rattle.solver.proofs.logged.Closing.{fail_steps, split_steps, sol_steps}
 use Rattle.solver.proofs.logged.Fitting.{fail_line, split_line, sol_line}
 
@@ -78,9 +78,3 @@ closes_step m node failed (Fail w) valued h = (closed node node.waiting node.fou
 closes_step m node failed (Split g) valued h = (closed node (with_guess g node.region ∷ with_fact g node.region ∷ node.waiting) node.found, split_steps m node g h.0.splits_it)
 closes_step m node failed (Sol a) valued h = (closed node (left_after m node.waiting) (Some (found_in m a)), sol_steps m node a h.0 valued h.1 h.2)
 closes_step m node failed (Derive g w) valued h = absurd h
-
--- what ended a run refutes, if it failed
-pub ends_refute : (quiet : Type 0) (m : Data) (r : Region) (best : Option ℤ) (stop : Stop) → Ends quiet m best r stop → RefutesIf m r best stop
-ends_refute quiet m r best Quiet ends = tt
-ends_refute quiet m r best Capped ends = tt
-ends_refute quiet m r best (Failed w) ends = ends

@@ -9,7 +9,6 @@ use Rattle.sched_model.specs.declared.types.Answer.{Answer}
 use Rattle.sched_model.specs.declared.types.Answer.TheVariants.{Optimal, Feasible, Infeasible, Unfinished}
 use Rattle.sched_model.specs.Data.{Data, same, has}
 use Rattle.sched_model.specs.Valid.{are_distinct}
-use Rattle.sched_model.specs.Solution.{objective_of}
 use Rattle.region.specs.declared.types.Bounds.{Bounds}
 use Rattle.region.specs.declared.types.Guess.{Guess}
 use Rattle.region.specs.Cells.{Region, bounds_of, cells_of, is_settled}
@@ -71,10 +70,10 @@ pub record AreMembers (r : Region) (p : Seq) (ms : List Itv) : Type 0 where
 
 -- What the search holds.
 
--- the value beside what was found is its own; where it has none, the search has ended
+-- a value stands beside what was found, of a model with an objective; where it has none, the search has ended
 pub record HasValue (m : Data) (f : Found) : Type 0 where
   pub some : IsTrue (is_some f.value)
-  pub own : f.value ≡ objective_of m f.assignment
+  pub objective : IsTrue (is_some m.objective)
 
 -- the region is of the model, and so is what waits behind it; beside each save is what is known of it; and the list has the
 -- numbers of intervals
@@ -93,6 +92,16 @@ pub record IsReady {P : Type 0} (p : Ghosts P) (m : Data) (s : Search P) : Type 
   pub calm : IsCalm p m s.region.region (best_of s.found) s.engine
   pub within : s.intervals.count ≤ length s.intervals.list
   pub holds : HoldsOpen s.region.region s.intervals.list s.intervals.count
+
+-- nothing is left to derive
+pub record IsResting {P : Type 0} (p : Ghosts P) (m : Data) (s : Search P) : Type 0 where
+  pub ready : IsReady p m s
+  pub quiet : AreQuiet p m s.region.region (best_of s.found)
+
+-- the engine went elsewhere and is back; there may be other room for changes
+pub record IsUnmoved {P : Type 0} (p : Ghosts P) (m : Data) (old new : Search P) : Type 0 where
+  pub resting : IsResting p m new
+  pub same : new ≡ record old { engine = new.engine; region = record old.region { spare = new.region.spare } }
 
 -- the state of the log between two nodes, where the region is the first that waits, and where none is left
 abbrev pub state_with : {P : Type 0} → List Region → Search P → LogState
@@ -119,11 +128,6 @@ abbrev pub is_failed : Stop → Bool
 is_failed (Failed w) = true
 is_failed Quiet = false
 is_failed Capped = false
-
-abbrev pub RefutesIf : Data → Region → Option ℤ → Stop → Type 0
-RefutesIf m r best (Failed w) = IsTrue (refutes_plain m (seen_at r best None) w)
-RefutesIf m r best Quiet = Unit {0}
-RefutesIf m r best Capped = Unit {0}
 
 -- of a settled region a run tells that it is refuted, or that all is quiet
 abbrev pub QuietUnlessFailed : Type 0 → Stop → Type 0

@@ -1,10 +1,11 @@
-use Rattle.std.proofs.Common.{rules, ◌≡◌, ◌<◌, refl, sym, ap, subst, true≢false}
+use Rattle.std.proofs.Common.{rules, ◌≡◌, ◌<◌, refl, sym, ap, subst, ◌∙◌, true≢false}
 use Rattle.region.specs.Guesses.{turned}
 use Rattle.kernel.specs.Steps.{best_of}
 use Rattle.engine.specs.code.Engines.{IsCalm}
 use Rattle.solver.specs.declared.state.Search.{Search}
 use Rattle.solver.specs.code.Searching.{IsReady}
 use Rattle.solver.proofs.kept.Keeping.{none_behind, back_to, back_ready, none_in}
+use Rattle.solver.proofs.kept.Silent.{none_waits, some_in}
 use Rattle.solver.proofs.state.Search.back.Goals as goal
 
 pub returns-in_default-clause-left : goal.returns-in_default-clause-left
@@ -26,3 +27,9 @@ returns-clause-ready g c = λ m holding more.
     subst (λ (u : Search g.row.P.Denot). let t : Search g.row.P.Denot = record u { engine = c.wake.new.self } in IsReady p m t) (sym rouse.same)
     (back_ready p m s (record { region = c.next.new.region; pending = c.next.new.self; marks = c.pop.new.self; engine = c.wake.new.self; intervals = c.restore.new.self; found = s.found; nodes = s.nodes; guide = s.guide })
     c.in-Some-next.cell c.pop.new.self.items c.in-Some.mark takes holding back next.pending refl c.restore.ensures refl (c.wake.ensures.made m (rouse.made m holding.engine)) now)
+
+pub returns-clause-holding : goal.returns-clause-holding
+returns-clause-holding g c = λ m holding. (returns-clause-ready g c m holding refl).holding
+
+pub returns-in_default-next-clause-holding : goal.returns-in_default-next-clause-holding
+returns-in_default-next-clause-holding g c = λ m holding. absurd (some_in c.pop.new.self.items c.in-Some.mark (sym c.in-Some.ensures.items ∙ none_waits g.P.Propagator m c.args.self.now holding c.in_default-next.ensures.none))

@@ -2,14 +2,14 @@ use Rattle.std.proofs.Common.{◌≡◌, ◌-◌, None}
 use Rattle.std.specs.Prelude.{IfSome}
 use Rattle.solver.specs.code.OpenIntervals.{IsOpenList, Sifts}
 use Rattle.solver.specs.code.Searching.{CutsRegion}
-use Rattle.solver.proofs.open_intervals.OpenIntervals.cut_first.Given as goal
+use Rattle.solver.proofs.open_intervals.OpenIntervals.sift.Given as goal
 
 abbrev pub invariant-places : goal.invariant-places
 invariant-places l = record {
   is : IsOpenList l.look.region l.self;
   sifts : Sifts l.initial.self l.self;
-  best : IfSome l.best (λ b. CutsRegion l.look.region b.guess);
-  none : l.best ≡ None → l.i ≡ 0;
+  last : IfSome l.last (CutsRegion l.look.region);
+  none : l.last ≡ None → l.i ≡ 0;
 }
 
 abbrev pub decreases-places : goal.decreases-places
