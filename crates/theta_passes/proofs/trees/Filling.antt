@@ -93,9 +93,9 @@ pub filling_there : (t : Leaves) (rows : List Row) (from key : ℤ) (n : ℕ) �
 filling_there t rows from key n rises is filling = record {
   below = λ k low. elim (cases_eq k n) [
     | inl same ↦ subst (λ j. IsFilled t rows key j) (sym same) (let filled = filling.rest n (λ early. omega (arith, early)) in record {
-        white = λ on late. let h = and_parts (is_present rows n) (int_lt (row_at rows n).lst from) is in filled.white h.0 (lt_holds (row_at rows n).lst from h.1);
-        whites = λ white. let h = filled.whites white in (h.0, omega (arith, ints, h.1, rises));
-      })
+      white = λ on late. let h = and_parts (is_present rows n) (int_lt (row_at rows n).lst from) is in filled.white h.0 (lt_holds (row_at rows n).lst from h.1);
+      whites = λ white. let h = filled.whites white in (h.0, omega (arith, ints, h.1, rises));
+    })
     | inr other ↦ filling.below k (omega (arith, low, other))
   ];
   rest = λ k high. filling.rest k (λ low. high (omega (arith, low)));
