@@ -1,5 +1,5 @@
 -- Lines that lead on, one run of them behind another.
-use Rattle.std.specs.Prelude.{◌≡◌, ℕ, ◌+◌, ◌<◌, ℤ, false, IsTrue, List, [], ◌∷◌, ◌++◌, length, Option, Some, Result, Ok, Err, OnErr}
+use Rattle.std.specs.Prelude.{◌≡◌, ℕ, ◌+◌, ◌<◌, ◌≤◌, ℤ, false, IsTrue, List, [], ◌∷◌, ◌++◌, length, Option, Some, Result, Ok, Err, OnErr}
 use Rattle.std.proofs.Common.{inl, inr, refl, sym, subst, ◌∙◌, arith, length-append, append_assoc}
 use Rattle.sched_model.specs.Data.{Data}
 use Rattle.region.specs.declared.types.Guess.{Guess}
@@ -63,30 +63,31 @@ led_more l more m best n k a b c r q s one two = record {
 }
 
 -- a run that breaks off at once: with nothing put, with one line put, and with one whose put failed
-pub broke_none : {L : Type 0} (l : Ghosts L) → None_put l → (m : Data) (best : Option ℤ) (a : L) (r : Region) → Broke l m best a a r r
-broke_none l none m best a r = Broke.held (none a) stays
+pub broke_none : {L : Type 0} (l : Ghosts L) → None_put l → (m : Data) (best : Option ℤ) (a : L) (r : Region) → Broke l m best 1 a a r r
+broke_none l none m best a r = Broke.held (none a) stays (omega arith)
 
 pub broke_put : {L : Type 0} (l : Ghosts L) (m : Data) (best : Option ℤ) (a b : L) (r q : Region) (g : Guess) (w : Witness NoWitness)
-    → l.puts a (Derive g w ∷ []) b → q ≡ r → IsDerived refutes_plain m best r g w → Broke l m best a b r q
-broke_put l m best a b r q g w put is one = subst (Broke l m best a b r) (sym is) (Broke.further {lines = []} {g = g} {w = w} put stays one)
+    → l.puts a (Derive g w ∷ []) b → q ≡ r → IsDerived refutes_plain m best r g w → Broke l m best 1 a b r q
+broke_put l m best a b r q g w put is one = subst (Broke l m best 1 a b r) (sym is) (Broke.further {lines = []} {g = g} {w = w} put stays one (omega arith))
 
 pub broke_failed : {L : Type 0} (l : Ghosts L) (m : Data) (best : Option ℤ) (a b : L) (r : Region) (g : Guess) (w : Witness NoWitness)
-    → l.breaks a [] (Derive g w) b → IsDerived refutes_plain m best r g w → Broke l m best a b r r
-broke_failed l m best a b r g w put one = Broke.broken {lines = []} {g = g} {w = w} put stays one
+    → l.breaks a [] (Derive g w) b → IsDerived refutes_plain m best r g w → Broke l m best 1 a b r r
+broke_failed l m best a b r g w put one = Broke.broken {lines = []} {g = g} {w = w} put stays one (omega arith)
 
 -- and behind lines that lead on
-pub broke_more : {L : Type 0} (l : Ghosts L) → More_put l → Then_breaks l → (m : Data) (best : Option ℤ) (n : ℕ) (a b c : L) (r q s : Region) → Led l m best n a b r q → Broke l m best b c q s → Broke l m best a c r s
-broke_more l more breaks m best n a b c r q s one (Broke.held {lines = ys} put derive) = Broke.held (more a b c one.lines ys one.put put) (derives_on one.derive derive)
-broke_more l more breaks m best n a b c r q s one (Broke.further {lines = ys} {g = g} {w = w} put derive is) =
+pub broke_more : {L : Type 0} (l : Ghosts L) → More_put l → Then_breaks l → (m : Data) (best : Option ℤ) (n most : ℕ) (a b c : L) (r q s : Region) → Led l m best n a b r q → n < most → Broke l m best 1 b c q s → Broke l m best most a c r s
+broke_more l more breaks m best n most a b c r q s one few (Broke.held {lines = ys} put derive short) =
+    Broke.held (more a b c one.lines ys one.put put) (derives_on one.derive derive) (omega (arith, one.count, few, short, length-append one.lines ys))
+broke_more l more breaks m best n most a b c r q s one few (Broke.further {lines = ys} {g = g} {w = w} put derive is short) =
     Broke.further {lines = one.lines ++ ys} {g = g} {w = w}
     (subst (λ ls. l.puts a ls c) (sym (append_assoc one.lines ys (Derive g w ∷ []))) (more a b c one.lines (ys ++ Derive g w ∷ []) one.put put))
-    (derives_on one.derive derive) is
-broke_more l more breaks m best n a b c r q s one (Broke.broken {lines = ys} {g = g} {w = w} put derive is) =
-    Broke.broken {lines = one.lines ++ ys} {g = g} {w = w} (breaks a b c one.lines ys (Derive g w) one.put put) (derives_on one.derive derive) is
+    (derives_on one.derive derive) is (omega (arith, one.count, few, short, length-append one.lines ys))
+broke_more l more breaks m best n most a b c r q s one few (Broke.broken {lines = ys} {g = g} {w = w} put derive is short) =
+    Broke.broken {lines = one.lines ++ ys} {g = g} {w = w} (breaks a b c one.lines ys (Derive g w) one.put put) (derives_on one.derive derive) is (omega (arith, one.count, few, short, length-append one.lines ys))
 
 -- or after them
-pub broke_led : {L : Type 0} (l : Ghosts L) (m : Data) (best : Option ℤ) (n : ℕ) (a b : L) (r q : Region) → Led l m best n a b r q → Broke l m best a b r q
-broke_led l m best n a b r q led = Broke.held led.put led.derive
+pub broke_led : {L : Type 0} (l : Ghosts L) (m : Data) (best : Option ℤ) (n most : ℕ) (a b : L) (r q : Region) → Led l m best n a b r q → n ≤ most → Broke l m best most a b r q
+broke_led l m best n most a b r q led few = Broke.held led.put led.derive (omega (arith, led.count, few))
 
 -- what a run says at its end
 pub ends_of : (quiet : Type 0) (m : Data) (best : Option ℤ) (r : Region) (stop : Stop) → IsEnd quiet m best r stop → Ends quiet m best r stop

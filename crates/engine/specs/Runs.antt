@@ -1,5 +1,5 @@
 -- What a run of the engine says.
-use Rattle.std.specs.Prelude.{◌≡◌, ◌⊎◌, ℕ, ◌*◌, ◌<◌, ℤ, false, IsTrue, List, [], ◌∷◌, ◌++◌, length, Option, None}
+use Rattle.std.specs.Prelude.{◌≡◌, ◌⊎◌, ℕ, ◌*◌, ◌<◌, ◌≤◌, ℤ, false, IsTrue, List, [], ◌∷◌, ◌++◌, length, Option, None}
 use Rattle.sched_model.specs.Data.{Data}
 use Rattle.region.specs.declared.types.Guess.{Guess}
 use Rattle.region.specs.Cells.{Region, is_settled, cell_count}
@@ -42,10 +42,11 @@ pub record Ran {L : Type 0} (l : Ghosts L) (quiet : Type 0) (m : Data) (best : O
   pub counts : Counts n now stop
   pub ends : Ends quiet m best now stop
 
--- a run that broke off: lines lead to the region now, and a further one that derives there may have been put, or its put failed
-pub data Broke {L : Type 0} (l : Ghosts L) (m : Data) (best : Option ℤ) (lines_before lines_now : L) (before now : Region) : Type 0 where
-  held : {lines : List Plain} → l.puts lines_before lines lines_now → Derives refutes_plain m best before lines now → Broke l m best lines_before lines_now before now
+-- a run that broke off: lines lead to the region now, and a further one that derives there may have been put, or its put failed;
+-- with it they are at most so many
+pub data Broke {L : Type 0} (l : Ghosts L) (m : Data) (best : Option ℤ) (most : ℕ) (lines_before lines_now : L) (before now : Region) : Type 0 where
+  held : {lines : List Plain} → l.puts lines_before lines lines_now → Derives refutes_plain m best before lines now → length lines ≤ most → Broke l m best most lines_before lines_now before now
   further : {lines : List Plain} {g : Guess} {w : Witness NoWitness} → l.puts lines_before (lines ++ Derive g w ∷ []) lines_now → Derives refutes_plain m best before lines now
-      → IsDerived refutes_plain m best now g w → Broke l m best lines_before lines_now before now
+      → IsDerived refutes_plain m best now g w → length lines < most → Broke l m best most lines_before lines_now before now
   broken : {lines : List Plain} {g : Guess} {w : Witness NoWitness} → l.breaks lines_before lines (Derive g w) lines_now → Derives refutes_plain m best before lines now
-      → IsDerived refutes_plain m best now g w → Broke l m best lines_before lines_now before now
+      → IsDerived refutes_plain m best now g w → length lines < most → Broke l m best most lines_before lines_now before now

@@ -12,7 +12,7 @@ ghost use Rattle.engine.specs.Plain.{refutes_plain};
 ghost use Rattle.engine.specs.code.Changes.{AreSameBut};
 ghost use Rattle.engine.specs.code.Watching.{watchers_of};
 ghost use Rattle.engine.specs.code.Engines.{IsFor, IsCalm, AreQuiet, AreAwake, NoneAwake};
-ghost use Rattle.engine.specs.Runs.{Led, Ran, Broke};
+ghost use Rattle.engine.specs.Runs.{cap_at, Led, Ran, Broke};
 ghost use Rattle.engine.specs.code.Ending.{IsEnd, IfQuiet};
 ghost use Rattle.engine.specs.declared.stops.Stop.TheVariants as stop;
 ghost use Rattle.engine.specs.declared.stops.EngineFault.TheVariants as fault;
@@ -208,7 +208,7 @@ impl<P: Propagator> Engine<P> {
         ensures promised { region.new.promised ≡ region.old.promised }
         ensures calm { OnOk result (IsCalm P.Propagator model.now region.new.region best self.new) }
         ensures learnt { OnOk result (Led L.Lines model.now best 1 lines.old lines.new region.old.region region.new.region) }
-        ensures broke { OnErr result (Broke L.Lines model.now best lines.old lines.new region.old.region region.new.region) }
+        ensures broke { OnErr result (Broke L.Lines model.now best 1 lines.old lines.new region.old.region region.new.region) }
         ensures fault { result ≡ Err fault.Lines → Rose (L.faults lines.old) (L.faults lines.new) × (L.calm lines.old ≡ true → ⊥) }
     {
         // Called for its clause alone.
@@ -240,7 +240,7 @@ impl<P: Propagator> Engine<P> {
         ensures ends { IfOk result (λ o. IfSome o (IsEnd (AreQuiet P.Propagator model.now region.new.region best) model.now best region.new.region)) }
         ensures asleep { IfOk result (λ o. IfSome o (IfQuiet (NoneAwake P.Propagator model.now self.new))) }
         ensures same { IfOk result (λ o. IfSome o (λ stop. (region.new ≡ region.old) × (lines.new ≡ lines.old))) }
-        ensures broke { OnErr result (Broke L.Lines model.now best lines.old lines.new region.old.region region.new.region) }
+        ensures broke { OnErr result (Broke L.Lines model.now best 1 lines.old lines.new region.old.region region.new.region) }
         ensures fault { result ≡ Err fault.Lines → Rose (L.faults lines.old) (L.faults lines.new) × (L.calm lines.old ≡ true → ⊥) }
     {
         let Some(f) = self.find(model, region, best)? else {
@@ -289,7 +289,7 @@ impl<P: Propagator> Engine<P> {
         ensures calm { OnOk result (IsCalm P.Propagator model.now region.new.region best self.new) }
         ensures ran { IfOk result (Ran L.Lines (AreQuiet P.Propagator model.now region.new.region best) model.now best lines.old lines.new region.old.region region.new.region) }
         ensures asleep { IfOk result (IfQuiet (NoneAwake P.Propagator model.now self.new)) }
-        ensures broke { OnErr result (Broke L.Lines model.now best lines.old lines.new region.old.region region.new.region) }
+        ensures broke { OnErr result (Broke L.Lines model.now best (cap_at region.old.region) lines.old lines.new region.old.region region.new.region) }
         ensures fault { result ≡ Err fault.Lines → Rose (L.faults lines.old) (L.faults lines.new) × (L.calm lines.old ≡ true → ⊥) }
     {
         let most = LINES_A_CELL * u128::from(region.cells());
@@ -327,7 +327,7 @@ impl<P: Propagator> Engine<P> {
         ensures calm { IsCalm P.Propagator model.now region.new.region best self.new }
         ensures ran { IfOk result (Ran L.Lines (AreQuiet P.Propagator model.now region.new.region best) model.now best lines.old lines.new region.old.region region.new.region) }
         ensures none_awake { result ≡ Ok stop.Quiet → NoneAwake P.Propagator model.now self.new }
-        ensures broke { OnErr result (Broke L.Lines model.now best lines.old lines.new region.old.region region.new.region) }
+        ensures broke { OnErr result (Broke L.Lines model.now best (cap_at region.old.region) lines.old lines.new region.old.region region.new.region) }
         ensures fault { result ≡ Err fault.Lines → Rose (L.faults lines.old) (L.faults lines.new) × (L.calm lines.old ≡ true → ⊥) }
         ensures awake { OnErr result (AreAwake P.Propagator model.now self.new) }
     {

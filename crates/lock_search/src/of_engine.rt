@@ -14,7 +14,7 @@ ghost use Rattle.engine.specs.Plain.{refutes_plain};
 ghost use Rattle.engine.specs.code.Watched.{names_presence, names_bound, names_order};
 ghost use Rattle.engine.specs.code.Engines.{IsFor, AreAwake, IsCalm, AreQuiet, NoneAwake};
 ghost use Rattle.engine.specs.code.Changes.{AreSameBut};
-ghost use Rattle.engine.specs.Runs.{Ran, Broke};
+ghost use Rattle.engine.specs.Runs.{cap_at, Ran, Broke};
 ghost use Rattle.engine.specs.laws.Caps.{CapIsTheModels};
 ghost use Rattle.engine.specs.declared.stops.Stop.TheVariants as stop;
 ghost use Rattle.engine.specs.declared.stops.EngineFault.TheVariants as fault;
@@ -159,7 +159,7 @@ pub fn run<P: Propagator, L: Lines>(
     ensures calm { IsCalm P.Propagator model.now region.new.region best engine.new }
     ensures ran { IfOk result (Ran L.Lines (AreQuiet P.Propagator model.now region.new.region best) model.now best lines.old lines.new region.old.region region.new.region) }
     ensures none_awake { result ≡ Ok stop.Quiet → NoneAwake P.Propagator model.now engine.new }
-    ensures broke { OnErr result (Broke L.Lines model.now best lines.old lines.new region.old.region region.new.region) }
+    ensures broke { OnErr result (Broke L.Lines model.now best (cap_at region.old.region) lines.old lines.new region.old.region region.new.region) }
     ensures fault { result ≡ Err fault.Lines → Rose (L.faults lines.old) (L.faults lines.new) × (L.calm lines.old ≡ true → ⊥) }
     ensures awake { OnErr result (AreAwake P.Propagator model.now engine.new) }
 {

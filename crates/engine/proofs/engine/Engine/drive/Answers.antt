@@ -1,5 +1,6 @@
 use Rattle.std.proofs.Common.{rules, arith, refl, ap, ◌∙◌}
 use Rattle.region.specs.code.Held.{Held}
+use Rattle.engine.specs.Runs.{cap_at}
 use Rattle.engine.specs.code.Engines.{AreQuiet}
 use Rattle.engine.proofs.Leading.{led_none, led_more, broke_more, broke_led, ran_turn, ran_last, ran_capped, on_err}
 use Rattle.engine.proofs.Counting.{few_lines, all_lines}
@@ -36,8 +37,8 @@ loop-put-preserved g c =
 
 pub returns-in_err-stop-clause-broke : goal.returns-in_err-stop-clause-broke
 returns-in_err-stop-clause-broke g c =
-    on_err _ _ (broke_more g.L.Lines g.met.L.Lines.more g.met.L.Lines.then_breaks c.args.model.now c.args.best c.loop-put.put c.args.lines.now c.loop-put.lines c.turn.new.lines
-    c.args.region.now.region c.loop-put.region.region c.turn.new.region.region c.loop-put.invariant.led c.in_err-stop.ensures.broke)
+    on_err _ _ (broke_more g.L.Lines g.met.L.Lines.more g.met.L.Lines.then_breaks c.args.model.now c.args.best c.loop-put.put (cap_at c.args.region.now.region) c.args.lines.now c.loop-put.lines c.turn.new.lines
+    c.args.region.now.region c.loop-put.region.region c.turn.new.region.region c.loop-put.invariant.led (omega (arith, c.loop-put.invariant.most, c.loop-put-test.true)) c.in_err-stop.ensures.broke)
 
 pub returns-in-Some-clause-ran : goal.returns-in-Some-clause-ran
 returns-in-Some-clause-ran g c =
@@ -58,7 +59,7 @@ returns-then-not-settled-clause-ran g c =
 
 pub returns-in_err-close-clause-broke : goal.returns-in_err-close-clause-broke
 returns-in_err-close-clause-broke g c =
-    on_err _ _ (broke_led g.L.Lines c.args.model.now c.args.best c.loop-put.put c.args.lines.now c.loop-put.lines c.args.region.now.region c.loop-put.region.region c.loop-put.invariant.led)
+    on_err _ _ (broke_led g.L.Lines c.args.model.now c.args.best c.loop-put.put (cap_at c.args.region.now.region) c.args.lines.now c.loop-put.lines c.args.region.now.region c.loop-put.region.region c.loop-put.invariant.led (omega (arith, c.loop-put.invariant.most, c.loop-put.invariant.few)))
 
 pub returns-clause-ran : goal.returns-clause-ran
 returns-clause-ran g c =
