@@ -5,6 +5,7 @@ ghost use Rattle.sched_model.specs.Valid.{IsValid};
 ghost use Rattle.region.specs.Cells.{Region};
 ghost use Rattle.region.specs.Looks.{IsRegionOf};
 ghost use Rattle.engine.specs.code.Engines.{IsFor, AreAwake, AreQuiet};
+ghost use Rattle.propagators.specs.laws.Owned.{EachIsOwned};
 ghost use Rattle.propagators.specs.Quiet.{IsQuietRegion};
 
 use engine::{Engine, Propagator};
@@ -24,4 +25,10 @@ pub fn covers()
     ensures { (m : Data) (r : Region) (best : Option ℤ) → IsValid m → IsRegionOf m r → AreQuiet ⟦<All as Propagator>⟧ m r best → IsQuietRegion m r best }
 {
     propagators::covers();
+}
+
+pub fn each_witness_has_an_owner()
+    ensures { EachIsOwned }
+{
+    propagators::each_witness_has_an_owner();
 }

@@ -49,13 +49,13 @@ use Rattle.prop_state.specs.laws.Owners.{unowned as unowned_state}
 use Rattle.propagators.specs.Quiet.{is_derived, lists_all, IsQuietRegion}
 
 -- one of the first numbers passes a test, or none does
-abbrev Passing : (ℕ → Bool) → ℕ → Type 0
+abbrev pub Passing : (ℕ → Bool) → ℕ → Type 0
 Passing test n = (k : ℕ) × (k < n) × (test k ≡ true)
 
-abbrev NonePasses : (ℕ → Bool) → ℕ → Type 0
+abbrev pub NonePasses : (ℕ → Bool) → ℕ → Type 0
 NonePasses test n = (k : ℕ) → k < n → test k ≡ false
 
-one_or_none : (test : ℕ → Bool) (n : ℕ) → Passing test n ⊎ NonePasses test n
+pub one_or_none : (test : ℕ → Bool) (n : ℕ) → Passing test n ⊎ NonePasses test n
 one_or_none test zero = inr (λ k less. absurd (omega (arith, less)))
 one_or_none test (suc n) = by_case (test zero) refl (one_or_none (λ k. test (suc k)) n)
   where
@@ -79,7 +79,7 @@ unrefuted_by refutes lists looks_after size m r best of all w unowned guess aske
 ]
 
 -- a kind of `refute_basic` that derives is asked by one of two crates
-own_or_temporal : (w : BasicWitness) → is_derived_basic w ≡ true → (is_own w ≡ true) ⊎ (is_temporal w ≡ true)
+pub own_or_temporal : (w : BasicWitness) → is_derived_basic w ≡ true → (is_own w ≡ true) ⊎ (is_temporal w ≡ true)
 own_or_temporal (Size x) h = inl refl
 own_or_temporal (Arc c d) h = inr refl
 own_or_temporal (Cycle arcs) h = inr refl
@@ -106,7 +106,7 @@ basic_unrefuted m r best of all w guess derived asked = elim (own_or_temporal w 
 ]
 
 -- so is a kind of `refute_seq`: by few members at a time, or by sets in the first round or in the later one
-unary_or_sets : (w : SeqWitness) → (is_unary w ≡ true) ⊎ ((is_sets false w ≡ true) ⊎ (is_sets true w ≡ true))
+pub unary_or_sets : (w : SeqWitness) → (is_unary w ≡ true) ⊎ ((is_sets false w ≡ true) ⊎ (is_sets true w ≡ true))
 unary_or_sets (Pair c a b k) = inl refl
 unary_or_sets (Triple p x y z) = inl refl
 unary_or_sets (Overload c s) = inr (inl refl)
@@ -122,7 +122,7 @@ sets_unrefuted m r best of all w guess (inr later) asked =
     unrefuted_by refutes_seq lists_seq (looks_after_sets true) (size_of_sets m) m r best of all.later_sets w (λ l stays none. unowned_sets true m l w later none) guess asked
 
 -- so is a kind of `refute_state`
-state_kind : (w : StateWitness) → is_state w ≡ true
+pub state_kind : (w : StateWitness) → is_state w ≡ true
 state_kind (Two c d) = refl
 state_kind (Three c d e) = refl
 
