@@ -143,7 +143,7 @@ cut_told : (model : Source) (log : Bytes) (limit : ℕ) (text : Bytes) (old s ne
 cut_told model log limit text old s new (before_log only) reports =
     before_log (subst (OnlyRefuses old) (sym (reports.only ∙ ap (λ (x : State). record x { err = new.err; faults = new.faults }) only)) refl)
 cut_told model log limit text old s new (in_log m deserved created holds out) reports =
-    in_log m deserved (ap (λ (x : State). x.created) reports.only ∙ created.0, ap (λ (x : State). x.logs) reports.only ∙ created.1) (subst (λ b. HoldsBegunLog m old.logged b) (sym (ap (λ (x : State). x.logged) reports.only)) holds)
+    in_log m deserved (ap (λ (x : State). x.created) reports.only ∙ created.0, ap (λ (x : State). x.logs) reports.only ∙ created.1) (subst (λ b. HoldsBegunLog m limit old.logged b) (sym (ap (λ (x : State). x.logged) reports.only)) holds)
     (ap (λ (x : State). x.out) reports.only ∙ out)
 cut_told model log limit text old s new (in_answer m solved deserved answer created written part) reports =
     in_answer m solved deserved answer (ap (λ (x : State). x.created) reports.only ∙ created.0, ap (λ (x : State). x.logs) reports.only ∙ created.1) (subst (λ b. LogPromise m limit solved old.logged b) (sym (ap (λ (x : State). x.logged) reports.only)) written)

@@ -23,12 +23,11 @@ log_promise : (m : Data) (limit : ℕ) (solved : Solved) (lines : List PlainLine
 log_promise m limit solved lines state before is = record {
   lines = lines;
   state = state;
-  steps = is.log;
-  splits = is.splits;
-  written = refl;
-  accepted = record { lines = lines; state = state; log = is.log; text = refl; verdict = sym is.verdict; nodes = is.nodes };
-  schedule = last_shown (refutes_with log_refutes) m lines (opening m) state _ is.log.steps refl is.shown;
-  few = subst (λ n. n ≤ limit) (sym is.nodes) is.few;
+  written = is.written;
+  bytes = refl;
+  accepted = record { lines = lines; state = state; log = is.written.log; text = refl; verdict = sym is.verdict; nodes = is.nodes };
+  schedule = last_shown (refutes_with log_refutes) m lines (opening m) state _ is.written.log.steps refl is.shown;
+  enough = is.enough;
   limited = λ open_one. (
     is.nodes ∙ is.limited open_one,
     is.closed,

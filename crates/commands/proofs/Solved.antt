@@ -1,9 +1,11 @@
 -- What solving a file has done, from what its steps did.
-use Rattle.std.proofs.Common.{◌≡◌, ◌≤◌, ℕ, true, Ok, Err, take, refl, sym, ap, subst, ◌∙◌, inl, inr, arith}
+use Rattle.std.proofs.Common.{◌≡◌, ◌≤◌, ℕ, true, false, Ok, Err, take, refl, sym, ap, subst, ◌∙◌, inl, inr, arith}
 use Rattle.sched_base.specs.declared.desk.Failed.{Failed}
 use Rattle.sched_base.specs.declared.desk.Port.TheVariants.{Out}
 use Rattle.sched_base.specs.State.{State, with_log}
 use Rattle.sched_base.specs.Calls.{Writes, Rose, appended}
+use Rattle.sched_model.specs.declared.types.Answer.{Answer}
+use Rattle.sched_model.specs.declared.types.Answer.TheVariants.{Optimal, Feasible, Infeasible, Unfinished}
 use Rattle.sched_model.specs.declared.types.Solved.{Solved}
 use Rattle.sched_model.specs.Data.{Data}
 use Rattle.textline.specs.Lines.{Bytes}
@@ -13,6 +15,8 @@ use Rattle.given_files.specs.declared.stop.Stop.{Stop as GivenStop}
 use Rattle.given_files.specs.declared.stop.Stop.TheVariants as given
 use Rattle.given_files.specs.code.Reading.{OnlyReads}
 use Rattle.commands.specs.declared.ended.Ended.{Ended}
+use Rattle.commands.specs.declared.ended.Ended.TheVariants as end
+use Rattle.solver.specs.Answers.{is_unfinished}
 use Rattle.commands.specs.declared.stop.Stop.{Stop}
 use Rattle.commands.specs.declared.stop.Stop.TheVariants as stop
 use Rattle.commands.specs.Ended.{is_success}
@@ -30,36 +34,36 @@ pub unread_on : (model : Source) (old s t : State) → IsUnread model old s → 
 unread_on (file name) old s t unread same = tt
 unread_on (generated shop) old s t unread same = same ∙ unread
 
-begun_model : (m : Data) (log : Bytes) (s t : State) → BeginsSearch m log s t → t.model ≡ s.model
-begun_model m log s t (inl same) = ap (λ (x : State). x.model) same
-begun_model m log s t (inr begun) = ap (λ (x : State). x.model) begun.1
+begun_model : (m : Data) (log : Bytes) (limit : ℕ) (s t : State) → BeginsSearch m log limit s t → t.model ≡ s.model
+begun_model m log limit s t (inl same) = ap (λ (x : State). x.model) same
+begun_model m log limit s t (inr begun) = ap (λ (x : State). x.model) begun.1
 
 -- the search has begun behind the reading of the model
-pub begun_only : (m : Data) (log : Bytes) (old s t : State) → OnlyReads old s → BeginsSearch m log s t → t ≡ record old { model = t.model; out = t.out; logged = t.logged; created = t.created; logs = t.logs; faults = t.faults }
-begun_only m log old s t reads (inl same) =
+pub begun_only : (m : Data) (log : Bytes) (limit : ℕ) (old s t : State) → OnlyReads old s → BeginsSearch m log limit s t → t ≡ record old { model = t.model; out = t.out; logged = t.logged; created = t.created; logs = t.logs; faults = t.faults }
+begun_only m log limit old s t reads (inl same) =
     let is : t ≡ record old { model = s.model; faults = t.faults } = same ∙ ap (λ (x : State). record x { faults = t.faults }) reads.only in
     subst (λ x. x ≡ record old { model = x.model; out = x.out; logged = x.logged; created = x.created; logs = x.logs; faults = x.faults }) (sym is) refl
-begun_only m log old s t reads (inr begun) =
+begun_only m log limit old s t reads (inr begun) =
     let is : t ≡ record old { model = s.model; logged = t.logged; created = true; logs = with_log log old.logs; faults = t.faults } = begun.1 ∙ ap (λ (x : State). record x { logged = t.logged; created = true; logs = with_log log x.logs; faults = t.faults }) reads.only in
     subst (λ x. x ≡ record old { model = x.model; out = x.out; logged = x.logged; created = x.created; logs = x.logs; faults = x.faults }) (sym is) refl
 
-pub begun_out : (m : Data) (log : Bytes) (old s t : State) → OnlyReads old s → BeginsSearch m log s t → t.out ≡ old.out
-begun_out m log old s t reads (inl same) = ap (λ (x : State). x.out) same ∙ ap (λ (x : State). x.out) reads.only
-begun_out m log old s t reads (inr begun) = ap (λ (x : State). x.out) begun.1 ∙ ap (λ (x : State). x.out) reads.only
+pub begun_out : (m : Data) (log : Bytes) (limit : ℕ) (old s t : State) → OnlyReads old s → BeginsSearch m log limit s t → t.out ≡ old.out
+begun_out m log limit old s t reads (inl same) = ap (λ (x : State). x.out) same ∙ ap (λ (x : State). x.out) reads.only
+begun_out m log limit old s t reads (inr begun) = ap (λ (x : State). x.out) begun.1 ∙ ap (λ (x : State). x.out) reads.only
 
-pub begun_cut : (m : Data) (limit : ℕ) (model : Source) (log : Bytes) (old s t : State) → OnlyReads old s → SourceDeserves old model (Accepted m) → BeginsSearch m log s t → CutShort model log limit old t
+pub begun_cut : (m : Data) (limit : ℕ) (model : Source) (log : Bytes) (old s t : State) → OnlyReads old s → SourceDeserves old model (Accepted m) → BeginsSearch m log limit s t → CutShort model log limit old t
 begun_cut m limit model log old s t reads deserved (inl same) =
     let is : t ≡ record old { model = s.model; faults = t.faults } = same ∙ ap (λ (x : State). record x { faults = t.faults }) reads.only in
     subst (CutShort model log limit old) (sym is) (before_log refl)
 begun_cut m limit model log old s t reads deserved (inr begun) =
-    in_log m deserved (ap (λ (x : State). x.created) begun.1, ap (λ (x : State). x.logs) begun.1 ∙ ap (λ (x : State). with_log log x.logs) reads.only) (subst (λ b. HoldsBegunLog m b t.logged) (ap (λ (x : State). x.logged) reads.only) begun.0)
-    (begun_out m log old s t reads (inr begun))
+    in_log m deserved (ap (λ (x : State). x.created) begun.1, ap (λ (x : State). x.logs) begun.1 ∙ ap (λ (x : State). with_log log x.logs) reads.only) (subst (λ b. HoldsBegunLog m limit b t.logged) (ap (λ (x : State). x.logged) reads.only) begun.0)
+    (begun_out m log limit old s t reads (inr begun))
 
 -- the search came to no answer
 pub stopped : (m : Data) (limit : ℕ) (model : Source) (log : Bytes) (e : Stop) (old s t : State) → OnlyReads old s → IsUnread model old s → s.faults ≡ old.faults → SourceDeserves old model (Accepted m) → Searches m log limit (Err e) s t → TriesSolve model log limit (Err e) old t
 stopped m limit model log (stop.Given given.Fault) old s t reads unread kept deserved says = record {
-  only = begun_only m log old s t reads says.3;
-  unread = unread_on model old s t unread (begun_model m log s t says.3);
+  only = begun_only m log limit old s t reads says.3;
+  unread = unread_on model old s t unread (begun_model m log limit s t says.3);
   later = omega (arith, reads.later, says.2);
   tried = (
     subst (λ n. Rose n t.faults) kept says.0,
@@ -68,10 +72,10 @@ stopped m limit model log (stop.Given given.Fault) old s t reads unread kept des
   );
 }
 stopped m limit model log (stop.Given given.NoMemory) old s t reads unread kept deserved says = record {
-  only = begun_only m log old s t reads says.1;
-  unread = unread_on model old s t unread (begun_model m log s t says.1);
+  only = begun_only m log limit old s t reads says.1;
+  unread = unread_on model old s t unread (begun_model m log limit s t says.1);
   later = omega (arith, reads.later, says.0);
-  tried = (begun_out m log old s t reads says.1, begun_cut m limit model log old s t reads deserved says.1);
+  tried = (begun_out m log limit old s t reads says.1, begun_cut m limit model log old s t reads deserved says.1);
 }
 stopped m limit model log (stop.Given (given.ModelRefused r)) old s t reads unread kept deserved says = absurd says
 stopped m limit model log (stop.LogRefused k) old s t reads unread kept deserved says = absurd says
@@ -92,6 +96,13 @@ answered m log limit solved old s t reads says = says.2 ∙ ap (λ (x : State). 
 answered_log : (m : Data) (log : Bytes) (limit : ℕ) (solved : Solved) (old s t : State) → OnlyReads old s → Searches m log limit (Ok solved) s t → LogPromise m limit solved old.logged t.logged
 answered_log m log limit solved old s t reads says = subst (λ b. LogPromise m limit solved b t.logged) (ap (λ (x : State). x.logged) reads.only) says.0
 
+-- an answer that isn't unfinished doesn't end so
+never_ends : (a : Answer) → is_unfinished a ≡ false → ending_of a ≡ end.Unfinished → ⊥
+never_ends (Optimal v b) h is = cc
+never_ends (Feasible b) h is = cc
+never_ends Infeasible h is = cc
+never_ends (Unfinished found) h is = cc
+
 -- it was printed
 pub printed : (m : Data) (limit : ℕ) (solved : Solved) (model : Source) (log : Bytes) (ended : Ended) (u : Unit {0}) (old s t w : State) → OnlyReads old s → IsUnread model old s → s.faults ≡ old.faults → SourceDeserves old model (Accepted m) → ((x : State) → x.model ≡ s.model → ReadsSource model old x) → Searches m log limit (Ok solved) s t
     → Writes Out (told_text model m solved) (Ok u) t w → ended ≡ ending_of solved.answer → is_success ended ≡ true → TriesSolve model log limit (Ok ended) old w
@@ -107,7 +118,7 @@ printed m limit solved model log ended u old s t w reads unread kept deserved fa
       tried = (
         kept,
         success,
-        record { m = m; solved = solved; deserved = deserved; answer = says.1; ending = ending; printed = refl; created = (refl, refl); written = answered_log m log limit solved old s t reads says },
+        record { m = m; solved = solved; deserved = deserved; answer = says.1; ending = ending; enough = λ h is. never_ends solved.answer (says.0.enough h) (sym ending ∙ is); printed = refl; created = (refl, refl); written = answered_log m log limit solved old s t reads says },
         far _ refl,
       );
     })

@@ -2,6 +2,7 @@
 use Rattle.std.specs.Prelude.{◌≡◌, ◌↔◌, ◌⊎◌, ℕ, ◌+◌, ◌≤◌, true, false, List, [], Option, Some, None, option_map, ⊤}
 use Rattle.sched_base.specs.State.{State, with_log}
 use Rattle.sched_base.specs.Calls.{Rose, appended, ReadsAtMost, AppendedFrom}
+use Rattle.region.specs.Points.{budget_of}
 use Rattle.sched_model.specs.declared.types.Answer.{Answer as Printed}
 use Rattle.sched_model.specs.declared.types.Answer.TheVariants as answer
 use Rattle.sched_model.specs.declared.types.Solved.{Solved}
@@ -14,7 +15,7 @@ use Rattle.cpo_elab.specs.Answers.{Answer}
 use Rattle.cpo_elab.specs.Answers.Answer.{Accepted, Refused}
 use Rattle.cpo_elab.specs.Deserves.{Deserves}
 use Rattle.sched_model.specs.declared.types.Verdict.{Verdict}
-use Rattle.kernel.specs.Steps.{LogState, opening}
+use Rattle.kernel.specs.Steps.{LogState}
 use Rattle.kernel.specs.Promises.{Means}
 use Rattle.command_line.specs.declared.shop.Shop.{Shop}
 use Rattle.command_line.specs.Commands.{Command, Solve, Check, Verify, Show, Gen, Trial, command_of}
@@ -22,10 +23,10 @@ use Rattle.modelgen.specs.Generated.{generated_text}
 use Rattle.textline.specs.Lines.{Bytes}
 use Rattle.sched_text.specs.Answers.{answer_text, summary_text, check_text}
 use Rattle.sched_text.specs.Canonical.{canonical_text}
-use Rattle.logtext.specs.Logs.{PlainLine, IsPlainLog, plain_log}
+use Rattle.logtext.specs.Logs.{PlainLine, plain_log}
 use Rattle.logtext.specs.Judgement.{log_limit, log_bytes}
 use Rattle.checker.specs.Judgement.{IsAccepted, IsRefused, IsTooLong}
-use Rattle.solver.specs.Splits.{SplitFrom}
+use Rattle.solver.specs.Written.{IsWritten}
 use Rattle.sched_model.specs.Answers.{verdict_in}
 use Rattle.solver.specs.Answers.{IsAnswer, shown_in, is_unfinished}
 use Rattle.given_files.specs.declared.stop.ScheduleRefusal.{ScheduleRefusal}
@@ -129,21 +130,20 @@ CreatesLog log old new = (new.created ≡ true) × (new.logs ≡ with_log log ol
 pub record LogPromise (m : Data) (limit : ℕ) (solved : Solved) (before after : Option Bytes) : Type 0 where
   pub lines : List PlainLine
   pub state : LogState
-  -- the lines step one after another from the opening state of the model to this one
-  pub steps : IsPlainLog m lines state
-  -- each of them that splits on a bound cuts at the middle of what is open of it, and each that splits comes where nothing
-  -- is left to derive, or where as many lines derived at its node as may
-  pub splits : SplitFrom m 0 (opening m) lines
+  -- a search may have written these lines by this limit: they step one after another from the opening state of the model to
+  -- this one, no more nodes were opened than the limit, no node has more lines that derive than may, each split on a bound cuts
+  -- at the middle of what is open of it, and comes where nothing is left to derive, or where as many lines derived as may
+  pub written : IsWritten m limit lines state
   -- the log was created empty, and its bytes are exactly the text of these lines
-  pub written : after ≡ option_map (λ bytes. plain_log lines) before
+  pub bytes : after ≡ option_map (λ bytes. plain_log lines) before
   -- the judgement of those bytes is that they are accepted, with the printed verdict and the printed count of nodes
   pub accepted : IsAccepted m (plain_log lines) (verdict_in solved.answer) solved.nodes
   -- the printed schedule is that of the last solution in the log
   pub schedule : last_schedule lines ≡ shown_in solved.answer
-  -- no more nodes were opened than the limit; unfinished comes only once exactly that many were,
-  -- where no region is current and one waits
-  pub few : solved.nodes ≤ limit
+  -- unfinished comes only once exactly as many nodes were opened as the limit says, where no region is current and one waits
   pub limited : is_unfinished solved.answer ≡ true → (solved.nodes ≡ limit) × (state.current ≡ None) × (is_empty state.waiting ≡ false)
+  -- and it never comes where the limit is the budget or more: twice the number of points of the root
+  pub enough : budget_of m ≤ limit → is_unfinished solved.answer ≡ false
 
 abbrev pub ending_of : Printed → Ended
 ending_of (answer.Optimal v a) = end.Done
@@ -162,17 +162,18 @@ pub record AnswerPromise (model : Source) (log : Bytes) (limit : ℕ) (result : 
   pub answer : IsAnswer m solved.answer
   -- the ending is that of the answer, whose whole text was printed
   pub ending : result ≡ ending_of solved.answer
+  -- with the budget or more as the limit the run is done, or there is no solution
+  pub enough : budget_of m ≤ limit → result ≡ end.Unfinished → ⊥
   pub printed : new.out ≡ appended (told_text model m solved) old.out
   -- the whole log was written under the name that the words give, and it is accepted
   pub created : CreatesLog log old new
   pub written : LogPromise m limit solved old.logged new.logged
 
--- The log holds a front part of the text of a log of the model, whose lines all step, and which splits so too.
-pub record HoldsBegunLog (m : Data) (before after : Option Bytes) : Type 0 where
+-- The log holds a front part of the text of lines that a search may have written by this limit.
+pub record HoldsBegunLog (m : Data) (limit : ℕ) (before after : Option Bytes) : Type 0 where
   pub lines : List PlainLine
   pub state : LogState
-  pub steps : IsPlainLog m lines state
-  pub splits : SplitFrom m 0 (opening m) lines
+  pub written : IsWritten m limit lines state
   pub part : AppendedFrom (plain_log lines) (option_map (λ bytes. []) before) after
 
 -- How far it came where it was cut short by a fault or for want of memory.
@@ -180,7 +181,7 @@ pub data CutShort (model : Source) (log : Bytes) (limit : ℕ) (old new : State)
   -- no log was created, and nothing was printed
   before_log : new ≡ record old { model = new.model; err = new.err; faults = new.faults } → CutShort model log limit old new
   -- the log of the model that the text deserves was begun, and nothing was printed
-  in_log : (m : Data) → SourceDeserves old model (Accepted m) → CreatesLog log old new → HoldsBegunLog m old.logged new.logged → new.out ≡ old.out → CutShort model log limit old new
+  in_log : (m : Data) → SourceDeserves old model (Accepted m) → CreatesLog log old new → HoldsBegunLog m limit old.logged new.logged → new.out ≡ old.out → CutShort model log limit old new
   -- the log is whole, and a front part of the answer's text was printed
   in_answer : (m : Data) (solved : Solved) → SourceDeserves old model (Accepted m) → IsAnswer m solved.answer → CreatesLog log old new → LogPromise m limit solved old.logged new.logged
       → AppendedFrom (told_text model m solved) old.out new.out → CutShort model log limit old new

@@ -4,13 +4,13 @@ use Rattle.sched_model.specs.Data.{Data}
 use Rattle.region.specs.declared.types.Guess.{Guess}
 use Rattle.region.specs.declared.types.Guess.TheVariants as guess
 use Rattle.region.specs.Cells.{Region, bounds_of}
-use Rattle.kernel.specs.NoExtra.{refutes_none}
 use Rattle.kernel.specs.Refuting.{refutes_with}
 use Rattle.kernel.specs.Steps.{LogState, Outcome, step}
+use Rattle.logtext.specs.Extra.{log_refutes}
 use Rattle.logtext.specs.Logs.{PlainLine}
 
 abbrev pub plain_step : Data → PlainLine → LogState → Outcome
-plain_step m line s = step (refutes_with refutes_none) m line s
+plain_step m line s = step (refutes_with log_refutes) m line s
 
 -- t is half of lo + hi, rounded down
 pub record IsMiddle (lo hi t : ℤ) : Type 0 where

@@ -1,5 +1,5 @@
 pub mod Answers
 pub mod Cuts
-pub mod Splits
+pub mod Written
 pub mod laws
 pub mod code

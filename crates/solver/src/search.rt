@@ -1,4 +1,4 @@
-ghost use Rattle.std.specs.Prelude.{◌≡◌, Bool, Some, ◌<◌, ◌≤◌, ◌+◌, ◌^◌, ◌∷◌, true, false, ℤ, Option, Ok, IsTrue, IfOk, OnOk, IfSome, IfNone};
+ghost use Rattle.std.specs.Prelude.{◌≡◌, ℕ, Bool, Some, ◌<◌, ◌≤◌, ◌+◌, ◌^◌, ◌∷◌, true, false, ℤ, Option, Ok, IsTrue, IfOk, OnOk, IfSome, IfNone};
 ghost use Rattle.sched_model.specs.Data.{Data};
 ghost use Rattle.sched_model.specs.Domain.{is_in_domain};
 ghost use Rattle.sched_model.specs.Valid.{IsValid};
@@ -144,8 +144,8 @@ impl<P: Propagator> Search<P> {
         ensures stop { IfOk result (Ends (AreQuiet P.Propagator model.now self.new.region.region (best_of self.new.found)) model.now (best_of self.new.found) self.new.region.region) }
         ensures settled { IfOk result (λ stop. IsTrue (is_settled self.new.region.region) → QuietUnlessFailed (AreQuiet P.Propagator model.now self.new.region.region (best_of self.new.found)) stop) }
         ensures found { self.new.found ≡ self.old.found }
-        ensures derived { (from : L) → IsLogged L.Lines model.now from lines.old 0 (state_in true self.old)
-            → Derived P.Propagator L.Lines model.now from lines.new self.new result }
+        ensures derived { (from : L) (limit : ℕ) → self.old.nodes < limit → IsLogged L.Lines model.now limit from lines.old 0 (state_in true self.old)
+            → Derived P.Propagator L.Lines model.now limit from lines.new self.new result }
     {
         // The model is valid by its type.
         let _ = model.intervals();
@@ -424,7 +424,8 @@ impl<P: Propagator> Search<P> {
         ensures ready { IfOk result (λ more. IsTrue more → IsReady P.Propagator model.now self.new) }
         ensures lines { OnOk result (L.ready lines.new) }
         ensures nodes { OnOk result (self.new.nodes ≡ self.old.nodes + 1) }
-        ensures logged { (from : L) → IsLogged L.Lines model.now from lines.old 0 (state_in true self.old) → GoesOn L.Lines model.now from lines.new self.new result }
+        ensures logged { (from : L) (limit : ℕ) → self.old.nodes < limit → IsLogged L.Lines model.now limit from lines.old 0 (state_in true self.old)
+            → GoesOn L.Lines model.now limit from lines.new self.new result }
     {
         // The model is valid by its type.
         let _ = model.intervals();
@@ -452,7 +453,7 @@ impl<P: Propagator> Search<P> {
         ensures lines { OnOk result (L.ready lines.new) }
         ensures few { OnOk result (self.new.nodes ≤ nodes) }
         ensures limited { IfOk result (λ more. IsTrue more → self.new.nodes ≡ nodes) }
-        ensures logged { (from : L) → IsLogged L.Lines model.now from lines.old 0 (state_in true self.old) → GoesOn L.Lines model.now from lines.new self.new result }
+        ensures logged { (from : L) → IsLogged L.Lines model.now nodes from lines.old 0 (state_in true self.old) → GoesOn L.Lines model.now nodes from lines.new self.new result }
     {
         for _n in 0..nodes {
             if !self.visit(alloc, model, lines)? {

@@ -12,8 +12,8 @@ use crate::log_lines::LogLines;
 use crate::preparing::prepare;
 use crate::state::Search;
 use engine::{Engine, Propagator};
-use kernel::{NoExtra, loses_nothing};
-use logtext::LogWriter;
+use kernel::loses_nothing;
+use logtext::{LogExtra, LogWriter};
 use propagators::{covers, start};
 use sched_base::Desk;
 use sched_model::{Model, Solved};
@@ -44,7 +44,7 @@ fn solve_with<P: Propagator, D: Desk>(
     let LogLines { mut writer, desk } = lines;
     let more = ended?;
     writer.write_end(desk)?;
-    loses_nothing::<NoExtra>();
+    loses_nothing::<LogExtra>();
     let Search { found, nodes, .. } = search;
     Ok(Solved {
         nodes,

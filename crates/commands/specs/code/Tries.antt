@@ -32,13 +32,13 @@ use Rattle.commands.specs.code.Stops.{ending_of_stop}
 -- Searching with a log.
 
 -- no log was created, or one was begun
-abbrev pub BeginsSearch : Data → Bytes → State → State → Type 0
-BeginsSearch m log old new = (new ≡ with_faults new.faults old) ⊎ (HoldsBegunLog m old.logged new.logged × (new ≡ record old { logged = new.logged; created = true; logs = with_log log old.logs; faults = new.faults }))
+abbrev pub BeginsSearch : Data → Bytes → ℕ → State → State → Type 0
+BeginsSearch m log limit old new = (new ≡ with_faults new.faults old) ⊎ (HoldsBegunLog m limit old.logged new.logged × (new ≡ record old { logged = new.logged; created = true; logs = with_log log old.logs; faults = new.faults }))
 
 abbrev pub Searches : Data → Bytes → ℕ → Result Solved Stop → State → State → Type 0
 Searches m log limit (Ok solved) old new = LogPromise m limit solved old.logged new.logged × IsAnswer m solved.answer × (new ≡ record old { logged = new.logged; created = true; logs = with_log log old.logs })
-Searches m log limit (Err (stop.Given given.Fault)) old new = Rose old.faults new.faults × (old.calm ≡ true → ⊥) × (old.faults ≤ new.faults) × BeginsSearch m log old new
-Searches m log limit (Err (stop.Given given.NoMemory)) old new = (old.faults ≤ new.faults) × BeginsSearch m log old new
+Searches m log limit (Err (stop.Given given.Fault)) old new = Rose old.faults new.faults × (old.calm ≡ true → ⊥) × (old.faults ≤ new.faults) × BeginsSearch m log limit old new
+Searches m log limit (Err (stop.Given given.NoMemory)) old new = (old.faults ≤ new.faults) × BeginsSearch m log limit old new
 Searches m log limit (Err _) old new = ⊥
 
 -- the model of a job shop, or why there is none

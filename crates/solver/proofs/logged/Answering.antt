@@ -1,6 +1,6 @@
 -- The answer says what the log has shown.
-use Rattle.std.proofs.Common.{◌≡◌, ℕ, ℤ, Bool, true, false, List, [], ◌∷◌, Option, Some, None, refl, sym, ap, subst, ◌∙◌}
-use Rattle.std.specs.Prelude.{option_map, option_to_list, is_some, IfSome, ◌++◌, ◌≤◌, not, if◌then◌else◌}
+use Rattle.std.proofs.Common.{◌≡◌, ℕ, ℤ, Bool, true, false, List, [], ◌∷◌, Option, Some, None, refl, sym, ap, subst, ◌∙◌, arith}
+use Rattle.std.specs.Prelude.{option_map, option_to_list, is_some, IfSome, ◌++◌, ◌≤◌, ◌<◌, not, if◌then◌else◌}
 use Rattle.sched_base.specs.State.{State}
 use Rattle.sched_base.specs.Calls.{appended}
 use Rattle.sched_model.specs.declared.types.Assignment.{Assignment}
@@ -9,6 +9,7 @@ use Rattle.sched_model.specs.declared.types.Solved.{Solved}
 use Rattle.sched_model.specs.Data.{Data}
 use Rattle.sched_model.specs.Words.{is_empty}
 use Rattle.region.specs.Cells.{Region}
+use Rattle.region.specs.Points.{budget_of}
 use Rattle.kernel.specs.declared.types.Found.{Found}
 use Rattle.sched_model.specs.declared.types.Verdict.TheVariants.{Unclosed}
 use Rattle.kernel.specs.Promises.{IsFound, Means, IfFound}
@@ -19,7 +20,8 @@ use Rattle.solver.specs.Answers.{IsAnswer, shown_in, is_unfinished, IfFound as I
 use Rattle.solver.specs.code.Solving.{Solves}
 use Rattle.engine.specs.declared.propagator.Propagator.{Ghosts}
 use Rattle.solver.specs.declared.state.Search.{Search}
-use Rattle.solver.specs.code.Searching.{IsSearchLog, IsReady, HasValue, state_in, valued, best_answer, closed_answer, answer_from}
+use Rattle.solver.specs.Written.{IsWritten}
+use Rattle.solver.specs.code.Searching.{IsReady, HasValue, state_in, valued, best_answer, closed_answer, answer_from}
 
 -- what has no value has no objective
 no_objective : (o : Option Objective) (value : Objective → ℤ) → option_map value o ≡ None → o ≡ None
@@ -87,7 +89,6 @@ pub record Ended (limit : ℕ) (more : Bool) (s : LogState) : Type 0 where
   pub closed : s.current ≡ None
   pub none : more ≡ false → s.waiting ≡ []
   pub some : more ≡ true → s.waiting ≡ [] → ⊥
-  pub few : s.nodes ≤ limit
   pub limited : more ≡ true → s.nodes ≡ limit
   pub valued : more ≡ true → (f : Found) → s.found ≡ Some f → f.value ≡ None → ⊥
 
@@ -133,25 +134,38 @@ has_value m (Some k) f has is none = let same : k ≡ f = cc in no_value (ap (λ
     no_value h some = cc
 
 -- of what a search holds
-pub ended_is : {P : Type 0} (p : Ghosts P) (m : Data) (limit : ℕ) (more : Bool) (s : Search P) → s.nodes ≤ limit → (more ≡ true → s.nodes ≡ limit) → (more ≡ true → IsReady p m s) → Ended limit more (state_in more s)
-ended_is p m limit false s few limited ready = record { closed = refl; none = λ h. refl; some = λ h k. cc; few = few; limited = limited; valued = λ h f is none. cc }
-ended_is p m limit true s few limited ready = record {
+pub ended_is : {P : Type 0} (p : Ghosts P) (m : Data) (limit : ℕ) (more : Bool) (s : Search P) → (more ≡ true → s.nodes ≡ limit) → (more ≡ true → IsReady p m s) → Ended limit more (state_in more s)
+ended_is p m limit false s limited ready = record { closed = refl; none = λ h. refl; some = λ h k. cc; limited = limited; valued = λ h f is none. cc }
+ended_is p m limit true s limited ready = record {
   closed = refl;
   none = λ h. cc;
   some = λ h k. cc;
-  few = few;
   limited = limited;
   valued = λ h f is none. has_value m s.found f (ready refl).holding.valued is none;
 }
 
+-- a limit of the budget or more is enough
+never_limited : (unfinished : Bool) (nodes limit budget : ℕ) → nodes < budget → (unfinished ≡ true → nodes ≡ limit) → budget ≤ limit → unfinished ≡ false
+never_limited true nodes limit budget few limited enough = absurd (omega (arith, few, limited refl, enough))
+never_limited false nodes limit budget few limited enough = refl
+
 -- the whole log was written
 pub solved_with : (m : Data) (limit : ℕ) (more : Bool) (s : LogState) (lines : List PlainLine) (solved : Solved) (old new : State) → Ended limit more s → IfFound m s.found → Means m (verdict_of s)
-    → solved.nodes ≡ s.nodes → solved.answer ≡ answer_from more s.found → IsSearchLog m lines s → new ≡ record old { logged = appended (plain_log lines) old.logged } → Solves m limit solved old new
-solved_with m limit more s lines solved old new ended found means nodes same log written =
+    → s.nodes < budget_of m → solved.nodes ≡ s.nodes → solved.answer ≡ answer_from more s.found → IsWritten m limit lines s → new ≡ record old { logged = appended (plain_log lines) old.logged } → Solves m limit solved old new
+solved_with m limit more s lines solved old new ended found means below nodes same written logged =
     let says = shows m limit more s solved ended found means same in
     record {
       lines = lines;
       state = s;
-      is = record { log = log.log; splits = log.splits; nodes = nodes; few = ended.few; closed = ended.closed; verdict = says.verdict; shown = says.shown; limited = says.limited; answer = says.answer };
-      logged = written;
+      is = record {
+        written = written;
+        nodes = nodes;
+        closed = ended.closed;
+        verdict = says.verdict;
+        shown = says.shown;
+        limited = says.limited;
+        enough = never_limited (is_unfinished solved.answer) s.nodes limit (budget_of m) below says.limited;
+        answer = says.answer;
+      };
+      logged = logged;
     }

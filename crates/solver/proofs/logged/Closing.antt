@@ -23,7 +23,7 @@ use Rattle.kernel.specs.laws.Outcomes.{same_ok}
 use Rattle.logtext.specs.Logs.{PlainLine}
 use Rattle.engine.specs.Plain.{refutes_plain}
 use Rattle.solver.specs.Cuts.{plain_step}
-use Rattle.solver.specs.Splits.{SplitsWell, IsWellSplit, SplitFrom, derived_after, derived_in}
+use Rattle.solver.specs.Written.{WellPutFrom, derived_after, derived_in}
 use Rattle.solver.specs.code.Leaves.{settled_assignment, Solves}
 use Rattle.solver.specs.code.Searching.{HasValue}
 
@@ -32,10 +32,10 @@ pub steps_on : {W : Type 0} {refutes : Refuting (Witness W)} {m : Data} {s t u :
 steps_on done rest = rest
 steps_on (more first others) rest = more first (steps_on others rest)
 
-pub splits_on : (m : Data) (n : ℕ) {s t : LogState} {xs : List PlainLine} (ys : List PlainLine) → Steps refutes_plain m s xs t → SplitFrom m n s xs → SplitFrom m (derived_in n xs) t ys → SplitFrom m n s (xs ++ ys)
-splits_on m n ys done first rest = rest
-splits_on m n ys (more {s} {t} {u} {line} {lines} step_is others) first rest =
-    (first.0, λ v is. subst (λ (w : LogState). SplitFrom m (derived_after line n) w (lines ++ ys)) (same_ok t v (sym step_is ∙ is)) (splits_on m (derived_after line n) ys others (first.1 t step_is) rest))
+pub well_on : (m : Data) (n : ℕ) {s t : LogState} {xs : List PlainLine} (ys : List PlainLine) → Steps refutes_plain m s xs t → WellPutFrom m n s xs → WellPutFrom m (derived_in n xs) t ys → WellPutFrom m n s (xs ++ ys)
+well_on m n ys done first rest = rest
+well_on m n ys (more {s} {t} {u} {line} {lines} step_is others) first rest =
+    (first.0, λ v is. subst (λ (w : LogState). WellPutFrom m (derived_after line n) w (lines ++ ys)) (same_ok t v (sym step_is ∙ is)) (well_on m (derived_after line n) ys others (first.1 t step_is) rest))
 
 pub derived_on : (n : ℕ) (xs ys : List PlainLine) → derived_in n (xs ++ ys) ≡ derived_in (derived_in n xs) ys
 derived_on n [] ys = refl
@@ -52,16 +52,6 @@ node_first s node is = first_taken s.current s.waiting s.nodes s.found node is
 
 pub node_steps : (m : Data) (s : LogState) (node : Node) (line : PlainLine) → node_of s ≡ Some node → plain_step m line s ≡ step_at refutes_plain m node line
 node_steps m s node line is = ap (λ o. step_on refutes_plain m o line) is
-
--- the line that ends a node is such a split as it should be
-pub well_split : (m : Data) (s : LogState) (node : Node) (n : ℕ) (line : PlainLine) → node_of s ≡ Some node → ((g : Guess) → line ≡ Split g → SplitsWell m (best_of node.found) n node.region g)
-    → IsWellSplit m (best_of s.found) n line (first_in s.current s.waiting)
-well_split m s node n (Split g) is well =
-    let first = node_first s node is in
-    subst (λ o. IsWellSplit m (best_of s.found) n (Split g) o) (sym first.0) (subst (λ f. SplitsWell m (best_of f) n node.region g) (sym first.1) (well g refl))
-well_split m s node n (Derive g w) is well = tt
-well_split m s node n (Fail w) is well = tt
-well_split m s node n (Sol a) is well = tt
 
 -- what each line steps to
 unless_true : (b : Bool) (f : StepFault) (t : LogState) → b ≡ true → unless b f (Ok t) ≡ Ok t

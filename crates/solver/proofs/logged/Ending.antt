@@ -1,4 +1,4 @@
--- The line that ends a node: that a log may hold it, that it is such a split as it should be, and what is left then.
+-- The line that ends a node: that a log may hold it, that it is well put, and what is left then.
 use Rattle.std.proofs.Common.{◌≡◌, ℕ, ℤ, Bool, true, false, ◌∷◌, Option, Some, None, Ok, ◌⊎◌, inl, inr, refl, sym, subst, ◌∙◌, true≢false}
 use Rattle.std.specs.Prelude.{IfSome}
 use Rattle.sched_model.specs.declared.types.Assignment.{Assignment}
@@ -17,7 +17,7 @@ use Rattle.engine.specs.Runs.{Ends, Counts, cap_at}
 use Rattle.propagators.specs.Quiet.{IsQuietRegion}
 use Rattle.solver.specs.code.Leaves.{settled_assignment}
 use Rattle.solver.specs.laws.Quiet.{quiet_solves}
-use Rattle.solver.specs.Splits.{IsWellSplit, derived_after}
+use Rattle.solver.specs.Written.{IsWellPut, derived_after}
 use Rattle.kernel.specs.Steps.{LogState, Node, step_at, best_of, closed, left_after, found_in}
 use Rattle.region.specs.Guesses.{with_guess, with_fact}
 use Rattle.solver.specs.code.Searching.{Closes, IsSpent, HasValue, QuietUnlessFailed, is_failed, is_capped}
@@ -36,7 +36,7 @@ closes_ends m r best failed (Split g) n h = refl
 closes_ends m r best failed (Sol a) n h = refl
 closes_ends m r best failed (Derive g w) n h = absurd h
 
-pub closes_well : (m : Data) (r : Region) (best : Option ℤ) (failed : Bool) (line : PlainLine) (n : ℕ) → Closes m r best failed line → (failed ≡ false → IsQuietRegion m r best ⊎ (n ≡ cap_at r)) → IsWellSplit m best n line (Some r)
+pub closes_well : (m : Data) (r : Region) (best : Option ℤ) (failed : Bool) (line : PlainLine) (n : ℕ) → Closes m r best failed line → (failed ≡ false → IsQuietRegion m r best ⊎ (n ≡ cap_at r)) → IsWellPut m best n line (Some r)
 closes_well m r best failed (Fail w) n h spent = tt
 closes_well m r best failed (Split g) n h spent = record { cuts = h.0.cuts_it; spent = spent h.1 }
 closes_well m r best failed (Sol a) n h spent = tt
@@ -73,8 +73,8 @@ pub settled_closes : (m : Data) (r : Region) (best : Option ℤ) (a : Assignment
 settled_closes m r best a valid of settled quiet is = (settled, is, quiet_solves m r best valid of settled quiet)
 
 -- the line steps
-pub closes_step : (m : Data) (node : Node) (failed : Bool) (line : PlainLine) → IfSome node.found (HasValue m) → Closes m node.region (best_of node.found) failed line → (t : LogState) × (step_at refutes_plain m node line ≡ Ok t)
-closes_step m node failed (Fail w) valued h = (closed node node.waiting node.found, fail_steps m node w h)
-closes_step m node failed (Split g) valued h = (closed node (with_guess g node.region ∷ with_fact g node.region ∷ node.waiting) node.found, split_steps m node g h.0.splits_it)
-closes_step m node failed (Sol a) valued h = (closed node (left_after m node.waiting) (Some (found_in m a)), sol_steps m node a h.0 valued h.1 h.2)
+pub closes_step : (m : Data) (node : Node) (failed : Bool) (line : PlainLine) → IfSome node.found (HasValue m) → Closes m node.region (best_of node.found) failed line → (t : LogState) × (step_at refutes_plain m node line ≡ Ok t) × (t.nodes ≡ node.nodes)
+closes_step m node failed (Fail w) valued h = (closed node node.waiting node.found, fail_steps m node w h, refl)
+closes_step m node failed (Split g) valued h = (closed node (with_guess g node.region ∷ with_fact g node.region ∷ node.waiting) node.found, split_steps m node g h.0.splits_it, refl)
+closes_step m node failed (Sol a) valued h = (closed node (left_after m node.waiting) (Some (found_in m a)), sol_steps m node a h.0 valued h.1 h.2, refl)
 closes_step m node failed (Derive g w) valued h = absurd h

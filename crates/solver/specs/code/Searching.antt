@@ -18,8 +18,8 @@ use Rattle.region.specs.code.Held.{IsHeldOf}
 use Rattle.kernel.specs.declared.types.Found.{Found}
 use Rattle.kernel.specs.declared.types.Line.TheVariants.{Derive, Fail, Split, Sol}
 use Rattle.kernel.specs.code.Pending.{ArePending, after_saved}
-use Rattle.kernel.specs.Steps.{LogState, Node, opening, best_of, node_of}
-use Rattle.logtext.specs.Logs.{PlainLine, IsPlainLog}
+use Rattle.kernel.specs.Steps.{LogState, Node, best_of, node_of}
+use Rattle.logtext.specs.Logs.{PlainLine}
 use Rattle.engine.specs.declared.lines.Lines.{Ghosts as LineGhosts}
 use Rattle.engine.specs.declared.propagator.Propagator.{Ghosts}
 use Rattle.engine.specs.declared.stops.Stop.{Stop}
@@ -32,7 +32,7 @@ use Rattle.solver.specs.declared.fault.SolveFault.TheVariants.{Fault, NoMemory}
 use Rattle.solver.specs.declared.state.Search.{Search}
 use Rattle.solver.specs.code.Leaves.{settled_assignment, Solves}
 use Rattle.solver.specs.Cuts.{IsCut}
-use Rattle.solver.specs.Splits.{SplitFrom, derived_in}
+use Rattle.solver.specs.Written.{IsWritten, derived_in}
 use Rattle.solver.specs.code.OpenIntervals.{HoldsOpen}
 use Rattle.solver.specs.code.Marks.{AreMarked}
 
@@ -148,34 +148,29 @@ Closes m r best failed (Derive g w) = ⊥
 
 -- What is written.
 
--- a log whose splits are such as they should be
-pub record IsSearchLog (m : Data) (lines : List PlainLine) (s : LogState) : Type 0 where
-  pub log : IsPlainLog m lines s
-  pub splits : SplitFrom m 0 (opening m) lines
-
 -- from the first place of lines the lines of a log were put that lead to this state, at whose node n derived
-pub record IsLogged {L : Type 0} (l : LineGhosts L) (m : Data) (from now : L) (n : ℕ) (s : LogState) : Type 0 where
+pub record IsLogged {L : Type 0} (l : LineGhosts L) (m : Data) (limit : ℕ) (from now : L) (n : ℕ) (s : LogState) : Type 0 where
   pub lines : List PlainLine
   pub put : l.puts from lines now
-  pub log : IsSearchLog m lines s
+  pub written : IsWritten m limit lines s
   pub derived : derived_in 0 lines ≡ n
 
 -- the lines of a log were put, or the put of the last of them failed
-pub data Stopped {L : Type 0} (l : LineGhosts L) (m : Data) (from now : L) : Type 0 where
-  between : {n : ℕ} {s : LogState} → IsLogged l m from now n s → Stopped l m from now
-  within : {lines : List PlainLine} {line : PlainLine} {s : LogState} → l.breaks from lines line now → IsSearchLog m (lines ++ line ∷ []) s → Stopped l m from now
+pub data Stopped {L : Type 0} (l : LineGhosts L) (m : Data) (limit : ℕ) (from now : L) : Type 0 where
+  between : {n : ℕ} {s : LogState} → IsLogged l m limit from now n s → Stopped l m limit from now
+  within : {lines : List PlainLine} {line : PlainLine} {s : LogState} → l.breaks from lines line now → IsWritten m limit (lines ++ line ∷ []) s → Stopped l m limit from now
 
 abbrev pub Causes : {L : Type 0} → LineGhosts L → SolveFault → L → L → Type 0
 Causes l Fault from now = Rose (l.faults from) (l.faults now) × (l.calm from ≡ true → ⊥)
 Causes l NoMemory from now = ⊤
 
-abbrev pub Breaks : {L : Type 0} → LineGhosts L → Data → SolveFault → L → L → Type 0
-Breaks l m fault from now = Stopped l m from now × Causes l fault from now
+abbrev pub Breaks : {L : Type 0} → LineGhosts L → Data → ℕ → SolveFault → L → L → Type 0
+Breaks l m limit fault from now = Stopped l m limit from now × Causes l fault from now
 
 -- lines that derive were put at the node, as many as the engine may where it was capped
-pub record IsAtNode {L : Type 0} (l : LineGhosts L) (m : Data) (from now : L) (node : Node) (n : ℕ) : Type 0 where
+pub record IsAtNode {L : Type 0} (l : LineGhosts L) (m : Data) (limit : ℕ) (from now : L) (node : Node) (n : ℕ) : Type 0 where
   pub state : LogState
-  pub logged : IsLogged l m from now n state
+  pub logged : IsLogged l m limit from now n state
   pub at : node_of state ≡ Some node
 
 abbrev pub IsSpent : Type 0 → ℕ → Region → Stop → Type 0
@@ -183,14 +178,14 @@ IsSpent quiet n r Quiet = quiet
 IsSpent quiet n r (Failed w) = Unit {0}
 IsSpent quiet n r Capped = n ≡ cap_at r
 
-abbrev pub Derived : {P L : Type 0} → Ghosts P → LineGhosts L → Data → L → L → Search P → Result Stop SolveFault → Type 0
-Derived p l m from now s (Ok stop) = (n : ℕ) × IsAtNode l m from now (node_in s) n × IsSpent (AreQuiet p m s.region.region (best_of s.found)) n s.region.region stop
-Derived p l m from now s (Err fault) = Breaks l m fault from now
+abbrev pub Derived : {P L : Type 0} → Ghosts P → LineGhosts L → Data → ℕ → L → L → Search P → Result Stop SolveFault → Type 0
+Derived p l m limit from now s (Ok stop) = (n : ℕ) × IsAtNode l m limit from now (node_in s) n × IsSpent (AreQuiet p m s.region.region (best_of s.found)) n s.region.region stop
+Derived p l m limit from now s (Err fault) = Breaks l m limit fault from now
 
 -- the search goes on from the next region, or has ended, or stopped with its log begun
-abbrev pub GoesOn : {P L : Type 0} → LineGhosts L → Data → L → L → Search P → Result Bool SolveFault → Type 0
-GoesOn l m from now s (Ok more) = IsLogged l m from now 0 (state_in more s)
-GoesOn l m from now s (Err fault) = Breaks l m fault from now
+abbrev pub GoesOn : {P L : Type 0} → LineGhosts L → Data → ℕ → L → L → Search P → Result Bool SolveFault → Type 0
+GoesOn l m limit from now s (Ok more) = IsLogged l m limit from now 0 (state_in more s)
+GoesOn l m limit from now s (Err fault) = Breaks l m limit fault from now
 
 -- The answer.
 

@@ -16,14 +16,14 @@ use Rattle.solver.proofs.solving.solve_with.Goals as goal
 pub returns-in_err-search : goal.returns-in_err-search
 returns-in_err-search g c =
     let start = g.D.Desk.state c.args.desk.now in
-    stops_solve c.args.model.now c.args.nodes c.from_residual.result NoMemory start start c.from_residual.ensures.1 (begun c.args.model.now start, tt)
+    stops_solve c.args.model.now c.args.nodes c.from_residual.result NoMemory start start c.from_residual.ensures.1 (begun c.args.model.now c.args.nodes start, tt)
 
 pub returns-in_err-write_head : goal.returns-in_err-write_head
 returns-in_err-write_head g c =
     let start = g.D.Desk.state c.args.desk.now in
     let now = g.D.Desk.state c.write_head.new.desk in
     stops_solve c.args.model.now c.args.nodes c.from_residual-in_err-write_head.result Fault start now c.from_residual-in_err-write_head.ensures.1
-    (head_breaks c.args.model.now start now (broken head_text c.in_err-write_head.field-0.0 (subst (λ (h : Bytes). Gathers Log head_text (Err c.in_err-write_head.field-0.0) h c.write_head.new.self start now) c.new-writer.ensures c.in_err-write_head.ensures)))
+    (head_breaks c.args.model.now c.args.nodes start now (broken head_text c.in_err-write_head.field-0.0 (subst (λ (h : Bytes). Gathers Log head_text (Err c.in_err-write_head.field-0.0) h c.write_head.new.self start now) c.new-writer.ensures c.in_err-write_head.ensures)))
 
 pub returns-in_err-more : goal.returns-in_err-more
 returns-in_err-more g c =
@@ -32,10 +32,10 @@ returns-in_err-more g c =
     let mid = g.D.Desk.state c.write_head.new.desk in
     let now = g.D.Desk.state c.run-ended.new.lines.desk.now in
     let head = subst (λ (h : Bytes). Puts head_text h c.write_head.new.self start mid) c.new-writer.ensures (gathered head_text (Ok tt) refl c.in_ok-write_head.ensures) in
-    let stopped = c.in_err-more.ensures.logged _ (logged_none _ m _ _ c.in_ok-search.ensures.state (named_none refl)) in
-    subst (λ d. Gives m c.args.nodes c.from_residual-in_err-more.result start (g.D.Desk.state d)) (sym (c.in_err-more.desk-1-own.given.1 (stopped_named _ m _ _ _ (λ xs is. is.named) (λ xs line is. is.named) stopped.0)))
+    let stopped = c.in_err-more.ensures.logged _ (logged_none _ m c.args.nodes _ _ c.in_ok-search.ensures.state (named_none refl)) in
+    subst (λ d. Gives m c.args.nodes c.from_residual-in_err-more.result start (g.D.Desk.state d)) (sym (c.in_err-more.desk-1-own.given.1 (stopped_named _ m c.args.nodes _ _ _ (λ xs is. is.named) (λ xs line is. is.named) stopped.0)))
     (stops_solve m c.args.nodes c.from_residual-in_err-more.result c.in_err-more.field-0.0 start now c.from_residual-in_err-more.ensures.1
-    (stopped_gives _ m _ _ c.in_err-more.field-0.0 c.write_head.new.self c.run-ended.new.lines.writer start mid now stopped (λ xs is. is.puts) (λ xs line is. is.breaks) head
+    (stopped_gives _ m c.args.nodes _ _ c.in_err-more.field-0.0 c.write_head.new.self c.run-ended.new.lines.writer start mid now stopped (λ xs is. is.puts) (λ xs line is. is.breaks) head
     (ap (λ (s : State). s.faults) head.logged) (ap (λ (s : State). s.calm) head.logged) refl))
 
 pub returns-in_err-write_end : goal.returns-in_err-write_end
@@ -46,10 +46,10 @@ returns-in_err-write_end g c =
     let now = g.D.Desk.state c.run-ended.new.lines.desk.now in
     let last = g.D.Desk.state c.write_end.new.desk in
     let head = subst (λ (h : Bytes). Puts head_text h c.write_head.new.self start mid) c.new-writer.ensures (gathered head_text (Ok tt) refl c.in_ok-write_head.ensures) in
-    let logged = c.in_ok-more.ensures.logged _ (logged_none _ m _ _ c.in_ok-search.ensures.state (named_none refl)) in
+    let logged = c.in_ok-more.ensures.logged _ (logged_none _ m c.args.nodes _ _ c.in_ok-search.ensures.state (named_none refl)) in
     subst (λ d. Gives m c.args.nodes c.from_residual-in_err-write_end.result start (g.D.Desk.state d)) (sym (c.desk-2-1.given.1 logged.put.named))
     (stops_solve m c.args.nodes c.from_residual-in_err-write_end.result Fault start last c.from_residual-in_err-write_end.ensures.1
-    (end_breaks m logged.lines _ c.write_head.new.self c.run-ended.new.lines.writer start mid now last logged.log head logged.put.puts (broken end_text c.in_err-write_end.field-0.0 c.in_err-write_end.ensures.gathers)))
+    (end_breaks m c.args.nodes logged.lines _ c.write_head.new.self c.run-ended.new.lines.writer start mid now last logged.written head logged.put.puts (broken end_text c.in_err-write_end.field-0.0 c.in_err-write_end.ensures.gathers)))
 
 pub returns : goal.returns
 returns g c =
@@ -61,11 +61,11 @@ returns g c =
     let search = c.run-ended.new.self in
     let more = c.in_ok-more.more in
     let head = subst (λ (h : Bytes). Puts head_text h c.write_head.new.self start mid) c.new-writer.ensures (gathered head_text (Ok tt) refl c.in_ok-write_head.ensures) in
-    let logged = c.in_ok-more.ensures.logged _ (logged_none _ m _ _ c.in_ok-search.ensures.state (named_none refl)) in
-    let ended = ended_is g.P.Propagator m c.args.nodes more search c.in_ok-more.ensures.few c.in_ok-more.ensures.limited c.in_ok-more.ensures.ready in
+    let logged = c.in_ok-more.ensures.logged _ (logged_none _ m c.args.nodes _ _ c.in_ok-search.ensures.state (named_none refl)) in
+    let ended = ended_is g.P.Propagator m c.args.nodes more search c.in_ok-more.ensures.limited c.in_ok-more.ensures.ready in
     let keeps = c.loses_nothing.ensures in
     let valid = c.in_ok-search.ensures.valid in
     subst (λ d. Solves m c.args.nodes (record { nodes = search.nodes; answer = c.answer_from.result }) start (g.D.Desk.state d)) (sym (c.desk-2-1.given.1 logged.put.named))
     (solved_with m c.args.nodes more (state_in more search) logged.lines (record { nodes = search.nodes; answer = c.answer_from.result }) start last ended
-    (keeps.keeps m logged.lines (state_in more search) valid logged.log.log.steps).found_is (keeps.verdict m logged.lines (state_in more search) valid logged.log.log.steps) refl c.answer_from.ensures logged.log
+    (keeps.keeps m logged.lines (state_in more search) valid logged.written.log.steps).found_is (keeps.verdict m logged.lines (state_in more search) valid logged.written.log.steps) (keeps.few m logged.lines (state_in more search) valid logged.written.log.steps) refl c.answer_from.ensures logged.written
     (end_puts logged.lines c.write_head.new.self c.run-ended.new.lines.writer c.write_end.new.self start mid now last head logged.put.puts (gathered end_text (Ok tt) refl c.in_ok-write_end.ensures.gathers) c.in_ok-write_end.ensures.none))

@@ -7,5 +7,5 @@ invariant-loop-n g l = record {
   ready : IsReady g.P.Propagator l.model l.self;
   lines : g.L.Lines.ready l.lines;
   nodes : l.self.nodes ≡ l._n;
-  logged : (from : g.row.L.Denot) → IsLogged g.L.Lines l.model from l.initial.lines 0 (state_in true l.initial.self) → IsLogged g.L.Lines l.model from l.lines 0 (state_in true l.self);
+  logged : (from : g.row.L.Denot) → IsLogged g.L.Lines l.model l.nodes from l.initial.lines 0 (state_in true l.initial.self) → IsLogged g.L.Lines l.model l.nodes from l.lines 0 (state_in true l.self);
 }

@@ -1,4 +1,4 @@
-use Rattle.std.proofs.Common.{◌≡◌, Ok, sym, subst, ◌∙◌, true≢false}
+use Rattle.std.proofs.Common.{◌≡◌, Ok, sym, ap, subst, ◌∙◌, arith, true≢false}
 use Rattle.kernel.specs.Steps.{best_of, step_at}
 use Rattle.engine.specs.code.Engines.{AreQuiet}
 use Rattle.engine.specs.Plain.{refutes_plain}
@@ -10,13 +10,13 @@ use Rattle.solver.proofs.logged.Ending.{closes_line, closes_ends, closes_well, c
 use Rattle.solver.proofs.state.Search.visit.Goals as goal
 
 pub returns-in_err-stop-clause-logged : goal.returns-in_err-stop-clause-logged
-returns-in_err-stop-clause-logged g c = λ from logged.
-    visit_stops g.L.Lines c.args.model.now from c.derive.new.lines c.derive.new.self c.from_residual.result c.in_err-stop.field-0.0 c.from_residual.ensures.1 (c.in_err-stop.ensures.derived from logged)
+returns-in_err-stop-clause-logged g c = λ from limit less logged.
+    visit_stops g.L.Lines c.args.model.now limit from c.derive.new.lines c.derive.new.self c.from_residual.result c.in_err-stop.field-0.0 c.from_residual.ensures.1 (c.in_err-stop.ensures.derived from limit less logged)
 
 pub returns-in_err-line-clause-logged : goal.returns-in_err-line-clause-logged
-returns-in_err-line-clause-logged g c = λ from logged.
-    let derived = c.in_ok-stop.ensures.derived from logged in
-    visit_stops g.L.Lines c.args.model.now from c.derive.new.lines c.closing.new.self c.from_residual-in_err-line.result NoMemory c.from_residual-in_err-line.ensures.1 (between derived.1.logged, tt)
+returns-in_err-line-clause-logged g c = λ from limit less logged.
+    let derived = c.in_ok-stop.ensures.derived from limit less logged in
+    visit_stops g.L.Lines c.args.model.now limit from c.derive.new.lines c.closing.new.self c.from_residual-in_err-line.result NoMemory c.from_residual-in_err-line.ensures.1 (between derived.1.logged, tt)
 
 pub put-requires-clause-fit : goal.put-requires-clause-fit
 put-requires-clause-fit g c =
@@ -36,13 +36,13 @@ returns-in_err-put-clause-logged g c =
     let of = c.in_ok-stop.ensures.ready.holding.of.region in
     let closes = c.in_ok-line.ensures.line in
     let step = closes_step m (node_in s) (is_failed stop) line c.in_ok-stop.ensures.ready.holding.valued closes in
-    λ from logged.
-    let derived = c.in_ok-stop.ensures.derived from logged in
-    visit_stops g.L.Lines m from c.put.new.self c.closing.new.self c.from_residual-in_err-put.result Fault c.from_residual-in_err-put.ensures.1 (
-      closed_break g.L.Lines places m from c.derive.new.lines c.put.new.self (node_in s) derived.0 line step.0 derived.1 c.in_err-put.ensures.broke
+    λ from limit less logged.
+    let derived = c.in_ok-stop.ensures.derived from limit less logged in
+    visit_stops g.L.Lines m limit from c.put.new.self c.closing.new.self c.from_residual-in_err-put.result Fault c.from_residual-in_err-put.ensures.1 (
+      closed_break g.L.Lines places m limit from c.derive.new.lines c.put.new.self (node_in s) derived.0 line step.0 derived.1 c.in_err-put.ensures.broke
           (closes_line m r best (is_failed stop) line c.intervals.ensures.valid of closes)
-          (closes_well m r best (is_failed stop) line derived.0 closes (spent_well m r best (AreQuiet g.P.Propagator m r best) derived.0 stop (c.requires.covers r best of) derived.2)) step.1,
-      causes_from g.L.Lines places m from c.derive.new.lines c.put.new.self derived.0 derived.1.state derived.1.logged (c.in_err-put.ensures.rose, λ calm. true≢false (sym (c.in_err-put.ensures.calm calm))),
+          (closes_well m r best (is_failed stop) line derived.0 closes (spent_well m r best (AreQuiet g.P.Propagator m r best) derived.0 stop (c.requires.covers r best of) derived.2)) step.1 (omega (arith, step.2, c.in_ok-stop.ensures.nodes, less)),
+      causes_from g.L.Lines places m limit from c.derive.new.lines c.put.new.self derived.0 derived.1.state derived.1.logged (c.in_err-put.ensures.rose, λ calm. true≢false (sym (c.in_err-put.ensures.calm calm))),
     )
 
 pub close-requires-clause-closes : goal.close-requires-clause-closes
@@ -69,13 +69,13 @@ returns-in_err-close-clause-logged g c =
     let of = c.in_ok-stop.ensures.ready.holding.of.region in
     let closes = c.in_ok-line.ensures.line in
     let step = closes_step m (node_in s) (is_failed stop) line c.in_ok-stop.ensures.ready.holding.valued closes in
-    λ from logged.
-    let derived = c.in_ok-stop.ensures.derived from logged in
-    visit_stops g.L.Lines m from c.put.new.self c.close.new.self c.from_residual-in_err-close.result NoMemory c.from_residual-in_err-close.ensures.1 (
-      between (closed_to g.L.Lines places m from c.derive.new.lines c.put.new.self (node_in s) derived.0 line step.0 derived.1 c.in_ok-put.ensures.ok
+    λ from limit less logged.
+    let derived = c.in_ok-stop.ensures.derived from limit less logged in
+    visit_stops g.L.Lines m limit from c.put.new.self c.close.new.self c.from_residual-in_err-close.result NoMemory c.from_residual-in_err-close.ensures.1 (
+      between (closed_to g.L.Lines places m limit from c.derive.new.lines c.put.new.self (node_in s) derived.0 line step.0 derived.1 c.in_ok-put.ensures.ok
           (closes_line m r best (is_failed stop) line c.intervals.ensures.valid of closes)
           (closes_well m r best (is_failed stop) line derived.0 closes (spent_well m r best (AreQuiet g.P.Propagator m r best) derived.0 stop (c.requires.covers r best of) derived.2))
-          (closes_ends m r best (is_failed stop) line derived.0 closes) step.1),
+          (closes_ends m r best (is_failed stop) line derived.0 closes) step.1 (omega (arith, step.2, c.in_ok-stop.ensures.nodes, less))),
       tt,
     )
 
@@ -92,10 +92,11 @@ returns-clause-logged g c =
     let of = c.in_ok-stop.ensures.ready.holding.of.region in
     let closes = c.in_ok-line.ensures.line in
     let after = state_in c.in_ok-close.field-0 c.close.new.self in
-    λ from logged.
-    let derived = c.in_ok-stop.ensures.derived from logged in
-    closed_to g.L.Lines places m from c.derive.new.lines c.put.new.self (node_in s) derived.0 line after derived.1 c.in_ok-put.ensures.ok
+    λ from limit less logged.
+    let derived = c.in_ok-stop.ensures.derived from limit less logged in
+    closed_to g.L.Lines places m limit from c.derive.new.lines c.put.new.self (node_in s) derived.0 line after derived.1 c.in_ok-put.ensures.ok
     (closes_line m r best (is_failed stop) line c.intervals.ensures.valid of closes)
     (closes_well m r best (is_failed stop) line derived.0 closes (spent_well m r best (AreQuiet g.P.Propagator m r best) derived.0 stop (c.requires.covers r best of) derived.2))
     (closes_ends m r best (is_failed stop) line derived.0 closes)
     (subst (λ (u : Search g.row.P.Denot). step_at refutes_plain m (node_in u) line ≡ Ok after) c.in_ok-line.ensures.same c.in_ok-close.ensures.step)
+    (omega (arith, c.in_ok-close.ensures.nodes, ap (λ (u : Search g.row.P.Denot). u.nodes) c.in_ok-line.ensures.same, c.in_ok-stop.ensures.nodes, less))
