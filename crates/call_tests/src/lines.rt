@@ -29,6 +29,7 @@ pub fn guess_of(line: &Line<NoWitness>) -> Option<Guess> {
         Line::Fail(_) => None,
         Line::Split(g) => Some(*g),
         Line::Sol(_) => None,
+        Line::Restart => None,
     }
 }
 
@@ -41,5 +42,6 @@ pub fn witness_of(line: &Line<NoWitness>) -> Option<&BasicWitness> {
         Line::Fail(_) => None,
         Line::Split(_) => None,
         Line::Sol(_) => None,
+        Line::Restart => None,
     }
 }

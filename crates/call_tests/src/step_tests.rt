@@ -25,7 +25,7 @@ fn steps_so(alloc: Global, kernel: &mut Kernel<NoExtra>, model: &Model, row: &Ro
         return false;
     }
     let told = match line(alloc, text) {
-        Some(line) => kernel.step(model, line).err() == fault,
+        Some(line) => kernel.step(alloc, model, line).err() == fault,
         None => false,
     };
     told && kernel.nodes() == nodes && kernel.verdict() == verdict

@@ -4,7 +4,7 @@ ghost use Rattle.kernel.specs.Fit.{is_fit, is_fit_assignment};
 ghost use Rattle.refute_basic.specs.Witness.{is_valid};
 
 use kernel::{Line, Witness};
-use logtext::LogWriter;
+use logtext::{LogWriter, Version};
 use refute_basic::{ArcName, BasicWitness};
 use region::Guess;
 use sched_base::{Desk, Failed, Itv, List, MemDesk, NoMemory, Seq};
@@ -132,7 +132,7 @@ fn spells_solutions(rt: HostRuntime) -> Result<(), Fail> {
 fn write_whole(desk: &mut MemDesk) -> Result<(), Failed> {
     desk.create_log("l")?;
     let mut log = LogWriter::new();
-    log.write_head(desk)?;
+    log.write_head(Version::One, desk)?;
     log.write_line::<BasicWitness, MemDesk>(&Line::Split(Guess::Absent(Itv(7))), desk)?;
     log.write_end(desk)
 }
@@ -156,7 +156,7 @@ fn heads(desk: &mut MemDesk) -> usize {
     }
     let mut log = LogWriter::new();
     for n in 0..2_000 {
-        if log.write_head(desk).is_err() {
+        if log.write_head(Version::One, desk).is_err() {
             return n;
         }
     }

@@ -30,7 +30,7 @@ module _ {S : Type 0} (noted : S → PlainLine → S) (before after : S) where
   falls_short m NoMemory old new replays = record { judgement = replays.judgement; counts = replays.counts; reads = replays.reads; stops = tt; only = replays.only; later = replays.later }
 
   whole_accepted : (m : Data) (bytes : Bytes) (s : LogState) → IsWhole log_refutes log_numbers log_valid noted m bytes s before after → IsAccepted m bytes (verdict_of s) s.nodes
-  whole_accepted m bytes s whole = record { lines = whole.replayed.lines; state = s; log = whole.replayed.log; text = whole.text; verdict = refl; nodes = refl }
+  whole_accepted m bytes s whole = record { version = whole.version; lines = whole.replayed.lines; state = s; suits = whole.suits; log = whole.replayed.log; text = whole.text; verdict = refl; nodes = refl }
 
   -- the log is whole
   pub accepts : (m : Data) (s : LogState) (c : Checked) (old new : State) → c.verdict ≡ verdict_of s → c.nodes ≡ s.nodes → Replays log_refutes log_numbers log_valid noted m (Ok s) before after old new → Checks m (Ok c) old new

@@ -6,7 +6,8 @@ use Rattle.sched_model.specs.declared.types.Verdict.{Verdict}
 use Rattle.kernel.specs.Steps.{LogState, verdict_of}
 use Rattle.kernel.specs.Promises.{Means}
 use Rattle.textline.specs.Lines.{Bytes}
-use Rattle.logtext.specs.Logs.{PlainLine, IsPlainLog, plain_log}
+use Rattle.logtext.specs.declared.version.Version.{Version}
+use Rattle.logtext.specs.Logs.{PlainLine, IsPlainLog, plain_log, MayHold}
 use Rattle.logtext.specs.Judgement.{log_limit}
 use Rattle.checker.specs.Judgement.{IsAccepted, IsRefused, IsTooLong}
 
@@ -26,7 +27,7 @@ NeverTooLong = (m : Data) (bytes : Bytes) (v : Verdict) (i : ℕ) → length byt
 
 -- a log that is written whole is accepted with what it has shown
 abbrev pub WholeLogIsAccepted : Type 0
-WholeLogIsAccepted = (m : Data) (lines : List PlainLine) (s : LogState) → IsPlainLog m lines s → IsAccepted m (plain_log lines) (verdict_of s) s.nodes
+WholeLogIsAccepted = (m : Data) (version : Version) (lines : List PlainLine) (s : LogState) → MayHold version lines → IsPlainLog m lines s → IsAccepted m (plain_log version lines) (verdict_of s) s.nodes
 
 -- a verdict that is accepted means what it says
 abbrev pub AcceptedMeans : Type 0

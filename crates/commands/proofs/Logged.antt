@@ -1,5 +1,5 @@
 -- The last solution in a log is what its state has found.
-use Rattle.std.proofs.Common.{◌≡◌, ℕ, ℤ, true, false, List, [], ◌∷◌, ◌++◌, Option, Some, None, Ok, Err, refl, sym, ap, ◌∙◌}
+use Rattle.std.proofs.Common.{◌≡◌, ℕ, ◌+◌, ℤ, true, false, not, List, [], ◌∷◌, ◌++◌, Option, Some, None, Ok, Err, refl, sym, ap, ◌∙◌}
 use Rattle.std.specs.Prelude.{option_map, option_to_list, if◌then◌else◌}
 use Rattle.std.specs.Option.{option_or}
 use Rattle.sched_model.specs.declared.types.Answer.{Answer}
@@ -10,11 +10,11 @@ use Rattle.sched_model.specs.Data.{Data}
 use Rattle.region.specs.Cells.{Region}
 use Rattle.kernel.specs.declared.types.Witness.{Witness}
 use Rattle.kernel.specs.declared.types.Line.{Line}
-use Rattle.kernel.specs.declared.types.Line.TheVariants.{Derive, Fail, Split, Sol}
+use Rattle.kernel.specs.declared.types.Line.TheVariants.{Derive, Fail, Split, Sol, Restart}
 use Rattle.kernel.specs.declared.types.Found.{Found}
 use Rattle.sched_model.specs.declared.types.Verdict.TheVariants.{Unclosed}
 use Rattle.region.specs.Looks.{Refuting}
-use Rattle.kernel.specs.Steps.{LogState, Node, Outcome, Steps, step, step_at, best_of, best_verdict, closed_verdict}
+use Rattle.kernel.specs.Steps.{LogState, Node, Outcome, Steps, is_restart, step, step_at, best_of, best_verdict, closed_verdict}
 use Rattle.kernel.specs.Steps.Steps.{done, more}
 use Rattle.kernel.specs.laws.Outcomes.{unless_ok}
 use Rattle.sched_model.specs.Answers.{verdict_in}
@@ -39,11 +39,12 @@ at_node refutes m n (Derive g w) t is = ap found_schedule (found_of _ t (unless_
 at_node refutes m n (Fail w) t is = ap found_schedule (found_of _ t (unless_ok _ _ _ t is))
 at_node refutes m n (Split g) t is = ap found_schedule (found_of _ t (unless_ok _ _ _ t is))
 at_node refutes m n (Sol a) t is = ap found_schedule (found_of _ t (unless_ok _ _ _ t is))
+at_node refutes m n Restart t is = ap found_schedule (found_of _ t is)
 
 at_parts : {W : Type 0} (refutes : Refuting (Witness W)) (m : Data) (current : Option Region) (waiting : List Region) (k : ℕ) (found : Option Found) (l : Line W) (t : LogState)
     → let s : LogState = record { current = current; waiting = waiting; nodes = k; found = found } in step refutes m l s ≡ Ok t → found_schedule t.found ≡ option_or (schedule_in l) (found_schedule found)
 at_parts refutes m (Some r) rs k found l t is = at_node refutes m (record { region = r; waiting = rs; nodes = k; found = found }) l t is
-at_parts refutes m None (r ∷ rs) k found l t is = at_node refutes m _ l t is
+at_parts refutes m None (r ∷ rs) k found l t is = at_node refutes m (record { region = r; waiting = rs; nodes = if not (is_restart l) then k + 1 else k; found = found }) l t is
 at_parts refutes m None [] k found l t is = absurd cc
 
 or_or : (a b c : Option Assignment) → option_or a (option_or b c) ≡ option_or (option_or a b) c

@@ -3,13 +3,14 @@ use Rattle.std.specs.Prelude.{List, [], ◌∷◌, Option, Some, None}
 use Rattle.std.specs.Option.{option_or}
 use Rattle.sched_model.specs.declared.types.Assignment.{Assignment}
 use Rattle.kernel.specs.declared.types.Line.{Line}
-use Rattle.kernel.specs.declared.types.Line.TheVariants.{Derive, Fail, Split, Sol}
+use Rattle.kernel.specs.declared.types.Line.TheVariants.{Derive, Fail, Split, Sol, Restart}
 
 abbrev pub schedule_in : {W : Type 0} → Line W → Option Assignment
 schedule_in (Derive g w) = None
 schedule_in (Fail w) = None
 schedule_in (Split g) = None
 schedule_in (Sol a) = Some a
+schedule_in Restart = None
 
 -- that of the lines behind the first, or else that of the first
 abbrev pub last_schedule : {W : Type 0} → List (Line W) → Option Assignment

@@ -24,6 +24,7 @@ use Rattle.textline.specs.Lines.{Bytes}
 use Rattle.sched_text.specs.Answers.{answer_text, summary_text, check_text}
 use Rattle.sched_text.specs.Canonical.{canonical_text}
 use Rattle.logtext.specs.Logs.{PlainLine, plain_log}
+use Rattle.logtext.specs.declared.version.Version.TheVariants.{One}
 use Rattle.logtext.specs.Judgement.{log_limit, log_bytes}
 use Rattle.checker.specs.Judgement.{IsAccepted, IsRefused, IsTooLong}
 use Rattle.solver.specs.Written.{IsWritten}
@@ -135,9 +136,9 @@ pub record LogPromise (m : Data) (limit : ℕ) (solved : Solved) (before after :
   -- at the middle of what is open of it, and comes where nothing is left to derive, or where as many lines derived as may
   pub written : IsWritten m limit lines state
   -- the log was created empty, and its bytes are exactly the text of these lines
-  pub bytes : after ≡ option_map (λ bytes. plain_log lines) before
+  pub bytes : after ≡ option_map (λ bytes. plain_log One lines) before
   -- the judgement of those bytes is that they are accepted, with the printed verdict and the printed count of nodes
-  pub accepted : IsAccepted m (plain_log lines) (verdict_in solved.answer) solved.nodes
+  pub accepted : IsAccepted m (plain_log One lines) (verdict_in solved.answer) solved.nodes
   -- the printed schedule is that of the last solution in the log
   pub schedule : last_schedule lines ≡ shown_in solved.answer
   -- unfinished comes only once exactly as many nodes were opened as the limit says, where no region is current and one waits
@@ -174,7 +175,7 @@ pub record HoldsBegunLog (m : Data) (limit : ℕ) (before after : Option Bytes) 
   pub lines : List PlainLine
   pub state : LogState
   pub written : IsWritten m limit lines state
-  pub part : AppendedFrom (plain_log lines) (option_map (λ bytes. []) before) after
+  pub part : AppendedFrom (plain_log One lines) (option_map (λ bytes. []) before) after
 
 -- How far it came where it was cut short by a fault or for want of memory.
 pub data CutShort (model : Source) (log : Bytes) (limit : ℕ) (old new : State) : Type 0 where

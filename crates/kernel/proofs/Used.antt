@@ -26,7 +26,7 @@ use Rattle.region.specs.laws.Narrowing.{guess_stays, fact_stays, splitting}
 use Rattle.region.specs.laws.Rooted.{root_of, root_allows}
 use Rattle.kernel.specs.declared.types.Witness.{Witness}
 use Rattle.kernel.specs.declared.types.Line.{Line}
-use Rattle.kernel.specs.declared.types.Line.TheVariants.{Derive, Fail, Split, Sol}
+use Rattle.kernel.specs.declared.types.Line.TheVariants.{Derive, Fail, Split, Sol, Restart}
 use Rattle.kernel.specs.declared.types.Found.{Found}
 use Rattle.kernel.specs.declared.types.StepFault.{StepFault}
 use Rattle.kernel.specs.declared.types.StepFault.TheVariants.{NotRefuted, NotTight, NotSplitting, NotSolution}
@@ -92,6 +92,10 @@ solved m f cs rs rest = absurd (no_some f rest.nothing)
     no_some : (f : Found) → Some f ≡ None → ⊥
     no_some f h = cc
 
+-- whatever was open: the root that is open then allows all
+begun_anew : (m : Data) (found : Option Found) (cs : List Con) (rs : List Region) → Leaves m cs found (root m ∷ []) → Leaves m cs found rs
+begun_anew m found cs rs rest = record { nothing = rest.nothing; none = λ a meets any. rest.none a meets (any_here (λ q. Allows q a) (root m) [] (root_allows m a meets.domain)) }
+
 -- one line, from the state behind it to the one before it
 at_current : {W : Type 0} (named : Witness W → List Con) (refutes : Refuting (Witness W)) (m : Data) (r : Region) (rs : List Region) (k : ℕ) (found : Option Found) (line : Line W) (cs : List Con) → IsValid m → IsSoundBy named m refutes
     → fault_at refutes m r found line ≡ None → IsRegionOf m r → let s : LogState = record { current = Some r; waiting = rs; nodes = k; found = found } in
@@ -100,6 +104,7 @@ at_current named refutes m r rs k found (Derive g w) cs valid sound h of rest = 
 at_current named refutes m r rs k found (Fail w) cs valid sound h of rest = failed named refutes m w r rs found cs valid sound h of rest
 at_current named refutes m r rs k found (Split g) cs valid sound h of rest = cut m g r rs found cs (unless_none (splits r g) NotSplitting None h) of rest
 at_current named refutes m r rs k found (Sol a) cs valid sound h of rest = solved m _ cs _ rest
+at_current named refutes m r rs k found Restart cs valid sound h of rest = begun_anew m found cs (r ∷ rs) rest
 
 at_waiting : {W : Type 0} (named : Witness W → List Con) (refutes : Refuting (Witness W)) (m : Data) (r : Region) (rs : List Region) (k : ℕ) (found : Option Found) (line : Line W) (cs : List Con) → IsValid m → IsSoundBy named m refutes
     → fault_at refutes m r found line ≡ None → IsRegionOf m r → let s : LogState = record { current = None; waiting = r ∷ rs; nodes = k; found = found } in
@@ -108,6 +113,7 @@ at_waiting named refutes m r rs k found (Derive g w) cs valid sound h of rest = 
 at_waiting named refutes m r rs k found (Fail w) cs valid sound h of rest = failed named refutes m w r rs found cs valid sound h of rest
 at_waiting named refutes m r rs k found (Split g) cs valid sound h of rest = cut m g r rs found cs (unless_none (splits r g) NotSplitting None h) of rest
 at_waiting named refutes m r rs k found (Sol a) cs valid sound h of rest = solved m _ cs _ rest
+at_waiting named refutes m r rs k found Restart cs valid sound h of rest = begun_anew m found cs (r ∷ rs) rest
 
 before : {W : Type 0} (named : Witness W → List Con) (refutes : Refuting (Witness W)) (m : Data) (current : Option Region) (waiting : List Region) (k : ℕ) (found : Option Found) (line : Line W) (cs : List Con) → IsValid m → IsSoundBy named m refutes
     → let s : LogState = record { current = current; waiting = waiting; nodes = k; found = found } in
@@ -132,17 +138,19 @@ cut_of m g r rs split of =
     let admitted = (splitting r g split).0 in
     All-cons (IsRegionOf m) (with_guess g r) (with_fact g r ∷ rs) (guess_stays g m r admitted whole) (All-cons (IsRegionOf m) (with_fact g r) rs (fact_stays g m r admitted whole) (All-tail (IsRegionOf m) r rs of))
 
-after_of : {W : Type 0} (refutes : Refuting (Witness W)) (m : Data) (current : Option Region) (waiting : List Region) (k : ℕ) (found : Option Found) (line : Line W)
+after_of : {W : Type 0} (refutes : Refuting (Witness W)) (m : Data) (current : Option Region) (waiting : List Region) (k : ℕ) (found : Option Found) (line : Line W) → IsValid m
     → let s : LogState = record { current = current; waiting = waiting; nodes = k; found = found } in fault_in refutes m (first_in current waiting) found line ≡ None → All (IsRegionOf m) (open_regions s) → All (IsRegionOf m) (open_regions (after m s line))
-after_of refutes m (Some r) rs k found (Derive g w) h of = derived_of refutes m g w r rs found h of
-after_of refutes m (Some r) rs k found (Fail w) h of = All-tail (IsRegionOf m) r rs of
-after_of refutes m (Some r) rs k found (Split g) h of = cut_of m g r rs (unless_none (splits r g) NotSplitting None h) of
-after_of refutes m (Some r) rs k found (Sol a) h of = left_of m (is_some m.objective) rs (All-tail (IsRegionOf m) r rs of)
-after_of refutes m None (r ∷ rs) k found (Derive g w) h of = derived_of refutes m g w r rs found h of
-after_of refutes m None (r ∷ rs) k found (Fail w) h of = All-tail (IsRegionOf m) r rs of
-after_of refutes m None (r ∷ rs) k found (Split g) h of = cut_of m g r rs (unless_none (splits r g) NotSplitting None h) of
-after_of refutes m None (r ∷ rs) k found (Sol a) h of = left_of m (is_some m.objective) rs (All-tail (IsRegionOf m) r rs of)
-after_of refutes m None [] k found line h of = cc
+after_of refutes m (Some r) rs k found (Derive g w) valid h of = derived_of refutes m g w r rs found h of
+after_of refutes m (Some r) rs k found (Fail w) valid h of = All-tail (IsRegionOf m) r rs of
+after_of refutes m (Some r) rs k found (Split g) valid h of = cut_of m g r rs (unless_none (splits r g) NotSplitting None h) of
+after_of refutes m (Some r) rs k found (Sol a) valid h of = left_of m (is_some m.objective) rs (All-tail (IsRegionOf m) r rs of)
+after_of refutes m None (r ∷ rs) k found (Derive g w) valid h of = derived_of refutes m g w r rs found h of
+after_of refutes m None (r ∷ rs) k found (Fail w) valid h of = All-tail (IsRegionOf m) r rs of
+after_of refutes m None (r ∷ rs) k found (Split g) valid h of = cut_of m g r rs (unless_none (splits r g) NotSplitting None h) of
+after_of refutes m None (r ∷ rs) k found (Sol a) valid h of = left_of m (is_some m.objective) rs (All-tail (IsRegionOf m) r rs of)
+after_of refutes m (Some r) rs k found Restart valid h of = All-cons (IsRegionOf m) (root m) [] (root_of m valid) (All-nil (IsRegionOf m))
+after_of refutes m None (r ∷ rs) k found Restart valid h of = All-cons (IsRegionOf m) (root m) [] (root_of m valid) (All-nil (IsRegionOf m))
+after_of refutes m None [] k found line valid h of = cc
 
 -- all lines, from the closed state back to the one that they begin in
 steps_leave : {W : Type 0} (named : Witness W → List Con) (refutes : Refuting (Witness W)) (m : Data) {s t : LogState} {lines : List (Line W)} → IsValid m → IsSoundBy named m refutes
@@ -150,7 +158,7 @@ steps_leave : {W : Type 0} (named : Witness W → List Con) (refutes : Refuting 
 steps_leave named refutes m valid sound of done nothing closed = record { nothing = nothing; none = λ a meets any. any_none (λ r. Allows r a) (subst (Any (λ r. Allows r a)) closed any) }
 steps_leave named refutes m valid sound of (more {s} {t} {u} {line} {lines} is rest) nothing closed =
     let two = stepped refutes m s t line is in
-    let next : All (IsRegionOf m) (open_regions t) = subst (λ (x : LogState). All (IsRegionOf m) (open_regions x)) (sym two.1) (after_of refutes m s.current s.waiting s.nodes s.found line two.0 of) in
+    let next : All (IsRegionOf m) (open_regions t) = subst (λ (x : LogState). All (IsRegionOf m) (open_regions x)) (sym two.1) (after_of refutes m s.current s.waiting s.nodes s.found line valid two.0 of) in
     let behind = steps_leave named refutes m valid sound next rest nothing closed in
     before named refutes m s.current s.waiting s.nodes s.found line (used_in named lines) valid sound two.0 of (subst (λ (x : LogState). Leaves m (used_in named lines) x.found (open_regions x)) two.1 behind)
 

@@ -3,3 +3,4 @@ pub mod Pending
 pub mod Derives
 pub mod Fits
 pub mod Outcomes
+pub mod Budget

@@ -107,6 +107,17 @@ impl Agenda {
         self.stage = Stage::Waiting;
     }
 
+    /// All regions go, and the root of the model waits.
+    pub fn restart(&mut self, alloc: Global, model: &Model) -> Result<(), NoMemory>
+        ensures ok { OnOk result (self.new ≡ record { current = None; waiting = root model.now ∷ [] }) }
+        ensures err { OnErr result (self.new ≡ self.old) }
+    {
+        self.region = Region::root(alloc, model)?;
+        self.pending = Pending::new(alloc);
+        self.stage = Stage::Waiting;
+        Ok(())
+    }
+
     /// All regions go.
     pub fn clear(&mut self)
         ensures { self.new ≡ record { current = None; waiting = [] } }

@@ -7,7 +7,7 @@ ghost use Rattle.region.specs.Guesses.{admits, splits};
 ghost use Rattle.region.specs.Looks.{IsRegionOf};
 ghost use Rattle.kernel.specs.Refuting.{refutes_with};
 ghost use Rattle.kernel.specs.Steps.{opening, step, takes_memory, Gives, best_of, best_verdict, verdict_of};
-ghost use Rattle.kernel.specs.code.Faults.{derive_fault, fault_at, fault_in, nodes_in, derived, failed, cut, solved, after};
+ghost use Rattle.kernel.specs.code.Faults.{derive_fault, fault_at, fault_in, nodes_in, derived, failed, cut, solved, restarted, after};
 ghost use Rattle.kernel.specs.Promises.{Ready, Means};
 ghost use Rattle.kernel.specs.Agenda.{first_in};
 ghost use Rattle.kernel.specs.declared.types.StepFault.TheVariants.{NoMemory as Memory};
@@ -112,6 +112,7 @@ fn fault_at<X: Refuter>(
             }
             Some(StepFault::NotSolution)
         }
+        Line::Restart => None,
     }
 }
 
@@ -141,17 +142,22 @@ impl<X: Refuter> Kernel<X> {
     /// refutes the region, under the guess of a `Derive`, which is open (`NotRefuted`); the guess is
     /// tight (`NotTight`); it splits the region (`NotSplitting`); the assignment is a solution that
     /// the settled region allows, and better than the one found before (`NotSolution`). A line that
-    /// is refused, for want of memory too, changes nothing, and its node isn't counted. Only a
-    /// `Derive` or a `Split` that steps can want for memory. A step costs what it changes, beside
+    /// is refused, for want of memory too, changes nothing, and its node isn't counted. A `Restart`
+    /// opens none. Only a `Derive`, a `Split` or a `Restart` that steps can want for memory. A step costs what it changes, beside
     /// the sentence of its witness and the test of its assignment.
-    pub fn step(&mut self, model: &Model, line: Line<X::Witness>) -> Result<(), StepFault>
+    pub fn step(
+        &mut self,
+        alloc: Global,
+        model: &Model,
+        line: Line<X::Witness>,
+    ) -> Result<(), StepFault>
         requires nodes { self.old.nodes < 2 ^ 63 }
         requires ready { Ready model.now self.old }
         ensures step { Gives result (step (refutes_with X.refuting) model.now line self.old) self.old self.new }
         ensures memory { takes_memory line ≡ false → result ≡ Err Memory → ⊥ }
         ensures ready { Ready model.now self.new }
     {
-        self.plain_step(model, line)
+        self.plain_step(alloc, model, line)
     }
 
     /// What the log has shown so far: `Unclosed` exactly where a region is current or waits.
@@ -280,6 +286,13 @@ impl<X: Refuter> Kernel<X> {
         self.agenda.close();
     }
 
+    fn restart(&mut self, alloc: Global, model: &Model) -> Result<(), NoMemory>
+        ensures ok { OnOk result (self.new ≡ restarted model.now self.old) }
+        ensures err { OnErr result (self.new ≡ self.old) }
+    {
+        self.agenda.restart(alloc, model)
+    }
+
     /// Why the line doesn't step.
     fn fault(&self, model: &Model, line: &Line<X::Witness>) -> Option<StepFault>
         requires { Ready model.now self.now }
@@ -292,7 +305,7 @@ impl<X: Refuter> Kernel<X> {
     }
 
     /// What a line that passes its tests changes.
-    fn take(&mut self, model: &Model, line: Line<X::Witness>) -> Result<(), NoMemory>
+    fn take(&mut self, alloc: Global, model: &Model, line: Line<X::Witness>) -> Result<(), NoMemory>
         requires nodes { self.old.nodes < 2 ^ 63 }
         requires passed { fault_in (refutes_with X.refuting) model.now (first_in self.old.current self.old.waiting) self.old.found line ≡ None }
         ensures ok { OnOk result (self.new ≡ after model.now self.old line) }
@@ -310,11 +323,17 @@ impl<X: Refuter> Kernel<X> {
                 self.solve(model, a);
                 Ok(())
             }
+            Line::Restart => self.restart(alloc, model),
         }
     }
 
     /// Takes one line that steps, without a test. Where memory is refused nothing changes.
-    pub fn advance(&mut self, model: &Model, line: Line<X::Witness>) -> Result<(), NoMemory>
+    pub fn advance(
+        &mut self,
+        alloc: Global,
+        model: &Model,
+        line: Line<X::Witness>,
+    ) -> Result<(), NoMemory>
         requires nodes { self.old.nodes < 2 ^ 63 }
         requires ready { Ready model.now self.old }
         requires steps { IsOk (step (refutes_with X.refuting) model.now line self.old) }
@@ -323,10 +342,15 @@ impl<X: Refuter> Kernel<X> {
         ensures memory { takes_memory line ≡ false → IsOk result }
         ensures ready { Ready model.now self.new }
     {
-        self.take(model, line)
+        self.take(alloc, model, line)
     }
 
-    fn plain_step(&mut self, model: &Model, line: Line<X::Witness>) -> Result<(), StepFault>
+    fn plain_step(
+        &mut self,
+        alloc: Global,
+        model: &Model,
+        line: Line<X::Witness>,
+    ) -> Result<(), StepFault>
         requires nodes { self.old.nodes < 2 ^ 63 }
         requires ready { Ready model.now self.old }
         ensures step { Gives result (step (refutes_with X.refuting) model.now line self.old) self.old self.new }
@@ -335,7 +359,7 @@ impl<X: Refuter> Kernel<X> {
         if let Some(fault) = self.fault(model, &line) {
             return Err(fault);
         }
-        if self.take(model, line).is_err() {
+        if self.take(alloc, model, line).is_err() {
             return Err(StepFault::NoMemory);
         }
         Ok(())

@@ -6,7 +6,8 @@ ghost use Rattle.region.specs.Looks.{IsRegionOf};
 ghost use Rattle.region.specs.code.Held.{Held};
 ghost use Rattle.region.specs.Guesses.{splits, with_guess, with_fact, guess_cell, guess_holds};
 ghost use Rattle.region.specs.Narrows.{Narrows};
-ghost use Rattle.kernel.specs.Steps.{opening, step, takes_memory, Gives, verdict_of, best_of, LogState, Steps, open_regions};
+ghost use Rattle.kernel.specs.Steps.{opening, step, takes_memory, Gives, verdict_of, best_of, LogState, Steps, open_regions, restarts_in};
+ghost use Rattle.kernel.specs.laws.Budget.{budget_with};
 ghost use Rattle.kernel.specs.Promises.{Ready, Means, LosesNothing};
 ghost use Rattle.kernel.specs.Refuting.{refutes_with};
 ghost use Rattle.kernel.specs.declared.types.StepFault.TheVariants.{NoMemory as Memory};
@@ -35,6 +36,7 @@ pub fn new_kernel<X: Refuter>(alloc: Global, model: &Model) -> Result<Kernel<X>,
 
 pub fn step<X: Refuter>(
     kernel: &mut Kernel<X>,
+    alloc: Global,
     model: &Model,
     line: Line<X::Witness>,
 ) -> Result<(), StepFault>
@@ -44,7 +46,7 @@ pub fn step<X: Refuter>(
     ensures memory { takes_memory line ≡ false → result ≡ Err Memory → ⊥ }
     ensures ready { Ready model.now kernel.new }
 {
-    kernel.step(model, line)
+    kernel.step(alloc, model, line)
 }
 
 pub fn verdict<X: Refuter>(kernel: &Kernel<X>) -> Verdict
@@ -138,6 +140,8 @@ pub fn loses_nothing<X: Refuter>()
         → Steps (refutes_with X.refuting) m (opening m) lines s → LosesNothing m s.found (open_regions s) }
     ensures verdict { (m : Data) (lines : List (Line X.Witness)) (s : LogState) → IsValid m
         → Steps (refutes_with X.refuting) m (opening m) lines s → Means m (verdict_of s) }
+    ensures few { (m : Data) (lines : List (Line X.Witness)) (s : LogState) → IsValid m
+        → Steps (refutes_with X.refuting) m (opening m) lines s → s.nodes < budget_with m (restarts_in lines) }
 {
     kernel::loses_nothing::<X>();
 }

@@ -8,7 +8,7 @@ ghost use Rattle.logtext.specs.Reading.{ReadsEntry};
 ghost use Rattle.logtext.specs.code.Promises.{SpellingsAreTold, SpellingsEndOnce};
 
 use kernel::Line;
-use logtext::{Entry, EntryFault, LogReader, LogWriter};
+use logtext::{Entry, EntryFault, LogReader, LogWriter, Version};
 use region::{Numbers, Refuter};
 use sched_base::{Desk, Failed};
 use std::alloc::Global;
@@ -19,11 +19,15 @@ pub fn new_writer() -> LogWriter
     LogWriter::new()
 }
 
-pub fn write_head<D: Desk>(writer: &mut LogWriter, desk: &mut D) -> Result<(), Failed>
+pub fn write_head<D: Desk>(
+    writer: &mut LogWriter,
+    version: Version,
+    desk: &mut D,
+) -> Result<(), Failed>
     requires { (D.state desk.old).created ≡ true }
-    ensures { Gathers Log head_text result writer.old writer.new (D.state desk.old) (D.state desk.new) }
+    ensures { Gathers Log (head_text version) result writer.old writer.new (D.state desk.old) (D.state desk.new) }
 {
-    writer.write_head(desk)
+    writer.write_head(version, desk)
 }
 
 pub fn write_line<W: Numbers, D: Desk>(

@@ -11,6 +11,7 @@ mod reader;
 mod solution;
 mod step;
 mod value;
+mod version;
 mod words;
 mod writer;
 
@@ -18,4 +19,5 @@ pub use entry::{Entry, EntryFault};
 pub use extra::{LogExtra, LogWitness};
 pub use laws::spelling_is_determined;
 pub use reader::LogReader;
+pub use version::Version;
 pub use writer::LogWriter;

@@ -8,6 +8,7 @@ use crate::entry::{Entry, EntryFault};
 use crate::solution::read_assignment;
 use crate::step::{read_witness, take_guess};
 use crate::value::is;
+use crate::version::Version;
 use kernel::Line;
 use region::Numbers;
 use std::alloc::Global;
@@ -88,6 +89,12 @@ fn read_step<W: Numbers>(
     if is(letter, b"v") {
         return read_sol(alloc, words);
     }
+    if is(letter, b"restart") {
+        if !words.is_done() {
+            return Err(EntryFault::Bad);
+        }
+        return Ok(Line::Restart);
+    }
     Err(EntryFault::Bad)
 }
 
@@ -103,13 +110,17 @@ pub fn read_words<W: Numbers>(
         return Err(EntryFault::Bad);
     };
     if is(first, b"schedlog") {
-        if !words.take(b"1") {
+        let version = if words.take(b"1") {
+            Version::One
+        } else if words.take(b"2") {
+            Version::Two
+        } else {
             return Err(EntryFault::Bad);
-        }
+        };
         if !words.is_done() {
             return Err(EntryFault::Bad);
         }
-        return Ok(Entry::Head);
+        return Ok(Entry::Head(version));
     }
     if is(first, b"end") {
         if !words.is_done() {

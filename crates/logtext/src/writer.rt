@@ -6,6 +6,7 @@ ghost use Rattle.logtext.specs.Spelling.{guess_words, assignment_words, line_tex
 ghost use Rattle.sched_base.specs.declared.desk.Port.TheVariants.{Log};
 ghost use Rattle.gatherer.specs.code.Gathering.{Gathers};
 
+use crate::version::Version;
 use gatherer::Gatherer;
 use itoa::{Buffer, Integer};
 use kernel::{Line, Witness};
@@ -126,11 +127,14 @@ impl LogWriter {
     }
 
     /// The first line.
-    pub fn write_head<D: Desk>(&mut self, desk: &mut D) -> Result<(), Failed>
+    pub fn write_head<D: Desk>(&mut self, version: Version, desk: &mut D) -> Result<(), Failed>
         requires { (D.state desk.old).created ≡ true }
-        ensures { Gathers Log head_text result self.old self.new (D.state desk.old) (D.state desk.new) }
+        ensures { Gathers Log (head_text version) result self.old self.new (D.state desk.old) (D.state desk.new) }
     {
-        self.put(b"schedlog 1\n", desk)
+        match version {
+            Version::One => self.put(b"schedlog 1\n", desk),
+            Version::Two => self.put(b"schedlog 2\n", desk),
+        }
     }
 
     /// A line that steps.
@@ -148,6 +152,7 @@ impl LogWriter {
             Line::Fail(w) => self.put_fail(w, desk),
             Line::Split(g) => self.put_split(*g, desk),
             Line::Sol(a) => self.put_sol(a, desk),
+            Line::Restart => self.put(b"restart\n", desk),
         }
     }
 

@@ -1,5 +1,5 @@
 -- What checking does to the desk, and what it says of the whole log.
-use Rattle.std.proofs.Common.{refl, ◌≡◌, ℕ, ◌+◌, ◌-◌, ◌<◌, ◌≤◌, min, Bool, false, Option, Some, None, Ok, Err, [], ◌∷◌, ◌++◌, length, take, drop, option_map, sym, ap, subst, ◌∙◌, arith, length-drop}
+use Rattle.std.proofs.Common.{refl, ◌≡◌, ℕ, ◌+◌, ◌-◌, ◌<◌, ◌≤◌, min, Bool, true, false, Option, Some, None, Ok, Err, [], ◌∷◌, ◌++◌, length, take, drop, option_map, sym, ap, subst, ◌∙◌, arith, length-drop}
 use Rattle.std.specs.Prelude.{IfSome}
 use Rattle.std.proofs.lemmas.List.{append-nil, take-append-drop}
 use Rattle.sched_base.specs.declared.desk.Inlet.TheVariants.{Log}
@@ -19,7 +19,7 @@ use Rattle.logtext.specs.Judgement.{BeginsWith, IsTooLong, log_limit, log_bytes}
 use Rattle.replay.specs.Replaying.{Replays, Judges, IsWhole, IsReplayed, BeginsAt, all_noted, lines_end, piece_limit}
 use Rattle.sched_base.specs.Calls.{ReadsAtMost}
 use Rattle.replay.specs.code.Pieces.{Fails, GoesOn, IsAtEnd, IsReading, ReadsOn, Holds}
-use Rattle.replay.specs.code.Turns.{FindsHead, IsBehindHead, IsWrong, is_head, fault_of_read}
+use Rattle.replay.specs.code.Turns.{FindsHead, IsBehindHead, IsWrong, version_in, fault_of_read}
 use Rattle.replay.proofs.Spelt.{Spellings, open_begins_none, none_with_more}
 use Rattle.replay.proofs.Reached.{Reached, reached_head, reached_longer, reached_more, entry_longer}
 use Rattle.replay.proofs.Judged.{NoHead, same_entry, accepted, accepted_at, Refused as DueAt}
@@ -27,18 +27,20 @@ use Rattle.replay.proofs.Logs.{plain_step}
 use Rattle.replay.proofs.Feeding.{reading_taken}
 use Rattle.replay.proofs.Ends.{LinesEnd, reached_lines, ended_lines, begins, stops}
 use Rattle.replay.proofs.Wholes.{wrong_whole, missing_whole, long_whole, behind_whole, accepted_whole, short_whole, head_whole}
-use Rattle.logtext.specs.Logs.{IsLog}
+use Rattle.logtext.specs.declared.version.Version.{Version}
+use Rattle.logtext.specs.Logs.{IsLog, may_hold}
 use Rattle.logtext.specs.Spelling.{head_text, line_text, lines_text}
 use Rattle.kernel.specs.declared.types.Line.{Line}
 use Rattle.region.specs.Looks.{Refuting}
 use Rattle.std.specs.Prelude.{ℤ, List}
 
 -- what was read of a log and judged right, and what a watcher is then
-pub record Judging {W S : Type 0} (refutes : Refuting W) (numbers : W → List ℤ) (valid : W → Bool) (noted : S → Line W → S) (before : S) (m : Data) (start now : State) (lines : Fed) (line : ℕ) (s : LogState) (after : S) : Type 0 where
+pub record Judging {W S : Type 0} (refutes : Refuting W) (numbers : W → List ℤ) (valid : W → Bool) (noted : S → Line W → S) (before : S) (m : Data) (version : Version) (start now : State) (lines : Fed) (line : ℕ) (s : LogState) (after : S) : Type 0 where
   pub fed : Bytes
   pub place : ℕ
   pub reading : IsReading start now fed place
   pub reached : Reached refutes numbers valid m fed place line s
+  pub of_version : reached.version ≡ version
   pub fits : Holds lines fed place
   pub watched : after ≡ all_noted noted before reached.lines
 
@@ -106,7 +108,7 @@ module _ {W S : Type 0} (refutes : Refuting W) (numbers : W → List ℤ) (valid
       let same : line - 1 + 1 ≡ line = omega (arith, so_far.number) in
       subst (λ k. IfSome (left_in Log start) (BeginsAt k place)) same (begins_end (line - 1) place start now fed reading (λ behind. reached_lines refutes numbers valid laws m fed behind place line s so_far))
 
-  pub refuses_head : (m : Data) (start now : State) (all : Bytes) → IsReading start now all 0 → length all ≤ log_limit → IfSome (left_in Log now) (λ behind. BeginsWith numbers valid (all ++ behind) Head → ⊥) → (after : S) → Replays refutes numbers valid noted m (Err (Refused 1 0)) before after start now
+  pub refuses_head : (m : Data) (start now : State) (all : Bytes) → IsReading start now all 0 → length all ≤ log_limit → IfSome (left_in Log now) (λ behind. NoHead refutes numbers valid (all ++ behind)) → (after : S) → Replays refutes numbers valid noted m (Err (Refused 1 0)) before after start now
   refuses_head m start now all reading few none =
       refuses m 1 start now all 0 reading (omega (arith, few))
       (whole_from (left_in Log start) (left_in Log now) (length all) all (λ behind. NoHead refutes numbers valid (all ++ behind)) (λ bs. DueAt refutes numbers valid m (log_bytes bs) 1) reading.took.left reading.took.told none (λ behind no. head_whole refutes numbers valid m (all ++ behind) no))
@@ -116,7 +118,7 @@ module _ {W S : Type 0} (refutes : Refuting W) (numbers : W → List ℤ) (valid
       from_start : (bytes : Bytes) (n : ℕ) → lines_end (0 + n) bytes ≡ 0 + lines_end n bytes
       from_start bytes n = let same : 0 + n ≡ n = omega arith in ap (λ k. lines_end k bytes) same ∙ omega arith
 
-  pub refuses_wrong : Spellings numbers valid → (m : Data) (start now : State) (fed : Bytes) (place line : ℕ) (s : LogState) → IsReading start now fed place → length fed ≤ log_limit → Reached refutes numbers valid m fed place line s → IsWrong refutes numbers valid m s (drop place fed) → (after : S) → Replays refutes numbers valid noted m (Err (Refused line place)) before after start now
+  pub refuses_wrong : Spellings numbers valid → (m : Data) (start now : State) (fed : Bytes) (place line : ℕ) (s : LogState) → IsReading start now fed place → length fed ≤ log_limit → (so_far : Reached refutes numbers valid m fed place line s) → IsWrong refutes numbers valid m so_far.version s (drop place fed) → (after : S) → Replays refutes numbers valid noted m (Err (Refused line place)) before after start now
   refuses_wrong laws m start now fed place line s reading few so_far wrong =
       refuses m line start now fed place reading (omega (arith, few))
       (for_whole start now fed place (λ bs. DueAt refutes numbers valid m (log_bytes bs) line) reading (λ behind. wrong_whole refutes numbers valid laws m fed behind place line s few so_far wrong))
@@ -159,7 +161,12 @@ module _ {W S : Type 0} (refutes : Refuting W) (numbers : W → List ℤ) (valid
   accepts laws m start now fed place line s reading few so_far at ended after watched = record {
     replayed = record { lines = so_far.lines; log = so_far.log; watched = watched };
     judgement = for_ended start now fed (length fed) (λ bs. Judges refutes numbers valid noted m (log_bytes bs) (Ok s) before after) reading ended (λ behind none. (
-      record { replayed = record { lines = so_far.lines; log = so_far.log; watched = watched }; text = (accepted_whole refutes numbers valid m fed behind place line s few none so_far at).text },
+      record {
+        replayed = record { lines = so_far.lines; log = so_far.log; watched = watched };
+        version = so_far.version;
+        suits = so_far.may;
+        text = (accepted_whole refutes numbers valid m fed behind place line s few none so_far at).text;
+      },
       (short_whole refutes numbers valid) laws m fed behind place line s few none so_far at,
     ));
     counts = reading.kept;
@@ -183,30 +190,30 @@ module _ {W S : Type 0} (refutes : Refuting W) (numbers : W → List ℤ) (valid
 
   -- The first line.
 
-  abbrev pub HeadAnswer : State → State → Fed → Bool → Type 0
-  HeadAnswer start now lines b = FindsHead numbers valid start now (Ok b) lines
+  abbrev pub HeadAnswer : State → State → Fed → Option Version → Type 0
+  HeadAnswer start now lines o = FindsHead numbers valid start now (Ok o) lines
 
-  pub head_found : Spellings numbers valid → (start now : State) (lines : Fed) (all : Bytes) (to : ℕ) (e : Entry W) → ReadsOn start now [] all 0 → IsEntryAt all 0 to e → Holds lines all to → HeadAnswer start now lines (is_head e)
-  head_found laws start now lines all to Head reads at fits = record { fed = all; place = to; reading = reading_taken refutes numbers valid laws start now all 0 to Head reads.reading at; head = at; fits = fits }
-  head_found laws start now lines all to (Step l) reads at fits = (all, reads, any_left (left_in Log now) (λ behind. NoHead refutes numbers valid (all ++ behind)) (λ behind begins. other (same_entry refutes numbers valid laws all behind 0 to (Step l) Head at begins)))
+  pub head_found : Spellings numbers valid → (start now : State) (lines : Fed) (all : Bytes) (to : ℕ) (e : Entry W) → ReadsOn start now [] all 0 → IsEntryAt all 0 to e → Holds lines all to → HeadAnswer start now lines (version_in e)
+  head_found laws start now lines all to (Head v) reads at fits = record { fed = all; place = to; reading = reading_taken refutes numbers valid laws start now all 0 to (Head v) reads.reading at; head = at; fits = fits }
+  head_found laws start now lines all to (Step l) reads at fits = (all, reads, any_left (left_in Log now) (λ behind. NoHead refutes numbers valid (all ++ behind)) (λ behind v begins. other v (same_entry refutes numbers valid laws all behind 0 to (Step l) (Head v) at begins)))
     where
-      other : Step l ≡ Head → ⊥
-      other h = cc
-  head_found laws start now lines all to Finish reads at fits = (all, reads, any_left (left_in Log now) (λ behind. NoHead refutes numbers valid (all ++ behind)) (λ behind begins. other (same_entry refutes numbers valid laws all behind 0 to Finish Head at begins)))
+      other : (v : Version) → Step l ≡ Head v → ⊥
+      other v h = cc
+  head_found laws start now lines all to Finish reads at fits = (all, reads, any_left (left_in Log now) (λ behind. NoHead refutes numbers valid (all ++ behind)) (λ behind v begins. other v (same_entry refutes numbers valid laws all behind 0 to Finish (Head v) at begins)))
     where
-      other : ◌≡◌ {A = Entry W} Finish Head → ⊥
-      other h = cc
+      other : (v : Version) → ◌≡◌ {A = Entry W} Finish (Head v) → ⊥
+      other v h = cc
 
   -- no first line stands in front of a wrong line, or of one that never ends
 
   pub no_head_wrong : Spellings numbers valid → (now : State) (all : Bytes) → (HasNoWholeLine all → ⊥) → BeginsWithNone numbers valid all → IfSome (left_in Log now) (λ behind. NoHead refutes numbers valid (all ++ behind))
-  no_head_wrong laws now all whole none = any_left (left_in Log now) (λ behind. NoHead refutes numbers valid (all ++ behind)) (λ behind. none_with_more numbers valid laws all behind whole none Head)
+  no_head_wrong laws now all whole none = any_left (left_in Log now) (λ behind. NoHead refutes numbers valid (all ++ behind)) (λ behind v. none_with_more numbers valid laws all behind whole none (Head v))
 
   pub no_head_missing : Spellings numbers valid → (now : State) (all : Bytes) → HasNoWholeLine all → IsAtEnd now → IfSome (left_in Log now) (λ behind. NoHead refutes numbers valid (all ++ behind))
   no_head_missing laws now all open_one ended = by_left (left_in Log now) ended
     where
       by_end : (behind : Bytes) → length behind ≡ 0 → NoHead refutes numbers valid (all ++ behind)
-      by_end [] none = subst (NoHead refutes numbers valid) (sym (append-nil all)) (open_begins_none numbers valid laws all Head open_one)
+      by_end [] none = subst (NoHead refutes numbers valid) (sym (append-nil all)) (λ v. open_begins_none numbers valid laws all (Head v) open_one)
       by_end (b ∷ bs) none = absurd (omega (arith, none))
 
       by_left : (o : Option Bytes) → IfSome o (λ bs. length bs ≡ 0) → IfSome o (λ behind. NoHead refutes numbers valid (all ++ behind))
@@ -224,13 +231,14 @@ module _ {W S : Type 0} (refutes : Refuting W) (numbers : W → List ℤ) (valid
 
   -- What is known between two lines.
 
-  pub judging_first : (m : Data) (start now : State) (lines : Fed) (s : LogState) → s ≡ opening m → IsBehindHead numbers valid start now lines → Judging refutes numbers valid noted before m start now lines 2 s before
+  pub judging_first : (m : Data) (version : Version) (start now : State) (lines : Fed) (s : LogState) → s ≡ opening m → IsBehindHead numbers valid version start now lines → Judging refutes numbers valid noted before m version start now lines 2 s before
   unfolding reached_head
-  judging_first m start now lines s is begun = subst (λ t. Judging refutes numbers valid noted before m start now lines 2 t before) (sym is) (record {
+  judging_first m version start now lines s is begun = subst (λ t. Judging refutes numbers valid noted before m version start now lines 2 t before) (sym is) (record {
     fed = begun.fed;
     place = begun.place;
     reading = begun.reading;
-    reached = reached_head refutes numbers valid m begun.fed begun.place begun.head;
+    reached = reached_head refutes numbers valid m begun.fed begun.place version begun.head;
+    of_version = refl;
     fits = begun.fits;
     watched = refl;
   })
@@ -239,41 +247,49 @@ module _ {W S : Type 0} (refutes : Refuting W) (numbers : W → List ℤ) (valid
   pub reached_on : (m : Data) (start now : State) (fed all : Bytes) (place line : ℕ) (s : LogState) → Reached refutes numbers valid m fed place line s → ReadsOn start now fed all place → Reached refutes numbers valid m all place line s
   reached_on m start now fed all place line s so_far reads =
       let longer = reached_longer refutes numbers valid m fed reads.more place line s so_far in record {
+        version = longer.version;
         lines = longer.lines;
+        may = longer.may;
         log = longer.log;
-        text = reads.longer ∙ longer.text ∙ ap (λ r. head_text ++ (lines_text numbers longer.lines ++ drop place r)) (sym reads.longer);
+        text = reads.longer ∙ longer.text ∙ ap (λ r. head_text longer.version ++ (lines_text numbers longer.lines ++ drop place r)) (sym reads.longer);
         number = longer.number;
         within = subst (λ bs. place ≤ length bs) (sym reads.longer) longer.within;
         few = longer.few;
         nodes = longer.nodes;
       }
 
+  pub same_version : (m : Data) (start now : State) (fed all : Bytes) (place line : ℕ) (s : LogState) (so_far : Reached refutes numbers valid m fed place line s) (reads : ReadsOn start now fed all place)
+      → (reached_on m start now fed all place line s so_far reads).version ≡ so_far.version
+  unfolding reached_on reached_longer
+  same_version m start now fed all place line s so_far reads = refl
+
   noted_more : (s : S) (ls : List (Line W)) (l : Line W) → all_noted noted s (ls ++ l ∷ []) ≡ noted (all_noted noted s ls) l
   noted_more s [] l = refl
   noted_more s (k ∷ ks) l = noted_more (noted s k) ks l
 
-  pub judging_more : Spellings numbers valid → (m : Data) (start earlier now : State) (old new : Fed) (all : Bytes) (to line : ℕ) (l : Line W) (s t : LogState) (mid after : S) (judging : Judging refutes numbers valid noted before m start earlier old line s mid) → ReadsOn start now judging.fed all judging.place → IsEntryAt all judging.place to (Step l)
-      → plain_step refutes numbers valid m l s ≡ Ok t → after ≡ noted mid l → Holds new all to → Judging refutes numbers valid noted before m start now new (line + 1) t after
+  pub judging_more : Spellings numbers valid → (m : Data) (version : Version) (start earlier now : State) (old new : Fed) (all : Bytes) (to line : ℕ) (l : Line W) (s t : LogState) (mid after : S) (judging : Judging refutes numbers valid noted before m version start earlier old line s mid) → ReadsOn start now judging.fed all judging.place → IsEntryAt all judging.place to (Step l)
+      → may_hold version l ≡ true → plain_step refutes numbers valid m l s ≡ Ok t → after ≡ noted mid l → Holds new all to → Judging refutes numbers valid noted before m version start now new (line + 1) t after
   unfolding reached_more reached_on reached_longer
-  judging_more laws m start earlier now old new all to line l s t mid after judging reads at goes notes fits = record {
+  judging_more laws m version start earlier now old new all to line l s t mid after judging reads at holds goes notes fits = record {
     fed = all;
     place = to;
     reading = reading_taken refutes numbers valid laws start now all judging.place to (Step l) reads.reading at;
-    reached = reached_more refutes numbers valid m all judging.place to line s t l (reached_on m start now judging.fed all judging.place line s judging.reached reads) at goes;
+    reached = reached_more refutes numbers valid m all judging.place to line s t l (reached_on m start now judging.fed all judging.place line s judging.reached reads) at (subst (λ v. may_hold v l ≡ true) (sym judging.of_version) holds) goes;
+    of_version = judging.of_version;
     fits = fits;
     watched = notes ∙ ap (λ x. noted x l) judging.watched ∙ sym (noted_more before judging.reached.lines l);
   }
 
   -- the last line, and nothing behind it
-  pub ends_well : Spellings numbers valid → (m : Data) (start earlier now last : State) (old : Fed) (all : Bytes) (to line : ℕ) (s : LogState) (mid : S) (judging : Judging refutes numbers valid noted before m start earlier old line s mid) → ReadsOn start now judging.fed all judging.place → IsEntryAt all judging.place to Finish
+  pub ends_well : Spellings numbers valid → (m : Data) (version : Version) (start earlier now last : State) (old : Fed) (all : Bytes) (to line : ℕ) (s : LogState) (mid : S) (judging : Judging refutes numbers valid noted before m version start earlier old line s mid) → ReadsOn start now judging.fed all judging.place → IsEntryAt all judging.place to Finish
       → GoesOn start last all to (Ok false) → Replays refutes numbers valid noted m (Ok s) before mid start last
   unfolding reached_on reached_longer
-  ends_well laws m start earlier now last old all to line s mid judging reads at goes =
+  ends_well laws m version start earlier now last old all to line s mid judging reads at goes =
       accepts laws m start last all judging.place line s (subst (IsReading start last all) goes.1 goes.0) reads.few (reached_on m start now judging.fed all judging.place line s judging.reached reads)
       (subst (λ n. IsEntryAt all judging.place n Finish) goes.1 at) goes.2 mid judging.watched
 
   -- the counts are small
-  pub room : (m : Data) (start now : State) (lines : Fed) (line : ℕ) (s : LogState) (after : S) → Judging refutes numbers valid noted before m start now lines line s after → lines.count ≤ log_limit → (s.nodes ≤ log_limit) × (line ≤ log_limit + 2)
-  room m start now lines line s after judging few =
+  pub room : (m : Data) (version : Version) (start now : State) (lines : Fed) (line : ℕ) (s : LogState) (after : S) → Judging refutes numbers valid noted before m version start now lines line s after → lines.count ≤ log_limit → (s.nodes ≤ log_limit) × (line ≤ log_limit + 2)
+  room m version start now lines line s after judging few =
       let size : lines.count ≡ length judging.fed = ap (λ f. f.count) judging.fits in
       (omega (arith, few, size, judging.reached.nodes, judging.reached.few, judging.reached.within), omega (arith, few, size, judging.reached.number, judging.reached.few, judging.reached.within))

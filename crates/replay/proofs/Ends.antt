@@ -14,9 +14,9 @@ use Rattle.replay.specs.Replaying.{BeginsAt, lines_end, piece_limit}
 use Rattle.replay.specs.code.Pieces.{IsNear}
 use Rattle.replay.proofs.Feeds.{has_no_feed}
 use Rattle.replay.proofs.Spelt.{Spellings, ends_once}
-use Rattle.replay.proofs.Logs.{IsPlainLine}
 use Rattle.replay.proofs.Reached.{Reached, line_apart}
-use Rattle.replay.proofs.Judged.{head_spelt, end_spelt}
+use Rattle.replay.proofs.Logs.{IsPlainLine, head_spelt}
+use Rattle.replay.proofs.Judged.{end_spelt}
 use Rattle.logtext.specs.Reading.{IsLineAt}
 use Rattle.logtext.specs.Logs.{IsLog}
 use Rattle.kernel.specs.declared.types.Line.{Line}
@@ -74,14 +74,15 @@ module _ {W : Type 0} (refutes : Refuting W) (numbers : W → List ℤ) (valid :
   reached_lines laws m fed behind place line s so_far n =
       let ls = so_far.lines in
       let rest : Bytes = drop place fed ++ behind in
-      let text : fed ++ behind ≡ head_text ++ (lines_text numbers ls ++ rest) =
-      ap (λ t. t ++ behind) so_far.text ∙ append_assoc head_text (lines_text numbers ls ++ drop place fed) behind ∙ ap (λ t. head_text ++ t) (append_assoc (lines_text numbers ls) (drop place fed) behind) in
-      let once = ends_once numbers valid laws head_text Head (head_spelt refutes numbers valid) in
-      let head : LinesEnd 1 (head_text ++ (lines_text numbers ls ++ rest)) (length head_text) (lines_text numbers ls ++ rest) = λ k. ap (λ j. lines_end j (head_text ++ (lines_text numbers ls ++ rest))) (let one : 1 + k ≡ suc k = omega arith in one) ∙ text_end head_text (lines_text numbers ls ++ rest) k once in
-      let long : length head_text + length (lines_text numbers ls) ≡ place =
-      omega (arith, ap length so_far.text, length-append head_text (lines_text numbers ls ++ drop place fed), length-append (lines_text numbers ls) (drop place fed), length-drop place fed, so_far.within) in
+      let top : Bytes = head_text so_far.version in
+      let text : fed ++ behind ≡ top ++ (lines_text numbers ls ++ rest) =
+      ap (λ t. t ++ behind) so_far.text ∙ append_assoc top (lines_text numbers ls ++ drop place fed) behind ∙ ap (λ t. top ++ t) (append_assoc (lines_text numbers ls) (drop place fed) behind) in
+      let once = ends_once numbers valid laws top (Head so_far.version) (head_spelt refutes numbers valid so_far.version) in
+      let head : LinesEnd 1 (top ++ (lines_text numbers ls ++ rest)) (length top) (lines_text numbers ls ++ rest) = λ k. ap (λ j. lines_end j (top ++ (lines_text numbers ls ++ rest))) (let one : 1 + k ≡ suc k = omega arith in one) ∙ text_end top (lines_text numbers ls ++ rest) k once in
+      let long : length top + length (lines_text numbers ls) ≡ place =
+      omega (arith, ap length so_far.text, length-append top (lines_text numbers ls ++ drop place fed), length-append (lines_text numbers ls) (drop place fed), length-drop place fed, so_far.within) in
       let number : line - 1 + n ≡ 1 + length ls + n = omega (arith, so_far.number) in
-      ap (λ j. lines_end j (fed ++ behind)) number ∙ ap (lines_end (1 + length ls + n)) text ∙ lines_all laws 1 (head_text ++ (lines_text numbers ls ++ rest)) rest (length head_text) ls so_far.log.each head n ∙ ap (λ p. p + lines_end n rest) long
+      ap (λ j. lines_end j (fed ++ behind)) number ∙ ap (lines_end (1 + length ls + n)) text ∙ lines_all laws 1 (top ++ (lines_text numbers ls ++ rest)) rest (length top) ls so_far.log.each head n ∙ ap (λ p. p + lines_end n rest) long
 
   -- and with the last line
   pub ended_lines : Spellings numbers valid → (m : Data) (fed behind : Bytes) (place to line : ℕ) (s : LogState) → Reached refutes numbers valid m fed place line s → IsEntryAt fed place to Finish → LinesEnd line (fed ++ behind) to (drop to fed ++ behind)

@@ -19,14 +19,15 @@ use Rattle.replay.specs.code.Turns.{Shows, Turns}
 use Rattle.replay.proofs.Spelt.{Spellings}
 use Rattle.replay.proofs.Judged.{step_wrong}
 use Rattle.replay.proofs.Feeding.{short_of}
+use Rattle.logtext.specs.declared.version.Version.{Version}
 
 module _ {W S : Type 0} (refutes : Refuting W) (numbers : W → List ℤ) (valid : W → Bool) (noted : S → Line W → S) where
-  pub shown : Spellings numbers valid → (m : Data) (start now : State) (fed : Bytes) (place : ℕ) (lines : Fed) (s t : LogState) (before after : S) (l : Line W) (r : Result Turn ReadError) → FindsLine numbers valid start now fed place (Ok (found.Line (Step l))) lines
-      → Shows refutes noted m l r s t before after → Turns refutes numbers valid noted m start now fed place r lines s t before after
-  shown laws m start now fed place lines s t before after l (Ok Stepped) at shows = (at.0, at.1, (at.2.0, l, at.2.1, shows.0, shows.1, at.2.2))
-  shown laws m start now fed place lines s t before after l (Ok Wrong) at shows = (at.0, at.1, step_wrong refutes numbers valid laws m s at.0 place at.2.0 l at.2.1 shows)
-  shown laws m start now fed place lines s t before after l (Ok Ended) at shows = absurd shows
-  shown laws m start now fed place lines s t before after l (Ok Missing) at shows = absurd shows
-  shown laws m start now fed place lines s t before after l (Ok Beyond) at shows = absurd shows
-  shown laws m start now fed place lines s t before after l (Err Failed) at shows = absurd shows
-  shown laws m start now fed place lines s t before after l (Err Memory) at shows = (short_of refutes numbers valid start now at.0 place log_limit at.1.reading at.1.few, at.1.reading.kept)
+  pub shown : Spellings numbers valid → (m : Data) (version : Version) (start now : State) (fed : Bytes) (place : ℕ) (lines : Fed) (s t : LogState) (before after : S) (l : Line W) (r : Result Turn ReadError) → FindsLine numbers valid start now fed place (Ok (found.Line (Step l))) lines
+      → Shows refutes noted m version l r s t before after → Turns refutes numbers valid noted m version start now fed place r lines s t before after
+  shown laws m version start now fed place lines s t before after l (Ok Stepped) at shows = (at.0, at.1, (at.2.0, l, at.2.1, shows.0, shows.1, shows.2, at.2.2))
+  shown laws m version start now fed place lines s t before after l (Ok Wrong) at shows = (at.0, at.1, step_wrong refutes numbers valid laws m version s at.0 place at.2.0 l at.2.1 shows)
+  shown laws m version start now fed place lines s t before after l (Ok Ended) at shows = absurd shows
+  shown laws m version start now fed place lines s t before after l (Ok Missing) at shows = absurd shows
+  shown laws m version start now fed place lines s t before after l (Ok Beyond) at shows = absurd shows
+  shown laws m version start now fed place lines s t before after l (Err Failed) at shows = absurd shows
+  shown laws m version start now fed place lines s t before after l (Err Memory) at shows = (short_of refutes numbers valid start now at.0 place log_limit at.1.reading at.1.few, at.1.reading.kept)

@@ -16,6 +16,7 @@ use Rattle.replay.proofs.Feeds.{has_no_feed}
 use Rattle.replay.proofs.Spelt.{Spellings, Spelt}
 use Rattle.replay.proofs.Reached.{Reached, reached_longer, entry_longer}
 use Rattle.replay.proofs.Judged.{Refused, NoHead, accepted, not_too_long, refused_behind, refused_head, refused_missing, refused_wrong, too_long}
+use Rattle.logtext.specs.declared.version.Version.{Version}
 use Rattle.logtext.specs.Logs.{IsLog}
 use Rattle.logtext.specs.Spelling.{line_text, lines_text}
 use Rattle.kernel.specs.declared.types.Line.{Line}
@@ -32,10 +33,10 @@ module _ {W : Type 0} (refutes : Refuting W) (numbers : W → List ℤ) (valid :
     short = omega (arith, open_one.short, length-append rest more);
   }
 
-  wrong_longer : (m : Data) (s : LogState) (rest more : Bytes) → IsWrong refutes numbers valid m s rest → IsWrong refutes numbers valid m s (rest ++ more)
-  wrong_longer m s rest more wrong = record {
+  wrong_longer : (m : Data) (v : Version) (s : LogState) (rest more : Bytes) → IsWrong refutes numbers valid m v s rest → IsWrong refutes numbers valid m v s (rest ++ more)
+  wrong_longer m v s rest more wrong = record {
     whole = λ open_one. wrong.whole (front_open rest more open_one);
-    stuck = λ behind. subst (CantGoOn refutes numbers valid m s) (sym (append_assoc rest more behind)) (wrong.stuck (more ++ behind));
+    stuck = λ behind. subst (CantGoOn refutes numbers valid m v s) (sym (append_assoc rest more behind)) (wrong.stuck (more ++ behind));
   }
 
   -- the bytes up to the limit
@@ -59,11 +60,12 @@ module _ {W : Type 0} (refutes : Refuting W) (numbers : W → List ℤ) (valid :
   whole_size : (fed behind : Bytes) → length fed ≤ log_limit + 1 → length fed ≤ length (log_bytes (fed ++ behind))
   whole_size fed behind few = omega (arith, few, length-take (log_limit + 1) (fed ++ behind), length-append fed behind)
 
-  pub wrong_whole : Spellings numbers valid → (m : Data) (fed behind : Bytes) (place line : ℕ) (s : LogState) → length fed ≤ log_limit → Reached refutes numbers valid m fed place line s → IsWrong refutes numbers valid m s (drop place fed) → Refused refutes numbers valid m (log_bytes (fed ++ behind)) line
+  pub wrong_whole : Spellings numbers valid → (m : Data) (fed behind : Bytes) (place line : ℕ) (s : LogState) → length fed ≤ log_limit → (so_far : Reached refutes numbers valid m fed place line s) → IsWrong refutes numbers valid m so_far.version s (drop place fed) → Refused refutes numbers valid m (log_bytes (fed ++ behind)) line
+  unfolding reached_longer
   wrong_whole laws m fed behind place line s few so_far wrong =
       let more : Bytes = take (log_limit - length fed) behind in
       (refused_wrong refutes numbers valid) laws m (log_bytes (fed ++ behind)) (fed ++ more) (cut_is fed behind few) place line s (reached_longer refutes numbers valid m fed more place line s so_far)
-      (subst (IsWrong refutes numbers valid m s) (sym (drop-append-le place fed more so_far.within)) (wrong_longer m s (drop place fed) more wrong))
+      (subst (IsWrong refutes numbers valid m so_far.version s) (sym (drop-append-le place fed more so_far.within)) (wrong_longer m so_far.version s (drop place fed) more wrong))
 
   pub missing_whole : Spellings numbers valid → (m : Data) (fed behind : Bytes) (place line : ℕ) (s : LogState) → length fed < log_limit → length behind ≡ 0 → Reached refutes numbers valid m fed place line s → HasNoWholeLine (drop place fed) → Refused refutes numbers valid m (log_bytes (fed ++ behind)) line
   missing_whole laws m fed behind place line s few none so_far open_one =
@@ -97,4 +99,4 @@ module _ {W : Type 0} (refutes : Refuting W) (numbers : W → List ℤ) (valid :
   head_whole m bytes none =
       let cut : Bytes = take log_limit (log_bytes bytes) in
       let same : cut ++ drop log_limit bytes ≡ bytes = ap (λ t. t ++ drop log_limit bytes) (take-take log_limit (log_limit + 1) bytes (omega arith)) ∙ take-append-drop log_limit bytes in
-      (refused_head refutes numbers valid) m (log_bytes bytes) cut refl (λ begins. none (subst (λ t. BeginsWith numbers valid t Head) same (begins_longer cut (drop log_limit bytes) Head begins)))
+      (refused_head refutes numbers valid) m (log_bytes bytes) cut refl (λ v begins. none v (subst (λ t. BeginsWith numbers valid t (Head v)) same (begins_longer cut (drop log_limit bytes) (Head v) begins)))

@@ -9,7 +9,8 @@ use Rattle.kernel.specs.Steps.{LogState, verdict_of}
 use Rattle.kernel.specs.Promises.{Means}
 use Rattle.textline.specs.Lines.{Bytes}
 use Rattle.logtext.specs.Spelling.{log_text}
-use Rattle.logtext.specs.Logs.{IsLog}
+use Rattle.logtext.specs.declared.version.Version.{Version}
+use Rattle.logtext.specs.Logs.{IsLog, MayHold}
 use Rattle.logtext.specs.Judgement.{IsAccepted, IsRefused, IsTooLong, log_limit}
 
 -- bytes are accepted with one verdict and one count, or refused at one line, and not both
@@ -28,7 +29,7 @@ NeverTooLong refutes numbers valid = (m : Data) (bytes : Bytes) (v : Verdict) (i
 
 -- a log that is written whole is accepted with what it has shown
 abbrev pub WholeLogIsAccepted : {W : Type 0} → Refuting W → (W → List ℤ) → (W → Bool) → Type 0
-WholeLogIsAccepted {W} refutes numbers valid = (m : Data) (lines : List (Line W)) (s : LogState) → IsLog refutes numbers valid m lines s → IsAccepted refutes numbers valid m (log_text numbers lines) (verdict_of s) s.nodes
+WholeLogIsAccepted {W} refutes numbers valid = (m : Data) (version : Version) (lines : List (Line W)) (s : LogState) → MayHold version lines → IsLog refutes numbers valid m lines s → IsAccepted refutes numbers valid m (log_text numbers version lines) (verdict_of s) s.nodes
 
 -- a verdict that is accepted means what it says
 abbrev pub AcceptedMeans : {W : Type 0} → Refuting W → (W → List ℤ) → (W → Bool) → Type 0

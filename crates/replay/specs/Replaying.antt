@@ -12,7 +12,8 @@ use Rattle.region.specs.Looks.{Refuting}
 use Rattle.kernel.specs.declared.types.Line.{Line}
 use Rattle.kernel.specs.Steps.{LogState}
 use Rattle.logtext.specs.Spelling.{log_text}
-use Rattle.logtext.specs.Logs.{IsLog}
+use Rattle.logtext.specs.declared.version.Version.{Version}
+use Rattle.logtext.specs.Logs.{IsLog, MayHold}
 use Rattle.logtext.specs.Judgement.{IsRefused, IsTooLong, log_limit, log_bytes}
 
 -- what a watcher is after all lines
@@ -29,7 +30,9 @@ pub record IsReplayed {W S : Type 0} (refutes : Refuting W) (numbers : W → Lis
 -- and they are all of the bytes
 pub record IsWhole {W S : Type 0} (refutes : Refuting W) (numbers : W → List ℤ) (valid : W → Bool) (noted : S → Line W → S) (m : Data) (bytes : Bytes) (state : LogState) (before after : S) : Type 0 where
   pub replayed : IsReplayed refutes numbers valid noted m state before after
-  pub text : bytes ≡ log_text numbers replayed.lines
+  pub version : Version
+  pub suits : MayHold version replayed.lines
+  pub text : bytes ≡ log_text numbers version replayed.lines
 
 -- the answer is the judgement of the bytes
 abbrev pub Judges : {W S : Type 0} → Refuting W → (W → List ℤ) → (W → Bool) → (S → Line W → S) → Data → Bytes → Result LogState ReplayFault → S → S → Type 0

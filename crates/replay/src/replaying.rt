@@ -5,16 +5,17 @@ ghost use Rattle.kernel.specs.Promises.{Ready};
 ghost use Rattle.logtext.specs.declared.entry.Entry.TheVariants.{Head};
 ghost use Rattle.log_lines.specs.code.Pieces.{nothing_fed};
 ghost use Rattle.logtext.specs.Judgement.{log_limit};
+ghost use Rattle.logtext.specs.Logs.{may_hold};
 ghost use Rattle.replay.specs.Replaying.{Replays, Ends};
 ghost use Rattle.replay.specs.code.Pieces.{IsReading, Holds};
-ghost use Rattle.replay.specs.code.Turns.{FindsHead, IsBehindHead, Tries, Shows, Turns, is_head};
+ghost use Rattle.replay.specs.code.Turns.{FindsHead, IsBehindHead, Tries, Shows, Turns, version_in};
 
 use crate::fault::ReplayFault;
 use crate::reading::{Found, goes_on, next_line};
 use crate::watcher::Watcher;
 use kernel::{Kernel, Line, StepFault};
 use log_lines::LineReader;
-use logtext::{Entry, spelling_is_determined};
+use logtext::{Entry, Version, spelling_is_determined};
 use region::Refuter;
 use sched_base::{Desk, Inlet, NoMemory, ReadError};
 use sched_model::Model;
@@ -42,23 +43,24 @@ fn zeroed(alloc: Global) -> Result<Vec<u8>, NoMemory>
     Ok(vec![in alloc; 0; PIECE]?)
 }
 
-fn is_head<W>(entry: &Entry<W>) -> bool
-    ensures { result ≡ is_head entry.now }
+/// The version that a first line tells.
+fn version_in<W>(entry: &Entry<W>) -> Option<Version>
+    ensures { result ≡ version_in entry.now }
 {
     match entry {
-        Entry::Head => true,
-        Entry::Step(_) => false,
-        Entry::Finish => false,
+        Entry::Head(version) => Some(*version),
+        Entry::Step(_) => None,
+        Entry::Finish => None,
     }
 }
 
-/// Whether the log begins with the first line, which it takes.
+/// The version of the first line, if the log begins with one, which is taken then.
 fn take_head<X: Refuter, D: Desk>(
     alloc: Global,
     desk: &mut D,
     buffer: &mut [u8],
     lines: &mut LineReader<X>,
-) -> Result<bool, ReadError>
+) -> Result<Option<Version>, ReadError>
     requires buffer { 0 < length buffer.old }
     requires small { length buffer.old ≤ 65536 }
     requires opened { is_opened Inlet.Log (D.state desk.old) ≡ true }
@@ -69,15 +71,26 @@ fn take_head<X: Refuter, D: Desk>(
 {
     spelling_is_determined::<X>();
     match next_line(alloc, desk, buffer, lines)? {
-        Found::Line(entry) => Ok(is_head(&entry)),
-        Found::Wrong => Ok(false),
-        Found::Missing => Ok(false),
-        Found::Beyond => Ok(false),
+        Found::Line(entry) => Ok(version_in(&entry)),
+        Found::Wrong => Ok(None),
+        Found::Missing => Ok(None),
+        Found::Beyond => Ok(None),
+    }
+}
+
+/// Whether a log of this version may hold the line.
+fn may_hold<W>(version: Version, line: &Line<W>) -> bool
+    ensures { result ≡ may_hold version line.now }
+{
+    match version {
+        Version::One => !matches!(line, Line::Restart),
+        Version::Two => true,
     }
 }
 
 /// Whether the line steps. One that doesn't changes nothing.
 fn try_line<X: Refuter>(
+    alloc: Global,
     model: &Model,
     kernel: &mut Kernel<X>,
     line: Line<X::Witness>,
@@ -87,39 +100,45 @@ fn try_line<X: Refuter>(
     ensures tries { Tries X.refuting model.now line result kernel.old kernel.new }
     ensures ready { Ready model.now kernel.new }
 {
-    match kernel.step(model, line) {
+    match kernel.step(alloc, model, line) {
         Ok(()) => Ok(true),
         Err(StepFault::NoMemory) => Err(NoMemory),
         Err(_) => Ok(false),
     }
 }
 
-/// Shows the line to the watcher, and steps it.
+/// Shows the line to the watcher, and steps it, where a log of this version may hold it.
 fn show_line<X: Refuter, V: Watcher<X>>(
+    alloc: Global,
     model: &Model,
     kernel: &mut Kernel<X>,
     watcher: &mut V,
+    version: Version,
     line: Line<X::Witness>,
 ) -> Result<Turn, ReadError>
     requires nodes { kernel.old.nodes < 2 ^ 63 }
     requires ready { Ready model.now kernel.old }
-    ensures shows { Shows X.refuting V.noted model.now line result kernel.old kernel.new watcher.old watcher.new }
+    ensures shows { Shows X.refuting V.noted model.now version line result kernel.old kernel.new watcher.old watcher.new }
     ensures ready { Ready model.now kernel.new }
 {
+    if !may_hold(version, &line) {
+        return Ok(Turn::Wrong);
+    }
     if watcher.note(&line).is_err() {
         return Err(ReadError::NoMemory);
     }
-    match try_line(model, kernel, line) {
+    match try_line(alloc, model, kernel, line) {
         Ok(true) => Ok(Turn::Stepped),
         Ok(false) => Ok(Turn::Wrong),
         Err(_) => Err(ReadError::NoMemory),
     }
 }
 
-/// Reads the next line, and steps it.
+/// Reads the next line of a log of this version, and steps it.
 fn take_line<X: Refuter, V: Watcher<X>, D: Desk>(
     alloc: Global,
     model: &Model,
+    version: Version,
     desk: &mut D,
     buffer: &mut [u8],
     lines: &mut LineReader<X>,
@@ -132,7 +151,7 @@ fn take_line<X: Refuter, V: Watcher<X>, D: Desk>(
     requires limit { lines.old.count ≤ log_limit }
     requires nodes { kernel.old.nodes < 2 ^ 63 }
     requires ready { Ready model.now kernel.old }
-    ensures turns { (start : State) (fed : Bytes) (place : ℕ) → IsReading start (D.state desk.old) fed place → Holds lines.old fed place → Turns X.refuting X.Witness.numbers X.Witness.is_valid V.noted model.now start (D.state desk.new) fed place result lines.new kernel.old kernel.new watcher.old watcher.new }
+    ensures turns { (start : State) (fed : Bytes) (place : ℕ) → IsReading start (D.state desk.old) fed place → Holds lines.old fed place → Turns X.refuting X.Witness.numbers X.Witness.is_valid V.noted model.now version start (D.state desk.new) fed place result lines.new kernel.old kernel.new watcher.old watcher.new }
     ensures opened { IfOk result (λ _. is_opened Inlet.Log (D.state desk.new) ≡ true) }
     ensures limit { IfOk result (λ _. lines.new.count ≤ log_limit) }
     ensures ready { Ready model.now kernel.new }
@@ -145,16 +164,17 @@ fn take_line<X: Refuter, V: Watcher<X>, D: Desk>(
         Found::Beyond => return Ok(Turn::Beyond),
     };
     match entry {
-        Entry::Head => Ok(Turn::Wrong),
-        Entry::Step(line) => show_line(model, kernel, watcher, line),
+        Entry::Head(_) => Ok(Turn::Wrong),
+        Entry::Step(line) => show_line(alloc, model, kernel, watcher, version, line),
         Entry::Finish => Ok(Turn::Ended),
     }
 }
 
-/// Reads and steps the lines of a log whose first line was taken.
+/// Reads and steps the lines of a log of this version, whose first line was taken.
 fn replay_lines<X: Refuter, V: Watcher<X>, D: Desk>(
     alloc: Global,
     model: &Model,
+    version: Version,
     desk: &mut D,
     buffer: &mut [u8],
     lines: &mut LineReader<X>,
@@ -165,17 +185,17 @@ fn replay_lines<X: Refuter, V: Watcher<X>, D: Desk>(
     requires small { length buffer.old ≤ 65536 }
     requires opened { is_opened Inlet.Log (D.state desk.old) ≡ true }
     requires limit { lines.old.count ≤ log_limit }
-    requires begun { (start : State) × IsBehindHead X.Witness.numbers X.Witness.is_valid start (D.state desk.old) lines.old }
+    requires begun { (start : State) × IsBehindHead X.Witness.numbers X.Witness.is_valid version start (D.state desk.old) lines.old }
     requires opening { kernel.old ≡ opening model.now }
     requires ready { Ready model.now kernel.old }
-    ensures ends { (start : State) → IsBehindHead X.Witness.numbers X.Witness.is_valid start (D.state desk.old) lines.old → Ends X.refuting X.Witness.numbers X.Witness.is_valid V.noted model.now result kernel.new watcher.old watcher.new start (D.state desk.new) }
+    ensures ends { (start : State) → IsBehindHead X.Witness.numbers X.Witness.is_valid version start (D.state desk.old) lines.old → Ends X.refuting X.Witness.numbers X.Witness.is_valid V.noted model.now result kernel.new watcher.old watcher.new start (D.state desk.new) }
     ensures ready { Ready model.now kernel.new }
 {
     spelling_is_determined::<X>();
     let mut line: u64 = 2;
     'lines: loop {
         let at = lines.place() as u128;
-        match take_line(alloc, model, desk, buffer, lines, kernel, watcher)? {
+        match take_line(alloc, model, version, desk, buffer, lines, kernel, watcher)? {
             Turn::Stepped => line += 1,
             Turn::Ended => {
                 let behind = lines.place() as u128;
@@ -211,13 +231,15 @@ pub fn replay<X: Refuter, V: Watcher<X>, D: Desk>(
 {
     let mut buffer = zeroed(alloc)?;
     let mut lines = LineReader::<X>::new(alloc);
-    if !take_head(alloc, desk, &mut buffer, &mut lines)? {
-        return Err(ReplayFault::Refused { line: 1, at: 0 });
-    }
+    let version = match take_head(alloc, desk, &mut buffer, &mut lines)? {
+        Some(version) => version,
+        None => return Err(ReplayFault::Refused { line: 1, at: 0 }),
+    };
     let mut kernel = Kernel::<X>::new(alloc, model)?;
     replay_lines(
         alloc,
         model,
+        version,
         desk,
         &mut buffer,
         &mut lines,

@@ -3,7 +3,7 @@ use Rattle.std.specs.Prelude.{◌≡◌, ◌⊎◌, ℕ, ◌+◌, ◌<◌, ◌�
 use Rattle.sched_model.specs.Data.{Data}
 use Rattle.region.specs.declared.types.Guess.{Guess}
 use Rattle.region.specs.Cells.{Region}
-use Rattle.kernel.specs.declared.types.Line.TheVariants.{Derive, Fail, Split, Sol}
+use Rattle.kernel.specs.declared.types.Line.TheVariants.{Derive, Fail, Split, Sol, Restart}
 use Rattle.kernel.specs.Agenda.{first_in}
 use Rattle.kernel.specs.Steps.{LogState, opening, best_of}
 use Rattle.logtext.specs.Logs.{PlainLine, IsPlainLog}
@@ -17,12 +17,14 @@ pub record SplitsWell (m : Data) (best : Option ℤ) (n : ℕ) (r : Region) (g :
   pub cuts : IsCut r g
   pub spent : IsQuietRegion m r best ⊎ (n ≡ cap_at r)
 
--- a line of the node whose region this is, at which n lines derived before it: one that derives is one of at most as many
+-- a line of the node whose region this is, at which n lines derived before it: one that derives is one of at most as many, and
+-- none begins anew
 abbrev pub IsWellPut : Data → Option ℤ → ℕ → PlainLine → Option Region → Type 0
 IsWellPut m best n (Derive g w) (Some r) = n < cap_at r
 IsWellPut m best n (Split g) (Some r) = SplitsWell m best n r g
 IsWellPut m best n (Fail w) (Some r) = Unit {0}
 IsWellPut m best n (Sol a) (Some r) = Unit {0}
+IsWellPut m best n Restart o = ⊥
 IsWellPut m best n line None = Unit {0}
 
 -- how many lines derived at the node that is open after a line; every line but those ends its node
@@ -31,6 +33,7 @@ derived_after (Derive g w) n = n + 1
 derived_after (Fail w) n = 0
 derived_after (Split g) n = 0
 derived_after (Sol a) n = 0
+derived_after Restart n = 0
 
 -- from this state on, at whose node n lines derived, each of these lines is well put
 abbrev pub WellPutFrom : Data → ℕ → LogState → List PlainLine → Type 0

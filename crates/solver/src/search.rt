@@ -406,7 +406,7 @@ impl<P: Propagator> Search<P> {
                 Ok(true)
             }
             Line::Sol(a) => Ok(self.keep(model, a)),
-            Line::Fail(_) | Line::Derive(..) => Ok(self.back()),
+            Line::Fail(_) | Line::Derive(..) | Line::Restart => Ok(self.back()),
         }
     }
 

@@ -13,7 +13,7 @@ use crate::preparing::prepare;
 use crate::state::Search;
 use engine::{Engine, Propagator};
 use kernel::loses_nothing;
-use logtext::{LogExtra, LogWriter};
+use logtext::{LogExtra, LogWriter, Version};
 use propagators::{covers, start};
 use sched_base::Desk;
 use sched_model::{Model, Solved};
@@ -38,7 +38,7 @@ fn solve_with<P: Propagator, D: Desk>(
 {
     let mut search = Search::new(alloc, model, engine, hints)?;
     let mut writer = LogWriter::new();
-    writer.write_head(desk)?;
+    writer.write_head(Version::One, desk)?;
     let mut lines = LogLines { writer, desk };
     let ended = search.run(alloc, model, nodes, &mut lines);
     let LogLines { mut writer, desk } = lines;

@@ -22,7 +22,7 @@ fn fault_of(
     line: Line<LogWitness>,
 ) -> Result<Option<StepFault>, NoMemory> {
     let mut kernel = Kernel::<LogExtra>::new(alloc, model)?;
-    Ok(kernel.step(model, line).err())
+    Ok(kernel.step(alloc, model, line).err())
 }
 
 /// Whether the witness of a line refutes, under the guess of the line where it has one.

@@ -10,7 +10,7 @@ use Rattle.region.specs.code.Spelled.{AreSmall}
 use Rattle.kernel.specs.declared.types.Witness.{Witness}
 use Rattle.kernel.specs.declared.types.Witness.TheVariants.{Basic, Hier, Seq, Cumul, State, Extra}
 use Rattle.kernel.specs.declared.types.Line.{Line}
-use Rattle.kernel.specs.declared.types.Line.TheVariants.{Derive, Fail, Split, Sol}
+use Rattle.kernel.specs.declared.types.Line.TheVariants.{Derive, Fail, Split, Sol, Restart}
 use Rattle.refute_basic.specs.Witness.{numbers_of, is_valid}
 use Rattle.refute_basic.specs.laws.Spelling.{few_numbers, small_numbers, told_apart}
 use Rattle.refute_hier.specs.Witness.{numbers_of as hier_numbers, is_valid as is_valid_hier}
@@ -27,7 +27,9 @@ use Rattle.textline.specs.Words.{are_words}
 use Rattle.textline.specs.laws.Lines.{both_true, true_both, line_told, one_word}
 use Rattle.logtext.specs.declared.entry.Entry.{Entry}
 use Rattle.logtext.specs.declared.entry.Entry.TheVariants.{Head, Step, Finish}
-use Rattle.logtext.specs.Spelling.{guess_words, basic_kinds, hier_kinds, seq_kinds, cumul_kinds, state_kinds, kind_words, witness_words, assignment_words, log_version, line_words}
+use Rattle.logtext.specs.declared.version.Version.{Version}
+use Rattle.logtext.specs.declared.version.Version.TheVariants.{One, Two}
+use Rattle.logtext.specs.Spelling.{guess_words, basic_kinds, hier_kinds, seq_kinds, cumul_kinds, state_kinds, kind_words, witness_words, assignment_words, head_words, line_words}
 use Rattle.logtext.specs.Entries.{entry_text, entry_words, is_fit_entry}
 use Rattle.logtext.specs.laws.Leads.{tag, behind}
 use Rattle.logtext.specs.laws.Told.{moments_told, guess_told, assignment_told}
@@ -89,25 +91,38 @@ line_words_told numbers valid laws (Fail v) (Fail w) ha hb e = ap Fail (witness_
 line_words_told numbers valid laws (Split g) (Split h) ha hb e =
     ap Split (guess_told g h [] [] ha hb (append-nil (guess_words g) ∙ behind _ _ _ _ e ∙ sym (append-nil (guess_words h)))).0
 line_words_told numbers valid laws (Sol a) (Sol b) ha hb e = ap Sol (assignment_told a b ha hb (behind _ _ _ _ e))
+line_words_told numbers valid laws Restart Restart ha hb e = refl
 line_words_told numbers valid laws _ _ ha hb e = absurd (omega (arith, ap tag e))
 
--- a line that steps begins with one letter
-pub letter : {W : Type 0} → (numbers : W → List ℤ) (l : Line W) → tag (line_words numbers l) < 256
-letter numbers (Derive g w) = omega arith
-letter numbers (Fail w) = omega arith
-letter numbers (Split g) = omega arith
-letter numbers (Sol a) = omega arith
+-- a line that steps begins with a word that neither the first nor the last line of a log begins with
+pub starts_alone : {W : Type 0} → (numbers : W → List ℤ) (l : Line W) → (tag (line_words numbers l) ≡ tag (head_words One) → ⊥) × (tag (line_words numbers l) ≡ tag (codes "end" ∷ []) → ⊥)
+starts_alone numbers (Derive g w) = (λ h. absurd (omega (arith, h)), λ h. absurd (omega (arith, h)))
+starts_alone numbers (Fail w) = (λ h. absurd (omega (arith, h)), λ h. absurd (omega (arith, h)))
+starts_alone numbers (Split g) = (λ h. absurd (omega (arith, h)), λ h. absurd (omega (arith, h)))
+starts_alone numbers (Sol a) = (λ h. absurd (omega (arith, h)), λ h. absurd (omega (arith, h)))
+starts_alone numbers Restart = (λ h. absurd (omega (arith, h)), λ h. absurd (omega (arith, h)))
+
+head_tag : (v : Version) → tag (head_words v) ≡ tag (head_words One)
+head_tag One = refl
+head_tag Two = refl
+
+-- two versions differ in their digit
+version_told : (v w : Version) → head_words v ≡ head_words w → v ≡ w
+version_told One One e = refl
+version_told Two Two e = refl
+version_told One Two e = absurd (omega (arith, ap tag (behind (codes "schedlog") (codes "schedlog") (codes "1" ∷ []) (codes "2" ∷ []) e)))
+version_told Two One e = absurd (omega (arith, ap tag (behind (codes "schedlog") (codes "schedlog") (codes "2" ∷ []) (codes "1" ∷ []) e)))
 
 pub entry_words_told : {W : Type 0} → (numbers : W → List ℤ) (valid : W → Bool) → AreTold numbers valid → (a b : Entry W) → is_fit_entry valid a ≡ true → is_fit_entry valid b ≡ true → entry_words numbers a ≡ entry_words numbers b → a ≡ b
-entry_words_told numbers valid laws Head Head ha hb e = refl
+entry_words_told numbers valid laws (Head v) (Head w) ha hb e = ap Head (version_told v w e)
 entry_words_told numbers valid laws Finish Finish ha hb e = refl
 entry_words_told numbers valid laws (Step a) (Step b) ha hb e = ap Step (line_words_told numbers valid laws a b ha hb e)
-entry_words_told numbers valid laws Head Finish ha hb e = absurd (omega (arith, ap tag e))
-entry_words_told numbers valid laws Finish Head ha hb e = absurd (omega (arith, ap tag e))
-entry_words_told numbers valid laws Head (Step b) ha hb e = absurd (omega (arith, letter numbers b, ap tag e))
-entry_words_told numbers valid laws Finish (Step b) ha hb e = absurd (omega (arith, letter numbers b, ap tag e))
-entry_words_told numbers valid laws (Step a) Head ha hb e = absurd (omega (arith, letter numbers a, ap tag e))
-entry_words_told numbers valid laws (Step a) Finish ha hb e = absurd (omega (arith, letter numbers a, ap tag e))
+entry_words_told numbers valid laws (Head v) Finish ha hb e = absurd (omega (arith, head_tag v, ap tag e))
+entry_words_told numbers valid laws Finish (Head v) ha hb e = absurd (omega (arith, head_tag v, ap tag e))
+entry_words_told numbers valid laws (Head v) (Step b) ha hb e = absurd ((starts_alone numbers b).0 (sym (ap tag e) ∙ head_tag v))
+entry_words_told numbers valid laws Finish (Step b) ha hb e = absurd ((starts_alone numbers b).1 (sym (ap tag e)))
+entry_words_told numbers valid laws (Step a) (Head v) ha hb e = absurd ((starts_alone numbers a).0 (ap tag e ∙ head_tag v))
+entry_words_told numbers valid laws (Step a) Finish ha hb e = absurd ((starts_alone numbers a).1 (ap tag e))
 
 numbers_plain : (zs : List ℤ) → list_all is_small zs ≡ true → are_words (map signed_decimal zs) ≡ true
 numbers_plain zs h = each_plain signed_decimal is_small moment_word zs h
@@ -132,9 +147,11 @@ line_plain numbers valid laws (Derive g w) h =
 line_plain numbers valid laws (Fail w) h = witness_plain numbers valid laws w h
 line_plain numbers valid laws (Split g) h = guess_plain g h
 line_plain numbers valid laws (Sol a) h = assignment_plain a h
+line_plain numbers valid laws Restart h = refl
 
 pub entry_plain : {W : Type 0} → (numbers : W → List ℤ) (valid : W → Bool) → AreTold numbers valid → (e : Entry W) → is_fit_entry valid e ≡ true → are_words (entry_words numbers e) ≡ true
-entry_plain numbers valid laws Head h = refl
+entry_plain numbers valid laws (Head One) h = refl
+entry_plain numbers valid laws (Head Two) h = refl
 entry_plain numbers valid laws (Step l) h = line_plain numbers valid laws l h
 entry_plain numbers valid laws Finish h = refl
 
@@ -146,11 +163,13 @@ pub record HasWords {W : Type 0} (numbers : W → List ℤ) (e : Entry W) : Type
   pub text : entry_text numbers e ≡ line (first ∷ rest)
 
 pub has_words : {W : Type 0} → (numbers : W → List ℤ) (e : Entry W) → HasWords numbers e
-has_words numbers Head = record { first = codes "schedlog"; rest = log_version ∷ []; words = refl; text = refl }
+has_words numbers (Head One) = record { first = codes "schedlog"; rest = codes "1" ∷ []; words = refl; text = refl }
+has_words numbers (Head Two) = record { first = codes "schedlog"; rest = codes "2" ∷ []; words = refl; text = refl }
 has_words numbers (Step (Derive g w)) = record { first = codes "d"; rest = guess_words g ++ witness_words numbers w; words = refl; text = refl }
 has_words numbers (Step (Fail w)) = record { first = codes "f"; rest = witness_words numbers w; words = refl; text = refl }
 has_words numbers (Step (Split g)) = record { first = codes "s"; rest = guess_words g; words = refl; text = refl }
 has_words numbers (Step (Sol a)) = record { first = codes "v"; rest = assignment_words a; words = refl; text = refl }
+has_words numbers (Step Restart) = record { first = codes "restart"; rest = []; words = refl; text = refl }
 has_words numbers Finish = record { first = codes "end"; rest = []; words = refl; text = refl }
 
 -- a text in front that is a spelling tells its entry and its end

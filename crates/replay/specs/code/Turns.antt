@@ -1,5 +1,5 @@
 -- What reading and stepping one line of a log gives.
-use Rattle.std.specs.Prelude.{◌≡◌, ℕ, ℤ, ◌<◌, Bool, true, false, List, ◌++◌, [], length, drop, Result, Ok, Err, IfSome, ⊤}
+use Rattle.std.specs.Prelude.{◌≡◌, ℕ, ℤ, ◌<◌, Bool, true, false, List, ◌++◌, [], length, drop, Option, Some, None, Result, Ok, Err, IfSome, ⊤}
 use Rattle.sched_base.specs.declared.list.NoMemory.{NoMemory}
 use Rattle.sched_base.specs.declared.desk.Inlet.TheVariants.{Log}
 use Rattle.sched_base.specs.declared.reading.ReadError.{ReadError}
@@ -14,6 +14,8 @@ use Rattle.kernel.specs.Steps.{LogState, step}
 use Rattle.textline.specs.Lines.{Bytes}
 use Rattle.logtext.specs.declared.entry.Entry.{Entry}
 use Rattle.logtext.specs.declared.entry.Entry.TheVariants.{Head, Step, Finish}
+use Rattle.logtext.specs.declared.version.Version.{Version}
+use Rattle.logtext.specs.Logs.{may_hold}
 use Rattle.logtext.specs.Reading.{HasNoWholeLine, IsLineAt}
 use Rattle.log_lines.specs.code.Pieces.{Fed}
 use Rattle.replay.specs.declared.fault.ReplayFault.{ReplayFault}
@@ -24,23 +26,24 @@ use Rattle.replay.specs.declared.replaying.Turn.TheVariants.{Stepped, Ended, Wro
 use Rattle.logtext.specs.Judgement.{BeginsWith, CantGoOn, log_limit}
 use Rattle.replay.specs.code.Pieces.{Fails, IsAtEnd, IsReading, ReadsOn, Holds}
 
-abbrev pub is_head : {W : Type 0} → Entry W → Bool
-is_head Head = true
-is_head (Step l) = false
-is_head Finish = false
+-- the version that a first line tells
+abbrev pub version_in : {W : Type 0} → Entry W → Option Version
+version_in (Head v) = Some v
+version_in (Step l) = None
+version_in Finish = None
 
 -- since a state a log was read, and of its lines the first was taken
-pub record IsBehindHead {W : Type 0} (numbers : W → List ℤ) (valid : W → Bool) (start now : State) (lines : Fed) : Type 0 where
+pub record IsBehindHead {W : Type 0} (numbers : W → List ℤ) (valid : W → Bool) (version : Version) (start now : State) (lines : Fed) : Type 0 where
   pub fed : Bytes
   pub place : ℕ
   pub reading : IsReading start now fed place
-  pub head : IsLineAt numbers valid fed 0 place Head
+  pub head : IsLineAt numbers valid fed 0 place (Head version)
   pub fits : Holds lines fed place
 
--- whether the log begins with the first line, which was taken then
-abbrev pub FindsHead : {W : Type 0} → (W → List ℤ) → (W → Bool) → State → State → Result Bool ReadError → Fed → Type 0
-FindsHead numbers valid start now (Ok true) lines = IsBehindHead numbers valid start now lines
-FindsHead numbers valid start now (Ok false) lines = (all : Bytes) × ReadsOn start now [] all 0 × IfSome (left_in Log now) (λ behind. BeginsWith numbers valid (all ++ behind) Head → ⊥)
+-- the version of the first line, which was taken then, if the log begins with one
+abbrev pub FindsHead : {W : Type 0} → (W → List ℤ) → (W → Bool) → State → State → Result (Option Version) ReadError → Fed → Type 0
+FindsHead numbers valid start now (Ok (Some version)) lines = IsBehindHead numbers valid version start now lines
+FindsHead numbers valid start now (Ok None) lines = (all : Bytes) × ReadsOn start now [] all 0 × IfSome (left_in Log now) (λ behind. (version : Version) → BeginsWith numbers valid (all ++ behind) (Head version) → ⊥)
 FindsHead numbers valid start now (Err e) lines = Fails log_limit e start now
 
 abbrev pub Tries : {W : Type 0} → Refuting W → Data → Line W → Result Bool NoMemory → LogState → LogState → Type 0
@@ -49,26 +52,26 @@ Tries refutes m l (Ok false) old new = (t : LogState) → step (refutes_with ref
 Tries refutes m l (Err e) old new = ⊤
 
 -- a line was shown, and stepped or not
-abbrev pub Shows : {W S : Type 0} → Refuting W → (S → Line W → S) → Data → Line W → Result Turn ReadError → LogState → LogState → S → S → Type 0
-Shows refutes noted m l (Ok Stepped) s t before after = (step (refutes_with refutes) m l s ≡ Ok t) × (after ≡ noted before l)
-Shows refutes noted m l (Ok Wrong) s t before after = (u : LogState) → step (refutes_with refutes) m l s ≡ Ok u → ⊥
-Shows refutes noted m l (Ok turn) s t before after = ⊥
-Shows refutes noted m l (Err Failed) s t before after = ⊥
-Shows refutes noted m l (Err read.NoMemory) s t before after = ⊤
+abbrev pub Shows : {W S : Type 0} → Refuting W → (S → Line W → S) → Data → Version → Line W → Result Turn ReadError → LogState → LogState → S → S → Type 0
+Shows refutes noted m version l (Ok Stepped) s t before after = (may_hold version l ≡ true) × (step (refutes_with refutes) m l s ≡ Ok t) × (after ≡ noted before l)
+Shows refutes noted m version l (Ok Wrong) s t before after = (u : LogState) → may_hold version l ≡ true → step (refutes_with refutes) m l s ≡ Ok u → ⊥
+Shows refutes noted m version l (Ok turn) s t before after = ⊥
+Shows refutes noted m version l (Err Failed) s t before after = ⊥
+Shows refutes noted m version l (Err read.NoMemory) s t before after = ⊤
 
 -- a line is there, or too much for one, and it is wrong whatever follows
-pub record IsWrong {W : Type 0} (refutes : Refuting W) (numbers : W → List ℤ) (valid : W → Bool) (m : Data) (s : LogState) (rest : Bytes) : Type 0 where
+pub record IsWrong {W : Type 0} (refutes : Refuting W) (numbers : W → List ℤ) (valid : W → Bool) (m : Data) (version : Version) (s : LogState) (rest : Bytes) : Type 0 where
   pub whole : HasNoWholeLine rest → ⊥
-  pub stuck : (more : Bytes) → CantGoOn refutes numbers valid m s (rest ++ more)
+  pub stuck : (more : Bytes) → CantGoOn refutes numbers valid m version s (rest ++ more)
 
 -- what the line at a place did
-abbrev pub Turns : {W S : Type 0} → Refuting W → (W → List ℤ) → (W → Bool) → (S → Line W → S) → Data → State → State → Bytes → ℕ → Result Turn ReadError → Fed → LogState → LogState → S → S → Type 0
-Turns {W} refutes numbers valid noted m start now fed place (Ok Stepped) lines s t before after = (all : Bytes) × ReadsOn start now fed all place × ((to : ℕ) × (l : Line W) × IsLineAt numbers valid all place to (Step l) × (step (refutes_with refutes) m l s ≡ Ok t) × (after ≡ noted before l) × Holds lines all to)
-Turns refutes numbers valid noted m start now fed place (Ok Ended) lines s t before after = (all : Bytes) × ReadsOn start now fed all place × ((to : ℕ) × IsLineAt numbers valid all place to Finish × (t ≡ s) × (after ≡ before) × Holds lines all to)
-Turns refutes numbers valid noted m start now fed place (Ok Wrong) lines s t before after = (all : Bytes) × ReadsOn start now fed all place × IsWrong refutes numbers valid m s (drop place all)
-Turns refutes numbers valid noted m start now fed place (Ok Missing) lines s t before after = (all : Bytes) × ReadsOn start now fed all place × HasNoWholeLine (drop place all) × IsAtEnd now × (length all < log_limit)
-Turns refutes numbers valid noted m start now fed place (Ok Beyond) lines s t before after = (all : Bytes) × ReadsOn start now fed all place × HasNoWholeLine (drop place all) × (length all ≡ log_limit)
-Turns refutes numbers valid noted m start now fed place (Err e) lines s t before after = Fails log_limit e start now
+abbrev pub Turns : {W S : Type 0} → Refuting W → (W → List ℤ) → (W → Bool) → (S → Line W → S) → Data → Version → State → State → Bytes → ℕ → Result Turn ReadError → Fed → LogState → LogState → S → S → Type 0
+Turns {W} refutes numbers valid noted m version start now fed place (Ok Stepped) lines s t before after = (all : Bytes) × ReadsOn start now fed all place × ((to : ℕ) × (l : Line W) × IsLineAt numbers valid all place to (Step l) × (may_hold version l ≡ true) × (step (refutes_with refutes) m l s ≡ Ok t) × (after ≡ noted before l) × Holds lines all to)
+Turns refutes numbers valid noted m version start now fed place (Ok Ended) lines s t before after = (all : Bytes) × ReadsOn start now fed all place × ((to : ℕ) × IsLineAt numbers valid all place to Finish × (t ≡ s) × (after ≡ before) × Holds lines all to)
+Turns refutes numbers valid noted m version start now fed place (Ok Wrong) lines s t before after = (all : Bytes) × ReadsOn start now fed all place × IsWrong refutes numbers valid m version s (drop place all)
+Turns refutes numbers valid noted m version start now fed place (Ok Missing) lines s t before after = (all : Bytes) × ReadsOn start now fed all place × HasNoWholeLine (drop place all) × IsAtEnd now × (length all < log_limit)
+Turns refutes numbers valid noted m version start now fed place (Ok Beyond) lines s t before after = (all : Bytes) × ReadsOn start now fed all place × HasNoWholeLine (drop place all) × (length all ≡ log_limit)
+Turns refutes numbers valid noted m version start now fed place (Err e) lines s t before after = Fails log_limit e start now
 
 abbrev pub fault_of_read : ReadError → ReplayFault
 fault_of_read Failed = Fault

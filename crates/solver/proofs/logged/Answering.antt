@@ -14,6 +14,7 @@ use Rattle.kernel.specs.declared.types.Found.{Found}
 use Rattle.sched_model.specs.declared.types.Verdict.TheVariants.{Unclosed}
 use Rattle.kernel.specs.Promises.{IsFound, Means, IfFound}
 use Rattle.kernel.specs.Steps.{LogState, open_regions, best_of, closed_verdict, best_verdict, verdict_of}
+use Rattle.logtext.specs.declared.version.Version.TheVariants.{One}
 use Rattle.logtext.specs.Logs.{PlainLine, plain_log}
 use Rattle.sched_model.specs.Answers.{verdict_in}
 use Rattle.solver.specs.Answers.{IsAnswer, shown_in, is_unfinished, IfFound as IfValued}
@@ -151,7 +152,7 @@ never_limited false nodes limit budget few limited enough = refl
 
 -- the whole log was written
 pub solved_with : (m : Data) (limit : ℕ) (more : Bool) (s : LogState) (lines : List PlainLine) (solved : Solved) (old new : State) → Ended limit more s → IfFound m s.found → Means m (verdict_of s)
-    → s.nodes < budget_of m → solved.nodes ≡ s.nodes → solved.answer ≡ answer_from more s.found → IsWritten m limit lines s → new ≡ record old { logged = appended (plain_log lines) old.logged } → Solves m limit solved old new
+    → s.nodes < budget_of m → solved.nodes ≡ s.nodes → solved.answer ≡ answer_from more s.found → IsWritten m limit lines s → new ≡ record old { logged = appended (plain_log One lines) old.logged } → Solves m limit solved old new
 solved_with m limit more s lines solved old new ended found means below nodes same written logged =
     let says = shows m limit more s solved ended found means same in
     record {

@@ -1,5 +1,5 @@
 -- The line that ends a node, what it steps to, and the log with it.
-use Rattle.std.proofs.Common.{◌≡◌, ℕ, ◌+◌, ℤ, Bool, true, ◌&&◌, List, [], ◌∷◌, ◌++◌, Option, Some, None, Ok, refl, sym, ap, subst, ◌∙◌, true≢false}
+use Rattle.std.proofs.Common.{◌≡◌, ℕ, ◌+◌, ℤ, Bool, true, not, ◌&&◌, List, [], ◌∷◌, ◌++◌, Option, Some, None, Ok, refl, sym, ap, subst, ◌∙◌, true≢false}
 use Rattle.std.specs.Prelude.{IfSome, is_some, option_map}
 use Rattle.sched_model.specs.declared.types.Assignment.{Assignment}
 use Rattle.sched_model.specs.declared.types.Objective.{Objective}
@@ -18,7 +18,7 @@ use Rattle.kernel.specs.declared.types.Found.{Found}
 use Rattle.kernel.specs.declared.types.StepFault.{StepFault}
 use Rattle.kernel.specs.declared.types.StepFault.TheVariants.{NotRefuted, NotSplitting, NotSolution}
 use Rattle.kernel.specs.Agenda.{first_in}
-use Rattle.kernel.specs.Steps.{LogState, Node, Steps, done, more, step_at, step_on, taken, node_of, unless, closed, best_of, is_wanted, found_in, left_after}
+use Rattle.kernel.specs.Steps.{LogState, Node, Steps, done, more, step_at, step_on, taken, node_of, is_restart, unless, closed, best_of, is_wanted, found_in, left_after}
 use Rattle.kernel.specs.laws.Outcomes.{same_ok}
 use Rattle.logtext.specs.Logs.{PlainLine}
 use Rattle.engine.specs.Plain.{refutes_plain}
@@ -42,7 +42,7 @@ derived_on n [] ys = refl
 derived_on n (x ∷ xs) ys = derived_on (derived_after x n) xs ys
 
 -- a state whose node this is
-first_taken : (current : Option Region) (waiting : List Region) (nodes : ℕ) (found : Option Found) (node : Node) → taken current waiting nodes found ≡ Some node → (first_in current waiting ≡ Some node.region) × (found ≡ node.found)
+first_taken : (current : Option Region) (waiting : List Region) (nodes : ℕ) (found : Option Found) (node : Node) → taken true current waiting nodes found ≡ Some node → (first_in current waiting ≡ Some node.region) × (found ≡ node.found)
 first_taken (Some r) waiting nodes found node is = (let same : record { region = r; waiting = waiting; nodes = nodes; found = found } ≡ node = cc in ap (λ (n : Node). Some n.region) same, let same : record { region = r; waiting = waiting; nodes = nodes; found = found } ≡ node = cc in ap (λ (n : Node). n.found) same)
 first_taken None (r ∷ rs) nodes found node is = (let same : record { region = r; waiting = rs; nodes = nodes + 1; found = found } ≡ node = cc in ap (λ (n : Node). Some n.region) same, let same : record { region = r; waiting = rs; nodes = nodes + 1; found = found } ≡ node = cc in ap (λ (n : Node). n.found) same)
 first_taken None [] nodes found node is = cc
@@ -50,8 +50,8 @@ first_taken None [] nodes found node is = cc
 pub node_first : (s : LogState) (node : Node) → node_of s ≡ Some node → (first_in s.current s.waiting ≡ Some node.region) × (s.found ≡ node.found)
 node_first s node is = first_taken s.current s.waiting s.nodes s.found node is
 
-pub node_steps : (m : Data) (s : LogState) (node : Node) (line : PlainLine) → node_of s ≡ Some node → plain_step m line s ≡ step_at refutes_plain m node line
-node_steps m s node line is = ap (λ o. step_on refutes_plain m o line) is
+pub node_steps : (m : Data) (s : LogState) (node : Node) (line : PlainLine) → not (is_restart line) ≡ true → node_of s ≡ Some node → plain_step m line s ≡ step_at refutes_plain m node line
+node_steps m s node line plain is = ap (λ o. step_on refutes_plain m o line) (ap (λ b. taken b s.current s.waiting s.nodes s.found) plain ∙ is)
 
 -- what each line steps to
 unless_true : (b : Bool) (f : StepFault) (t : LogState) → b ≡ true → unless b f (Ok t) ≡ Ok t

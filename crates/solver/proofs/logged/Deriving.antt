@@ -27,6 +27,7 @@ use Rattle.std.specs.Result.{IsErrAnd}
 use Rattle.engine.specs.Plain.{refutes_plain}
 use Rattle.engine.specs.Runs.{cap_at, Led, Broke, held, further, broken, Ends, Counts}
 use Rattle.engine.specs.laws.Caps.{same_cap}
+use Rattle.solver.specs.laws.Plain.{line_plain}
 use Rattle.solver.specs.Written.{IsWellPut, WellPutFrom, IsWritten, derived_after, derived_in}
 use Rattle.solver.specs.code.Searching.{IsLogged, IsAtNode, IsSpent, Stopped, between, within, Breaks, Causes, Derived, GoesOn}
 use Rattle.solver.specs.declared.fault.SolveFault.{SolveFault}
@@ -165,7 +166,7 @@ pub closed_to : {L : Type 0} (l : Ghosts L) → ArePlaces l → (m : Data) (limi
     → IsLine numbers_of is_valid line → IsWellPut m (best_of node.found) n line (Some node.region) → derived_after line n ≡ 0 → step_at refutes_plain m node line ≡ Ok t → t.nodes ≤ limit → IsLogged l m limit from b 0 t
 closed_to l places m limit from a b node n line t at put fit well ends steps few =
     let first = node_first at.state node at.at in
-    let step = node_steps m at.state node line at.at ∙ steps in
+    let step = node_steps m at.state node line (line_plain m (best_of node.found) n line (Some node.region) well) at.at ∙ steps in
     subst (λ k. IsLogged l m limit from b k t) ends
     (logged_more l places m limit from a b n (line ∷ []) at.state t at.logged put (All-cons (IsLine numbers_of is_valid) line [] fit (All-nil (IsLine numbers_of is_valid))) (more step done) few
     (subst (λ o. IsWellPut m (best_of at.state.found) n line o) (sym first.0) (subst (λ f. IsWellPut m (best_of f) n line (Some node.region)) (sym first.1) well), λ v is. tt))
@@ -174,7 +175,7 @@ pub closed_break : {L : Type 0} (l : Ghosts L) → ArePlaces l → (m : Data) (l
     → IsLine numbers_of is_valid line → IsWellPut m (best_of node.found) n line (Some node.region) → step_at refutes_plain m node line ≡ Ok t → t.nodes ≤ limit → Stopped l m limit from b
 closed_break l places m limit from a b node n line t at break fit well steps few =
     let first = node_first at.state node at.at in
-    let step = node_steps m at.state node line at.at ∙ steps in
+    let step = node_steps m at.state node line (line_plain m (best_of node.found) n line (Some node.region) well) at.at ∙ steps in
     logged_break l places m limit from a b n [] line at.state t at.logged break (All-cons (IsLine numbers_of is_valid) line [] fit (All-nil (IsLine numbers_of is_valid))) (more step done) few
     (subst (λ o. IsWellPut m (best_of at.state.found) n line o) (sym first.0) (subst (λ f. IsWellPut m (best_of f) n line (Some node.region)) (sym first.1) well), λ v is. tt)
 

@@ -7,7 +7,7 @@ use Rattle.sched_model.specs.Valid.{IsValid}
 use Rattle.region.specs.declared.types.Guess.{Guess}
 use Rattle.region.specs.Cells.{Region, is_settled}
 use Rattle.region.specs.Looks.{IsRegionOf, seen_at}
-use Rattle.kernel.specs.declared.types.Line.TheVariants.{Derive, Fail, Split, Sol}
+use Rattle.kernel.specs.declared.types.Line.TheVariants.{Derive, Fail, Split, Sol, Restart}
 use Rattle.kernel.specs.NoExtra.{numbers_of, is_valid}
 use Rattle.logtext.specs.Logs.{PlainLine, IsLine}
 use Rattle.engine.specs.declared.stops.Stop.{Stop}
@@ -29,18 +29,21 @@ closes_line m r best failed (Fail w) valid of h = fail_line m (seen_at r best No
 closes_line m r best failed (Split g) valid of h = split_line m r g valid of h.0.splits_it
 closes_line m r best failed (Sol a) valid of h = subst (λ b. IsLine numbers_of is_valid (Sol b)) (sym h.1) (sol_line m r valid of h.2.solution)
 closes_line m r best failed (Derive g w) valid of h = absurd h
+closes_line m r best failed Restart valid of h = absurd h
 
 pub closes_ends : (m : Data) (r : Region) (best : Option ℤ) (failed : Bool) (line : PlainLine) (n : ℕ) → Closes m r best failed line → derived_after line n ≡ 0
 closes_ends m r best failed (Fail w) n h = refl
 closes_ends m r best failed (Split g) n h = refl
 closes_ends m r best failed (Sol a) n h = refl
 closes_ends m r best failed (Derive g w) n h = absurd h
+closes_ends m r best failed Restart n h = absurd h
 
 pub closes_well : (m : Data) (r : Region) (best : Option ℤ) (failed : Bool) (line : PlainLine) (n : ℕ) → Closes m r best failed line → (failed ≡ false → IsQuietRegion m r best ⊎ (n ≡ cap_at r)) → IsWellPut m best n line (Some r)
 closes_well m r best failed (Fail w) n h spent = tt
 closes_well m r best failed (Split g) n h spent = record { cuts = h.0.cuts_it; spent = spent h.1 }
 closes_well m r best failed (Sol a) n h spent = tt
 closes_well m r best failed (Derive g w) n h spent = absurd h
+closes_well m r best failed Restart n h spent = absurd h
 
 pub spent_well : (m : Data) (r : Region) (best : Option ℤ) (quiet : Type 0) (n : ℕ) (stop : Stop) → (quiet → IsQuietRegion m r best) → IsSpent quiet n r stop → is_failed stop ≡ false → IsQuietRegion m r best ⊎ (n ≡ cap_at r)
 spent_well m r best quiet n Quiet covers spent h = inl (covers spent)
@@ -55,6 +58,7 @@ quiet_split quiet m r best (Failed w) (Split k) g ends h is not = let no = h.1 i
 quiet_split quiet m r best (Failed w) (Fail v) g ends h is not = cc
 quiet_split quiet m r best (Failed w) (Sol a) g ends h is not = cc
 quiet_split quiet m r best (Failed w) (Derive k v) g ends h is not = cc
+quiet_split quiet m r best (Failed w) Restart g ends h is not = cc
 
 -- a run of a settled region isn't capped
 pub settled_quiet : (quiet : Type 0) (n : ℕ) (m : Data) (best : Option ℤ) (r : Region) (stop : Stop) → Ends quiet m best r stop → Counts n r stop → is_settled r ≡ true → QuietUnlessFailed quiet stop
@@ -78,3 +82,4 @@ closes_step m node failed (Fail w) valued h = (closed node node.waiting node.fou
 closes_step m node failed (Split g) valued h = (closed node (with_guess g node.region ∷ with_fact g node.region ∷ node.waiting) node.found, split_steps m node g h.0.splits_it, refl)
 closes_step m node failed (Sol a) valued h = (closed node (left_after m node.waiting) (Some (found_in m a)), sol_steps m node a h.0 valued h.1 h.2, refl)
 closes_step m node failed (Derive g w) valued h = absurd h
+closes_step m node failed Restart valued h = absurd h

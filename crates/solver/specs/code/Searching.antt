@@ -16,7 +16,7 @@ use Rattle.region.specs.Guesses.{splits}
 use Rattle.region.specs.Looks.{seen_at}
 use Rattle.region.specs.code.Held.{IsHeldOf}
 use Rattle.kernel.specs.declared.types.Found.{Found}
-use Rattle.kernel.specs.declared.types.Line.TheVariants.{Derive, Fail, Split, Sol}
+use Rattle.kernel.specs.declared.types.Line.TheVariants.{Derive, Fail, Split, Sol, Restart}
 use Rattle.kernel.specs.code.Pending.{ArePending, after_saved}
 use Rattle.kernel.specs.Steps.{LogState, Node, best_of, node_of}
 use Rattle.logtext.specs.Logs.{PlainLine}
@@ -145,6 +145,7 @@ Closes m r best failed (Fail w) = IsTrue (refutes_plain m (seen_at r best None) 
 Closes m r best failed (Split g) = CutsRegion r g × (failed ≡ false)
 Closes m r best failed (Sol a) = IsTrue (is_settled r) × (a ≡ settled_assignment m r) × Solves m (seen_at r best None)
 Closes m r best failed (Derive g w) = ⊥
+Closes m r best failed Restart = ⊥
 
 -- What is written.
 

@@ -7,6 +7,7 @@ use Rattle.sched_model.specs.Data.{Data}
 use Rattle.region.specs.Points.{budget_of}
 use Rattle.kernel.specs.Steps.{LogState, verdict_of}
 use Rattle.logtext.specs.Logs.{PlainLine, plain_log}
+use Rattle.logtext.specs.declared.version.Version.TheVariants.{One}
 use Rattle.solver.specs.declared.fault.SolveFault.{SolveFault}
 use Rattle.solver.specs.declared.fault.SolveFault.TheVariants.{Fault, NoMemory}
 use Rattle.solver.specs.Written.{IsWritten}
@@ -30,14 +31,14 @@ pub record Solves (m : Data) (limit : ℕ) (solved : Solved) (old new : State) :
   pub lines : List PlainLine
   pub state : LogState
   pub is : IsSolved m limit lines state solved
-  pub logged : new ≡ record old { logged = appended (plain_log lines) old.logged }
+  pub logged : new ≡ record old { logged = appended (plain_log One lines) old.logged }
 
 -- a front part of the text of such lines was appended
 pub record BeginsLog (m : Data) (limit : ℕ) (old new : State) : Type 0 where
   pub lines : List PlainLine
   pub state : LogState
   pub written : IsWritten m limit lines state
-  pub part : AppendedFrom (plain_log lines) old.logged new.logged
+  pub part : AppendedFrom (plain_log One lines) old.logged new.logged
   pub only : new ≡ record old { logged = new.logged; faults = new.faults }
   pub later : old.faults ≤ new.faults
 

@@ -9,7 +9,7 @@ use Rattle.replay.proofs.replaying.replay_lines.Given as goal
 
 abbrev pub invariant-lines : goal.invariant-lines
 invariant-lines g l = record {
-  judging : (start : State) → IsBehindHead g.X.Witness.Numbers.numbers g.X.Witness.Numbers.is_valid start (g.D.Desk.state l.initial.desk) l.initial.lines → Judging g.X.Refuter.refuting g.X.Witness.Numbers.numbers g.X.Witness.Numbers.is_valid g.V.Watcher.noted l.initial.watcher l.model start (g.D.Desk.state l.desk) l.lines l.line l.kernel l.watcher;
+  judging : (start : State) → IsBehindHead g.X.Witness.Numbers.numbers g.X.Witness.Numbers.is_valid l.version start (g.D.Desk.state l.initial.desk) l.initial.lines → Judging g.X.Refuter.refuting g.X.Witness.Numbers.numbers g.X.Witness.Numbers.is_valid g.V.Watcher.noted l.initial.watcher l.model l.version start (g.D.Desk.state l.desk) l.lines l.line l.kernel l.watcher;
   ready : Ready l.model l.kernel;
   opened : is_opened Log (g.D.Desk.state l.desk) ≡ true;
   limit : l.lines.count ≤ log_limit;

@@ -19,7 +19,7 @@ returns-in-Line-clause-head g c =
     let now = g.D.Desk.state c.next_line.new.desk in
     let laws : Spellings g.X.Witness.Numbers.numbers g.X.Witness.Numbers.is_valid = record { told = c.spelling_is_determined.ensures.told; ends = c.spelling_is_determined.ensures.ends } in
     let found : FindsLine g.X.Witness.Numbers.numbers g.X.Witness.Numbers.is_valid old now [] 0 (Ok (Line c.in-Line.entry)) c.next_line.new.lines = subst (λ f. FindsLine g.X.Witness.Numbers.numbers g.X.Witness.Numbers.is_valid old now [] 0 (Ok f) c.next_line.new.lines) c.in-Line.is (c.in_ok-entry.ensures.finds old [] 0 (reading_none g.X.Refuter.refuting g.X.Witness.Numbers.numbers g.X.Witness.Numbers.is_valid old) (held g.X.Refuter.refuting g.X.Witness.Numbers.numbers g.X.Witness.Numbers.is_valid c.args.lines.now 0 [] 0 c.requires.nothing)) in
-    subst (HeadAnswer g.X.Refuter.refuting g.X.Witness.Numbers.numbers g.X.Witness.Numbers.is_valid (λ (s : Unit {0}) l. s) tt old now c.next_line.new.lines) (sym c.is_head.ensures) (head_found g.X.Refuter.refuting g.X.Witness.Numbers.numbers g.X.Witness.Numbers.is_valid (λ (s : Unit {0}) l. s) tt laws old now c.next_line.new.lines found.0 found.2.0 c.in-Line.entry found.1 found.2.1 found.2.2)
+    subst (HeadAnswer g.X.Refuter.refuting g.X.Witness.Numbers.numbers g.X.Witness.Numbers.is_valid (λ (s : Unit {0}) l. s) tt old now c.next_line.new.lines) (sym c.version_in.ensures) (head_found g.X.Refuter.refuting g.X.Witness.Numbers.numbers g.X.Witness.Numbers.is_valid (λ (s : Unit {0}) l. s) tt laws old now c.next_line.new.lines found.0 found.2.0 c.in-Line.entry found.1 found.2.1 found.2.2)
 
 pub returns-in-Wrong-clause-head : goal.returns-in-Wrong-clause-head
 returns-in-Wrong-clause-head g c =
