@@ -4,3 +4,4 @@ pub mod Derives
 pub mod Fits
 pub mod Outcomes
 pub mod Budget
+pub mod Open

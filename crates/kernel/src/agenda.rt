@@ -1,10 +1,11 @@
-ghost use Rattle.std.specs.Prelude.{◌≡◌, ◌∷◌, [], None, IsTrue, IfOk, OnOk, OnErr, IsSome, is_some, option_map, ◌++◌};
+ghost use Rattle.std.specs.Prelude.{◌≡◌, ◌∷◌, [], None, IsTrue, IfOk, OnOk, OnErr, IsSome, is_some, option_map, option_to_list, ◌++◌};
 ghost use Rattle.sched_model.specs.Valid.{IsValid};
 ghost use Rattle.sched_model.specs.Words.{passes};
 ghost use Rattle.region.specs.Cells.{root};
 ghost use Rattle.region.specs.Guesses.{admits, splits, with_fact};
 ghost use Rattle.kernel.specs.Agenda.{first_of, behind, parts_of};
 
+use crate::open_regions::{Going, Open};
 use crate::pending::Pending;
 use region::{Fact, Guess, Region};
 use sched_base::NoMemory;
@@ -116,6 +117,22 @@ impl Agenda {
         self.pending = Pending::new(alloc);
         self.stage = Stage::Waiting;
         Ok(())
+    }
+
+    /// The regions, to be gone through once.
+    pub fn into_open(self, best: Option<i64>) -> Open
+        ensures { result ≡ record { front = None; behind = option_to_list self.current ++ self.waiting; best = best } }
+    {
+        let Agenda {
+            region,
+            pending,
+            stage,
+        } = self;
+        match stage {
+            Stage::Current => Open::new(region, pending, Going::Ahead, best),
+            Stage::Waiting => Open::new(region, pending, Going::Ahead, best),
+            Stage::Done => Open::new(region, pending, Going::Done, best),
+        }
     }
 
     /// All regions go.

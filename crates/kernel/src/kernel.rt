@@ -6,13 +6,15 @@ ghost use Rattle.sched_model.specs.Words.{passes};
 ghost use Rattle.region.specs.Guesses.{admits, splits};
 ghost use Rattle.region.specs.Looks.{IsRegionOf};
 ghost use Rattle.kernel.specs.Refuting.{refutes_with};
-ghost use Rattle.kernel.specs.Steps.{opening, step, takes_memory, Gives, best_of, best_verdict, verdict_of};
+ghost use Rattle.kernel.specs.Steps.{opening, step, takes_memory, Gives, best_of, best_verdict, open_regions, verdict_of};
 ghost use Rattle.kernel.specs.code.Faults.{derive_fault, fault_at, fault_in, nodes_in, derived, failed, cut, solved, restarted, after};
 ghost use Rattle.kernel.specs.Promises.{Ready, Means};
 ghost use Rattle.kernel.specs.Agenda.{first_in};
+ghost use Rattle.kernel.specs.code.Open.{AreOpenOf};
 ghost use Rattle.kernel.specs.declared.types.StepFault.TheVariants.{NoMemory as Memory};
 
 use crate::agenda::Agenda;
+use crate::open_regions::Open;
 use crate::refuting::{is_tight, refutes};
 use crate::solution::is_wanted_solution;
 use crate::types::{Found, Line, StepFault, Witness};
@@ -221,6 +223,26 @@ impl<X: Refuter> Kernel<X> {
             extra: _,
         } = self;
         found
+    }
+
+    /// The open regions, the current one before those that wait. None of them is in front yet.
+    pub fn into_open(self) -> Open
+        ensures value { result ≡ record { front = None; behind = open_regions self; best = best_of self.found } }
+        ensures of { (m : Data) → Ready m self → AreOpenOf m result }
+    {
+        self.plain_into_open()
+    }
+
+    fn plain_into_open(self) -> Open
+        ensures { result ≡ record { front = None; behind = open_regions self; best = best_of self.found } }
+    {
+        let Kernel {
+            agenda,
+            nodes: _,
+            found,
+            extra: _,
+        } = self;
+        agenda.into_open(best_of(&found))
     }
 
     /// The nodes with the first region taken.
