@@ -1,4 +1,5 @@
 pub mod Judgement
 pub mod Checking
 pub mod Laws
+pub mod lemmas
 pub mod code

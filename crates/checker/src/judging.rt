@@ -6,7 +6,7 @@ ghost use Rattle.checker.specs.Checking.{Checks};
 use kernel::Verdict;
 use logtext::LogExtra;
 use replay::{ReplayFault, Unwatched, replay};
-use sched_base::{Desk, Inlet};
+use sched_base::{Desk, Inlet, NoMemory};
 use sched_model::Model;
 use std::alloc::Global;
 use thiserror::Error;
@@ -46,6 +46,17 @@ impl From<ReplayFault> for CheckFault {
             ReplayFault::Fault => CheckFault::Fault,
             ReplayFault::NoMemory => CheckFault::NoMemory,
         }
+    }
+}
+
+impl From<NoMemory> for CheckFault {
+    ghost use Rattle.std.specs.Prelude.{◌≡◌};
+    ghost use Rattle.checker.specs.declared.judging.CheckFault.TheVariants as fault;
+
+    ghost from_gives = { λ _ e. e ≡ fault.NoMemory };
+
+    fn from(_: NoMemory) -> CheckFault {
+        CheckFault::NoMemory
     }
 }
 
