@@ -1,0 +1,4 @@
+pub mod Bound
+pub mod Bounds
+pub mod laws
+pub mod code

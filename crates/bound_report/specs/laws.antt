@@ -1,0 +1,3 @@
+pub mod Best
+pub mod Holds
+pub mod Verdicts
