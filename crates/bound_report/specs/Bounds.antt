@@ -6,16 +6,19 @@ use Rattle.sched_model.specs.Solution.{IsSolution, is_better}
 use Rattle.textline.specs.Lines.{Bytes}
 use Rattle.kernel.specs.Steps.{LogState, best_of}
 use Rattle.kernel.specs.Promises.{HasValue}
-use Rattle.logtext.specs.Logs.{PlainLine, IsPlainLog, plain_log}
+use Rattle.logtext.specs.declared.version.Version.{Version}
+use Rattle.logtext.specs.Logs.{PlainLine, IsPlainLog, plain_log, MayHold}
 use Rattle.bound_report.specs.declared.bounding.Bounded.{Bounded}
 use Rattle.bound_report.specs.Bound.{IsBound}
 
 -- the bytes are a whole log of the model, which leads to a state of this bound, this best value and this many nodes
 pub record ShowsBound (m : Data) (bytes : Bytes) (b : Bounded) : Type 0 where
+  pub version : Version
   pub lines : List PlainLine
+  pub suits : MayHold version lines
   pub state : LogState
   pub log : IsPlainLog m lines state
-  pub text : bytes ≡ plain_log lines
+  pub text : bytes ≡ plain_log version lines
   pub bound : IsBound m state b.bound
   pub best : b.best ≡ best_of state.found
   pub nodes : b.nodes ≡ state.nodes

@@ -10,7 +10,8 @@ use Rattle.kernel.specs.Named.{named_with}
 use Rattle.kernel.specs.Steps.{LogState, verdict_of}
 use Rattle.kernel.specs.Used.{IsUsed, used_in}
 use Rattle.logtext.specs.Extra.{log_named}
-use Rattle.logtext.specs.Logs.{PlainLine, IsPlainLog, plain_log}
+use Rattle.logtext.specs.declared.version.Version.{Version}
+use Rattle.logtext.specs.Logs.{PlainLine, IsPlainLog, plain_log, MayHold}
 
 -- those that the lines' witnesses name, where the log shows that there is no solution; none where it shows something else
 abbrev pub IsCore : Data → List PlainLine → LogState → Option (List Con) → Type 0
@@ -19,10 +20,12 @@ IsCore m lines s (Some cs) = (verdict_of s ≡ Infeasible) × IsUsed m (used_in 
 
 -- the bytes are a whole log of the model, and its lines use these constraints
 pub record ShowsCore (m : Data) (bytes : Bytes) (core : Option (List Con)) : Type 0 where
+  pub version : Version
   pub lines : List PlainLine
+  pub suits : MayHold version lines
   pub state : LogState
   pub log : IsPlainLog m lines state
-  pub text : bytes ≡ plain_log lines
+  pub text : bytes ≡ plain_log version lines
   pub uses : IsCore m lines state core
 
 -- no assignment of the domain makes all of these constraints hold

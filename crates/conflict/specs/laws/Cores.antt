@@ -34,10 +34,10 @@ lists_used m s before after cs none is replayed =
 pub shows_core : (m : Data) (bytes : Bytes) (s : LogState) (before after : List Bool) (cs : List Con) → before ≡ replicate (length m.constraints) false → cs ≡ listed_from 0 after → verdict_of s ≡ Infeasible
     → IsWhole log_refutes log_numbers log_valid noting m bytes s before after → ShowsCore m bytes (Some cs)
 shows_core m bytes s before after cs none is infeasible whole =
-    record { lines = whole.replayed.lines; state = s; log = whole.replayed.log; text = whole.text; uses = (infeasible, lists_used m s before after cs none is whole.replayed) }
+    record { version = whole.version; lines = whole.replayed.lines; suits = whole.suits; state = s; log = whole.replayed.log; text = whole.text; uses = (infeasible, lists_used m s before after cs none is whole.replayed) }
 
 pub shows_other : (m : Data) (bytes : Bytes) (s : LogState) (before after : List Bool) → (verdict_of s ≡ Infeasible → ⊥) → IsWhole log_refutes log_numbers log_valid noting m bytes s before after → ShowsCore m bytes None
-shows_other m bytes s before after other whole = record { lines = whole.replayed.lines; state = s; log = whole.replayed.log; text = whole.text; uses = other }
+shows_other m bytes s before after other whole = record { version = whole.version; lines = whole.replayed.lines; suits = whole.suits; state = s; log = whole.replayed.log; text = whole.text; uses = other }
 
 -- and these can't all hold
 pub cant_all_hold : (m : Data) (s : LogState) (before after : List Bool) (cs : List Con) → before ≡ replicate (length m.constraints) false → cs ≡ listed_from 0 after → verdict_of s ≡ Infeasible → IsValid m

@@ -15,7 +15,7 @@ returns-in_err-kernel-clause-bounds g c =
 pub returns-clause-bounds : goal.returns-clause-bounds
 returns-clause-bounds g c =
     tells ShowsBound _ _ _ c.args.model.now c.in_ok-kernel.kernel (record { bound = c.bound_of.result; best = c.best-best.result; nodes = c.nodes-nodes.result }) (g.D.Desk.state c.args.desk.now) (g.D.Desk.state c.replay.new.desk)
-    (λ bytes whole. record { lines = whole.replayed.lines; state = c.in_ok-kernel.kernel; log = whole.replayed.log; text = whole.text; bound = c.bound_of.ensures; best = c.best-best.ensures; nodes = c.nodes-nodes.ensures }) c.in_ok-kernel.ensures.replays
+    (λ bytes whole. record { version = whole.version; lines = whole.replayed.lines; suits = whole.suits; state = c.in_ok-kernel.kernel; log = whole.replayed.log; text = whole.text; bound = c.bound_of.ensures; best = c.best-best.ensures; nodes = c.nodes-nodes.ensures }) c.in_ok-kernel.ensures.replays
 
 pub returns-clause-means : goal.returns-clause-means
 returns-clause-means g c = bound_means c.args.model.now c.in_ok-kernel.kernel (record { bound = c.bound_of.result; best = c.best-best.result; nodes = c.nodes-nodes.result }) c.in_ok-kernel.ensures.ready c.bound_of.ensures c.best-best.ensures

@@ -13,4 +13,4 @@ returns-in_err-kernel-clause-checks g c =
 pub returns-clause-checks : goal.returns-clause-checks
 returns-clause-checks g c =
     tells Accepts _ _ _ c.args.model.now c.in_ok-kernel.kernel (record { verdict = c.verdict.result; nodes = c.nodes.result }) (g.D.Desk.state c.args.desk.now) (g.D.Desk.state c.replay.new.desk)
-    (λ bytes whole. record { lines = whole.replayed.lines; state = c.in_ok-kernel.kernel; log = whole.replayed.log; text = whole.text; verdict = c.verdict.ensures.value; nodes = c.nodes.ensures }) c.in_ok-kernel.ensures.replays
+    (λ bytes whole. record { version = whole.version; lines = whole.replayed.lines; suits = whole.suits; state = c.in_ok-kernel.kernel; log = whole.replayed.log; text = whole.text; verdict = c.verdict.ensures.value; nodes = c.nodes.ensures }) c.in_ok-kernel.ensures.replays
