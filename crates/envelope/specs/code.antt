@@ -1,0 +1,3 @@
+pub mod Bars
+pub mod Nodes
+pub mod Trees
