@@ -11,5 +11,5 @@ mod sums;
 mod witness;
 
 pub use on_energy::EnergyRefuter;
-pub use row::is_capacity;
+pub use row::{is_capacity, offered};
 pub use witness::EnergyWitness;

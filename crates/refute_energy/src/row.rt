@@ -17,9 +17,9 @@ fn are_bars(look: &Look<'_>, parts: &[Part], set: &[u32]) -> bool
     set.iter().all(|k| is_bar_at(look, parts, *k))
 }
 
-/// What a capacity offers for some time.
+/// What a capacity offers for some time. It fits, whatever the capacity.
 #[tactic(auto, using(crate::specs::laws::Wide::wide_low, crate::specs::laws::Wide::wide_high))]
-fn offered(hi: i64, time: i64) -> i128
+pub fn offered(hi: i64, time: i64) -> i128
     requires from { neg_ℤ (pos 2000000000) ≤ℤ time }
     requires to { time ≤ℤ pos 2000000000 }
     ensures { result ≡ hi *ℤ time }

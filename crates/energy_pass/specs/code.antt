@@ -1,0 +1,4 @@
+pub mod Rows
+pub mod Ends
+pub mod Starts
+pub mod Trees
