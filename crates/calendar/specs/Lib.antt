@@ -1,0 +1,5 @@
+pub mod Steps
+pub mod Kept
+pub mod Rules
+pub mod Sentence
+pub mod laws
