@@ -1,32 +1,19 @@
 -- Constraints that are added one by one.
-use Rattle.std.specs.Prelude.{◌≡◌, ℕ, zero, suc, ◌+◌, ◌<◌, ◌≤◌, ℤ, pos, neg_ℤ, ◌+ℤ◌, ◌≤ℤ◌, ◌<ℤ◌, true, ◌&&◌, List, [], ◌∷◌, ◌++◌, length, map, take, drop}
+use Rattle.std.specs.Prelude.{◌≡◌, ℕ, zero, suc, ◌+◌, ◌<◌, ◌≤◌, true, List, [], ◌∷◌, ◌++◌, length, map, take, drop}
 use Rattle.std.specs.List.{list_all}
 use Rattle.std.proofs.Common.{refl, sym, ap, subst, ◌∙◌, arith, get_or}
-use Rattle.std.proofs.lemmas.Int.{ints}
-use Rattle.std.proofs.lemmas.Bool.{and_parts, and_from}
+use Rattle.std.proofs.lemmas.Bool.{and_parts}
 use Rattle.std.proofs.lemmas.List.{append_assoc, take-append-drop, take_all}
 use Rattle.sched_base.specs.declared.ids.Itv.{Itv}
 use Rattle.sched_model.specs.declared.types.Constraint.{Constraint}
-use Rattle.sched_model.specs.Bounds.{is_small}
-use Rattle.sched_model.specs.Data.{Data, horizon, with_constraint}
+use Rattle.sched_model.specs.Data.{Data, with_constraint}
 use Rattle.sched_model.specs.Valid.{IsValid}
 use Rattle.calendar.specs.declared.step.Pair.{Pair}
 use Rattle.calendar.specs.declared.rules.Demand.{Demand}
-use Rattle.calendar.specs.Steps.{are_steps, closed_of, IsClosed}
+use Rattle.calendar.specs.Steps.{are_steps, closed_of}
 use Rattle.calendar.specs.Rules.{rule_of, rules_of, is_small_range, with_constraints, RulesSayIt}
-use Rattle.calendar.specs.laws.Closed.{Each, ranges_closed}
 use Rattle.calendar.specs.laws.Prefix.{valid_front}
 use Rattle.calendar.specs.laws.Meaning.{rules_say_it}
-
-all_small : (ps rs : List Pair) → Each (IsClosed ps) rs → list_all is_small_range rs ≡ true
-all_small ps [] h = refl
-all_small ps (r ∷ rs) h = and_from (is_small_range r) (list_all is_small_range rs) (one r.t r.v h.0.some h.0.from h.0.until) (all_small ps rs h.1)
-  where
-    one : (u v : ℤ) → u <ℤ v → neg_ℤ horizon ≤ℤ u → v ≤ℤ (horizon +ℤ pos 1) → (is_small u && is_small v) ≡ true
-    one u v h i j = grind (arith, ints)
-
-pub ranges_small : (ps rs : List Pair) → are_steps ps ≡ true → rs ≡ closed_of ps → list_all is_small_range rs ≡ true
-ranges_small ps rs steps is = ap (list_all is_small_range) is ∙ all_small ps (closed_of ps) (ranges_closed ps steps)
 
 pub small_there : (rs : List Pair) (i : ℕ) (d : Pair) → list_all is_small_range rs ≡ true → i < length rs → is_small_range (get_or rs i d) ≡ true
 small_there [] i d h within = absurd (omega (arith, within))

@@ -5,10 +5,12 @@
 //! Moments are whole numbers from -H to H.
 #![tactic(auto)]
 
+mod counts;
 mod ranges;
 mod rules;
 mod step;
 
+pub use counts::made_nodes;
 pub use ranges::closed;
 pub use rules::{Demand, forbid_extent, forbid_start};
 pub use step::{Pair, StepFn};

@@ -1,4 +1,4 @@
-ghost use Rattle.std.specs.Prelude.{◌≡◌, IfOk, OnOk, true, pos, [], ◌++◌, ◌&&◌};
+ghost use Rattle.std.specs.Prelude.{◌≡◌, ◌≤◌, length, IfOk, OnOk, true, pos, [], ◌++◌, ◌&&◌};
 ghost use Rattle.std.specs.Ordering.{int_eq};
 ghost use Rattle.calendar.specs.Steps.{are_steps, closed_of, ended, AreClosed};
 
@@ -46,13 +46,13 @@ fn walk(alloc: Global, pairs: &[Pair]) -> Result<List<Pair>, NoMemory>
 }
 
 /// The closed ranges: in order, the ranges of moments at which the function is 0, each as long as it
-/// can be. `t` of each is its first moment, `v` the first behind it. There are at most one more than
-/// pairs.
-#[tactic(auto, using(crate::specs::laws::Closed::ranges_are_closed))]
+/// can be. `t` of each is its first moment, `v` the first behind it. There are at most
+/// 1,001.
 pub fn closed(alloc: Global, f: &StepFn) -> Result<List<Pair>, NoMemory>
     requires steps { are_steps f.now.pairs ≡ true }
     ensures ranges { IfOk result (λ rs. rs ≡ closed_of f.now.pairs) }
     ensures meaning { IfOk result (λ rs. AreClosed f.now.pairs rs) }
+    ensures few { IfOk result (λ rs. length rs ≤ 1001) }
 {
     walk(alloc, f.pairs.as_slice())
 }

@@ -134,7 +134,7 @@ fn add_rules(
 
 /// Adds the constraints of a calendar: one for each closed range, in rising order. A refusal leaves
 /// the model with the first of them.
-#[tactic(auto, using(crate::proofs::Adding::ranges_small, crate::proofs::Adding::rules_same, crate::proofs::Adding::rules_part, crate::proofs::Adding::rules_mean))]
+#[tactic(auto, using(crate::specs::laws::Fitting::ranges_small, crate::proofs::Adding::rules_same, crate::proofs::Adding::rules_part, crate::proofs::Adding::rules_mean))]
 fn forbid(
     alloc: Global,
     model: &mut Model,

@@ -1,10 +1,11 @@
 -- The closed ranges are those at which the function is 0, as long as they can be, and no moment at which it is 0 is missed.
-use Rattle.std.specs.Prelude.{◌≡◌, ℤ, pos, neg_ℤ, ◌+ℤ◌, ◌-ℤ◌, ◌≤ℤ◌, ◌<ℤ◌, Bool, true, false, ◌&&◌, ◌||◌, List, [], ◌∷◌, length, nat_le, int_le, int_lt, All}
+use Rattle.std.specs.Prelude.{◌≡◌, ℕ, suc, ◌+◌, ◌≤◌, ℤ, pos, neg_ℤ, ◌+ℤ◌, ◌-ℤ◌, ◌≤ℤ◌, ◌<ℤ◌, Bool, true, false, ◌&&◌, ◌||◌, List, [], ◌∷◌, length, nat_le, int_le, int_lt, All}
 use Rattle.std.specs.Ordering.{int_eq}
 use Rattle.std.specs.List.{list_all, list_any}
 use Rattle.std.proofs.lemmas.List.Elements.{All-nil, All-cons}
 use Rattle.std.proofs.Common.{refl, sym, ap, ◌∙◌, arith, cond, ◌⊎◌, inl, inr, subst}
 use Rattle.std.proofs.lemmas.Int.{ints}
+use Rattle.std.proofs.lemmas.Bool.Decides.{nat_tests}
 use Rattle.std.proofs.lemmas.Bool.{and_parts, true≢false}
 use Rattle.sched_model.specs.Words.{pairwise}
 use Rattle.sched_model.specs.Bounds.{is_moment, is_amount}
@@ -344,3 +345,29 @@ are_closed ps steps = record {
 -- so said of the ranges themselves
 pub ranges_are_closed : (ps rs : List Pair) → are_steps ps ≡ true → rs ≡ closed_of ps → AreClosed ps rs
 ranges_are_closed ps rs steps is = subst (AreClosed ps) (sym is) (are_closed ps steps)
+
+-- there is at most one more than pairs
+closed_count : (from v : ℤ) (ps : List Pair) → length (closed_from from v ps) ≤ length ps + 1
+closed_count from v [] = by_case (int_eq v (pos 0)) (int_lt from end)
+  where
+    by_case : (b c : Bool) → length (cond b (cond c (range from end ∷ []) []) []) ≤ 1
+    by_case true true = omega arith
+    by_case true false = omega arith
+    by_case false c = omega arith
+closed_count from v (p ∷ ps) = by_case (int_eq v (pos 0)) (int_eq p.v (pos 0)) (int_lt from p.t) (closed_count from (pos 0) ps) (closed_count p.t p.v ps)
+  where
+    by_case : (b c d : Bool) → length (closed_from from (pos 0) ps) ≤ length ps + 1 → length (closed_from p.t p.v ps) ≤ length ps + 1
+        → length (cond b (cond c (closed_from from (pos 0) ps) (cond d (range from p.t ∷ closed_from p.t p.v ps) (closed_from p.t p.v ps))) (closed_from p.t p.v ps)) ≤ suc (length ps) + 1
+    by_case true true d h i = omega (arith, h)
+    by_case true false true h i = omega (arith, i)
+    by_case true false false h i = omega (arith, i)
+    by_case false c d h i = omega (arith, i)
+
+pub few_closed : (ps rs : List Pair) → are_steps ps ≡ true → rs ≡ closed_of ps → length rs ≤ 1001
+few_closed ps rs steps is =
+    let few = at_most (length ps) (and_parts (rises ps && list_all (λ p. is_moment p.t && is_amount p.v) ps) (nat_le (length ps) 1000) steps).1 in
+    let count = closed_count (neg_ℤ horizon) (pos 0) ps in
+    omega (arith, ap length is, few, count)
+  where
+    at_most : (n : ℕ) → nat_le n 1000 ≡ true → n ≤ 1000
+    at_most n h = grind (arith, nat_tests)
