@@ -23,6 +23,7 @@
 
 mod circles;
 mod disjunctive;
+mod distances;
 mod heard;
 mod keys;
 mod likely;
@@ -32,5 +33,6 @@ mod places;
 mod silence;
 mod table;
 mod waiting;
+mod waits;
 
 pub use table::PropUnary;

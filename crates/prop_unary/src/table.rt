@@ -16,12 +16,15 @@ ghost use Rattle.prop_unary.specs.code.Tables.{IsFor, members_at, sequences_at, 
 
 use crate::circles::ask_circles;
 use crate::disjunctive::Disjunctive;
+use crate::distances::Distances;
 use crate::keys::Keys;
 use crate::members::sequence_at;
 use crate::pairs::{ask_pairs, ask_told};
 use crate::places::Places;
-use crate::waiting::{Told, Waiting};
-use findings::{Finding, Moves};
+use crate::waiting::Told;
+use crate::waits::Waits;
+use findings::Finding;
+use place_sets::MovedPlaces;
 use refute_seq::{SeqWitness, members_of};
 use region::Region;
 use sched_base::{Itv, List, NoMemory, Seq, at};
@@ -44,11 +47,11 @@ pub struct PropUnary {
     /// The place of the member with which each begins.
     starts: Vec<usize>,
     /// What was read of each constraint when it was asked whether it can wait. Nothing hangs on it.
-    waiting: Vec<Waiting>,
+    waiting: Vec<Waits>,
     /// Which members of each constraint have moved since they were read, and which have another order with
     /// one.
-    moves: Moves,
-    turns: Moves,
+    moves: MovedPlaces,
+    turns: MovedPlaces,
 }
 
 /// The most members that a sequence may have.
@@ -108,23 +111,23 @@ fn sequence_of_each(alloc: Global, model: &Model, n: u32) -> Result<Vec<List<Seq
     Ok(lists)
 }
 
-/// How many members of a constraint are compared where it is asked whether it can wait: none but of one
-/// without overlap and without distances.
-fn compared(model: &Model, constraint: &Constraint) -> usize {
-    match constraint {
-        Constraint::NoOverlap {
-            p,
-            matrix: None,
-            ..
-        } => members_of(model, *p).len(),
-        _ => 0,
-    }
+/// What is told of a constraint when it is asked whether it can wait: nothing but of one without overlap,
+/// and whose distances, if it has any, don't bind neighbours alone.
+fn waits_of(alloc: Global, model: &Model, constraint: &Constraint) -> Result<Waits, NoMemory> {
+    let (p, matrix) = match constraint {
+        Constraint::NoOverlap { p, matrix, direct } if !*direct || matrix.is_none() => (
+            *p, *matrix,
+        ),
+        _ => return Waits::new(alloc, 0, Distances::new(alloc, model, Seq(0), None)?),
+    };
+    let distances = Distances::new(alloc, model, p, matrix)?;
+    Waits::new(alloc, members_of(model, p).len(), distances)
 }
 
-fn waiting_of_each(alloc: Global, model: &Model) -> Result<Vec<Waiting>, NoMemory> {
+fn waiting_of_each(alloc: Global, model: &Model) -> Result<Vec<Waits>, NoMemory> {
     let mut waiting = Vec::new(alloc);
     for c in model.constraints() {
-        waiting.push(Waiting::new(alloc, compared(model, c))?)?;
+        waiting.push(waits_of(alloc, model, c)?)?;
     }
     Ok(waiting)
 }
@@ -206,7 +209,7 @@ fn ask_constraint(
     }
 }
 
-fn told_at(waiting: &[Waiting], c: usize, from: usize) -> Option<Told> {
+fn told_at(waiting: &[Waits], c: usize, from: usize) -> Option<Told> {
     waiting.get(c)?.told(from)
 }
 
@@ -221,8 +224,8 @@ impl PropUnary {
         let members = members_of_each(alloc, model, n)?;
         let sequences = sequence_of_each(alloc, model, n)?;
         let asked = &members[..constraints as usize];
-        let moves = Moves::new(alloc, asked)?;
-        let turns = Moves::new(alloc, asked)?;
+        let moves = MovedPlaces::new(alloc, asked)?;
+        let turns = MovedPlaces::new(alloc, asked)?;
         Ok(PropUnary {
             constraints,
             members,
@@ -276,7 +279,8 @@ impl PropUnary {
     }
 
     /// Whether what it finds now, if it finds anything, can wait until others are quiet. It says so only
-    /// of a constraint without distances. It reads those alone that may have moved since it was asked last. Nothing hangs on it.
+    /// of a constraint whose distances, if it has any, don't bind neighbours alone. It reads those alone
+    /// that may have moved since it was asked last. Nothing hangs on it.
     pub fn can_wait(&mut self, k: u32, model: &Model, region: &Region) -> bool
         ensures kept { (m : Data) → IsFor self.old m → IsFor self.new m }
     {
@@ -284,17 +288,11 @@ impl PropUnary {
             return false;
         }
         match at(model.constraints(), k as usize) {
-            Some(
-                Constraint::NoOverlap {
-                    p,
-                    matrix: None,
-                    ..
-                },
-            ) => {
-                let moved = self.moves.take(k as usize);
-                let turned = self.turns.take(k as usize);
+            Some(Constraint::NoOverlap { p, .. }) => {
                 let members = members_of(model, *p);
-                self.waiting[k as usize].can_wait(region, *p, members, moved, turned)
+                let (moves, turns) = (&mut self.moves, &mut self.turns);
+                let waits = &mut self.waiting[k as usize];
+                waits.can_wait(model, region, *p, members, k as usize, moves, turns)
             }
             _ => false,
         }

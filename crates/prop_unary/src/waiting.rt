@@ -2,8 +2,11 @@
 //! or a bound that the size of an interval alone gives too.
 ghost use Rattle.std.specs.Prelude.{◌≡◌, ◌<◌, ◌≤◌, length};
 
+use crate::distances::Distances;
+use place_sets::PlaceSet;
 use region::{Look, OrderCell, Presence, Region};
 use sched_base::{Itv, NoMemory, Seq};
+use sched_model::Model;
 use std::alloc::Global;
 
 /// What is compared of a member, in moments, each in 32 bits, so that a sequence takes little room. Where
@@ -72,8 +75,25 @@ fn window_at(look: &Look<'_>, x: Itv) -> Window
     }
 }
 
-/// Whether two don't fit as they are if the first stands before the second: the first pushes the second
-/// to a later start, or the second the first to a sooner end, or both can't be.
+/// Whether a moment with a distance is later than another moment.
+fn is_beyond(end: i32, n: i64, start: i32) -> bool {
+    i64::from(end).saturating_add(n) > i64::from(start)
+}
+
+/// Whether two don't fit as they are if the first stands before the second, so far apart: the first
+/// pushes the second to a later start, or the second the first to a sooner end, or both can't be.
+fn is_pushed_by(c: Window, d: Window, n: i64) -> bool {
+    is_beyond(c.present_ect, n, d.smin)
+        | is_beyond(c.emax, n, d.present_lst)
+        | is_beyond(c.ect, n, d.lst)
+}
+
+/// Whether two that are there can't stand so far apart, the first before the second.
+fn is_refuted(c: Window, d: Window, n: i64) -> bool {
+    is_beyond(c.present_ect, n, d.present_lst)
+}
+
+/// The same of two that keep no distance.
 fn is_pushed(c: Window, d: Window) -> bool {
     (c.present_ect > d.smin) | (c.emax > d.present_lst) | (c.ect > d.lst)
 }
@@ -88,67 +108,63 @@ fn do_clash(c: Window, d: Window) -> bool {
     (c.present_ect > d.present_lst) & (d.present_ect > c.present_lst)
 }
 
-/// The set of one place.
-fn only(k: usize) -> u64 {
-    1u64 << (k % 64)
-}
-
-/// The set without its first place.
-fn without_first(word: u64) -> u64 {
-    word & word.wrapping_sub(1)
-}
-
 /// Of each member a set of places, where two stand in one another's or in neither's.
 #[derive(Debug, Drop)]
-struct Table {
-    rows: Vec<u64>,
+struct Table<const W: usize> {
+    rows: Vec<PlaceSet<W>>,
     /// Whose rows are other than they were.
-    touched: u64,
+    touched: PlaceSet<W>,
     /// Whose rows aren't empty.
-    filled: u64,
+    filled: PlaceSet<W>,
 }
 
-impl Table {
-    fn new(alloc: Global, room: usize) -> Result<Table, NoMemory> {
+impl<const W: usize> Table<W> {
+    fn new(alloc: Global, room: usize) -> Result<Table<W>, NoMemory> {
         Ok(Table {
-            rows: vec![in alloc; 0; room]?,
-            touched: 0,
-            filled: 0,
+            rows: vec![in alloc; PlaceSet::none(); room]?,
+            touched: PlaceSet::none(),
+            filled: PlaceSet::none(),
         })
     }
 
-    fn row(&self, at: usize) -> u64 {
-        if at < self.rows.len() {
-            self.rows[at]
-        } else {
-            0
-        }
+    fn row(&self, at: usize) -> PlaceSet<W> {
+        set_at(&self.rows, at)
     }
 
-    /// Turns two in one another's rows.
-    fn turn(&mut self, at: usize, row: u64) {
+    /// Puts another row of a member in the place of its row.
+    fn turn(&mut self, at: usize, row: PlaceSet<W>) {
         if at >= self.rows.len() {
             return;
         }
         self.rows[at] = row;
-        self.touched |= only(at);
-        if row == 0 {
-            self.filled &= !only(at);
+        self.touched.put(at);
+        if row.is_empty() {
+            self.filled.take_out(at);
         } else {
-            self.filled |= only(at);
+            self.filled.put(at);
         }
     }
 
+    /// Turns a member in the row of another.
+    fn turn_in(&mut self, at: usize, k: usize) {
+        let mut row = self.row(at);
+        row.turn(k);
+        self.turn(at, row);
+    }
+
     /// Puts the row of a member, and what it says of others into theirs.
-    fn put(&mut self, at: usize, row: u64) {
-        let mut changed = row ^ self.row(at);
-        if changed == 0 {
+    fn put(&mut self, at: usize, row: PlaceSet<W>) {
+        let mut changed = row.xor(&self.row(at));
+        if changed.is_empty() {
             return;
         }
-        for _ in 0..changed.count_ones() {
-            let k = changed.trailing_zeros() as usize;
-            self.turn(k, self.row(k) ^ only(at));
-            changed = without_first(changed);
+        for _ in 0..self.rows.len() {
+            let k = changed.next();
+            // None is left.
+            if k >= self.rows.len() {
+                break;
+            }
+            self.turn_in(k, at);
         }
         self.turn(at, row);
     }
@@ -159,14 +175,15 @@ impl Table {
 /// read since one of them had another, and of these those that it is told to stand before. Two are compared
 /// where one of them may have moved, and their order is read where it may be another.
 #[derive(Debug, Drop)]
-pub struct Waiting {
+pub struct Waiting<const W: usize> {
+    distances: Distances,
     noted: Vec<Window>,
-    tight: Table,
-    clashing: Table,
-    known: Vec<u64>,
-    before: Vec<u64>,
+    tight: Table<W>,
+    clashing: Table<W>,
+    known: Vec<PlaceSet<W>>,
+    before: Vec<PlaceSet<W>>,
     /// Who is told to stand before some with whom it fits in neither order.
-    telling: u64,
+    telling: PlaceSet<W>,
 }
 
 /// The places of two of whom the first is told to stand before the second.
@@ -176,87 +193,98 @@ pub struct Told {
     pub second: usize,
 }
 
-/// The most members that a sequence has of which something is said.
-const MANY: usize = 64;
-
-impl Waiting {
-    /// Room for as many members, where they aren't too many.
-    pub fn new(alloc: Global, members: usize) -> Result<Waiting, NoMemory> {
-        let room = if members > MANY { 0 } else { members };
+impl<const W: usize> Waiting<W> {
+    /// Room for as many members.
+    pub fn new(
+        alloc: Global,
+        members: usize,
+        distances: Distances,
+    ) -> Result<Waiting<W>, NoMemory> {
         Ok(Waiting {
-            noted: vec![in alloc; Window::ABSENT; room]?,
-            tight: Table::new(alloc, room)?,
-            clashing: Table::new(alloc, room)?,
-            known: vec![in alloc; 0; room]?,
-            before: vec![in alloc; 0; room]?,
-            telling: 0,
+            distances,
+            noted: vec![in alloc; Window::ABSENT; members]?,
+            tight: Table::new(alloc, members)?,
+            clashing: Table::new(alloc, members)?,
+            known: vec![in alloc; PlaceSet::none(); members]?,
+            before: vec![in alloc; PlaceSet::none(); members]?,
+            telling: PlaceSet::none(),
         })
     }
 
-    /// Whether all that PAIR finds now of a sequence without overlap and without distances, whose members
-    /// these are, can wait; only those at some places, and the orders of those at others, can be other
-    /// than they were read last. Of a long sequence nothing is said to.
+    /// Whether all that PAIR finds now of a sequence without overlap, whose members these are, can wait; only those at some places, and the orders of those at others, can be other
+    /// than they were read last.
     pub fn can_wait(
         &mut self,
+        model: &Model,
         region: &Region,
         p: Seq,
         members: &[Itv],
-        moved: u64,
-        turned: u64,
+        moved: PlaceSet<W>,
+        turned: PlaceSet<W>,
     ) -> bool {
-        let n = members.len();
-        if n == 0 {
-            return true;
-        }
-        if n > MANY || n > self.noted.len() {
+        if members.len() > self.noted.len() {
             return false;
         }
         let look = region.look(None, None);
-        if turned != 0 {
-            take_out(&mut self.known, turned);
-            take_out(&mut self.before, turned);
+        if !turned.is_empty() {
+            take_out(&mut self.known, &turned);
+            take_out(&mut self.before, &turned);
         }
         let moved = note_members(&look, members, moved, &mut self.noted);
-        compare_moved(moved, n, &self.noted, &mut self.tight, &mut self.clashing);
-        self.read_orders(&look, p, members, turned);
-        self.clashing.filled == 0 && self.telling == 0
+        self.compare_moved(model, moved);
+        self.read_orders(&look, p, members, &turned);
+        self.clashing.filled.is_empty() && self.telling.is_empty()
+    }
+
+    /// Compares those at these places with each.
+    fn compare_moved(&mut self, model: &Model, moved: PlaceSet<W>) {
+        let mut moved = moved;
+        let noted = self.noted.as_slice();
+        for _ in 0..noted.len() {
+            let at = moved.next();
+            // None is left.
+            if at >= noted.len() {
+                return;
+            }
+            let rows = if self.distances.are_none() {
+                rows_of(at, noted)
+            } else {
+                far_rows_of(model, &self.distances, at, noted)
+            };
+            self.tight.put(at, rows.tight);
+            self.clashing.put(at, rows.clashing);
+        }
     }
 
     /// Two of whom something is found, where it was told so when it was asked last: the first of those
     /// from a place on, and then up to it, that is told to stand before some.
     pub fn told(&self, from: usize) -> Option<Told> {
-        let from = if from < MANY {
-            u64::MAX << (from % 64)
-        } else {
-            0
-        };
-        let rows = if self.telling & from != 0 {
-            self.telling & from
-        } else {
+        let behind = self.telling.from(from);
+        let rows = if behind.is_empty() {
             self.telling
+        } else {
+            behind
         };
-        let first = rows.trailing_zeros() as usize;
-        let behind = *self.before.get(first)? & self.tight.row(first);
-        let second = behind.trailing_zeros() as usize;
+        let first = rows.first();
+        let second = self.before.get(first)?.and(&self.tight.row(first)).first();
         Some(Told { first, second })
     }
 
     /// Reads the orders that aren't known of those that fit in neither as they are. Where two fit in one
     /// order alone, it is mostly the one that is told, so the orders of no others are read.
-    fn read_orders(&mut self, look: &Look<'_>, p: Seq, members: &[Itv], turned: u64) {
-        let mut due = self.tight.touched | turned;
-        self.tight.touched = 0;
-        if due == 0 {
+    fn read_orders(&mut self, look: &Look<'_>, p: Seq, members: &[Itv], turned: &PlaceSet<W>) {
+        let mut due = self.tight.touched.or(turned);
+        self.tight.touched = PlaceSet::none();
+        if due.is_empty() {
             return;
         }
         for _ in 0..members.len() {
-            let k = due.trailing_zeros() as usize;
+            let k = due.next();
             // None is left.
             if k >= members.len() {
                 break;
             }
             self.read_row(look, p, k, members);
-            due = without_first(due);
         }
         self.telling = telling_of(&self.before, &self.tight);
     }
@@ -276,43 +304,46 @@ impl Waiting {
     fn read_row(&mut self, look: &Look<'_>, p: Seq, at: usize, members: &[Itv])
         requires { at < length members.now }
     {
-        let mut others = self.tight.row(at) & !set_at(&self.known, at);
+        let mut others = self.tight.row(at).minus(&set_at(&self.known, at));
         for _ in 0..members.len() {
-            let k = others.trailing_zeros() as usize;
+            let k = others.next();
             // None is left.
             if k >= members.len() {
                 return;
             }
             self.note_order(at, k, look.order(p, members[at], members[k]));
-            others = without_first(others);
         }
     }
 }
 
 /// Puts a member into the set of another.
-fn put_into(sets: &mut [u64], at: usize, k: usize) {
+fn put_into<const W: usize>(sets: &mut [PlaceSet<W>], at: usize, k: usize) {
     if at < sets.len() {
-        sets[at] |= only(k);
+        sets[at].put(k);
     }
 }
 
-fn set_at(sets: &[u64], at: usize) -> u64 {
-    if at < sets.len() { sets[at] } else { 0 }
+fn set_at<const W: usize>(sets: &[PlaceSet<W>], at: usize) -> PlaceSet<W> {
+    if at < sets.len() {
+        sets[at]
+    } else {
+        PlaceSet::none()
+    }
 }
 
 /// Takes some out of the sets of each of them: an order that is another is of two of them.
-fn take_out(sets: &mut [u64], places: u64) {
+fn take_out<const W: usize>(sets: &mut [PlaceSet<W>], places: &PlaceSet<W>) {
     for k in 0..sets.len() {
-        let left = sets[k] & !places;
-        sets[k] = if places & only(k) != 0 { left } else { sets[k] };
+        let left = sets[k].minus(places);
+        sets[k] = if places.contains(k) { left } else { sets[k] };
     }
 }
 
 /// Who is told to stand before some with whom it fits in neither order.
-fn telling_of(before: &[u64], tight: &Table) -> u64 {
-    let mut telling = 0;
+fn telling_of<const W: usize>(before: &[PlaceSet<W>], tight: &Table<W>) -> PlaceSet<W> {
+    let mut telling = PlaceSet::none();
     for k in 0..before.len() {
-        telling |= u64::from(before[k] & tight.row(k) != 0) << (k % 64);
+        telling.put_if(k, !before[k].and(&tight.row(k)).is_empty());
     }
     telling
 }
@@ -329,69 +360,83 @@ fn note_member(look: &Look<'_>, x: Itv, noted: &mut Window) -> bool {
 }
 
 /// Reads the members at these places. The places of those of which something else is known than before.
-fn note_members(look: &Look<'_>, members: &[Itv], places: u64, noted: &mut [Window]) -> u64
+fn note_members<const W: usize>(
+    look: &Look<'_>,
+    members: &[Itv],
+    places: PlaceSet<W>,
+    noted: &mut [Window],
+) -> PlaceSet<W>
     requires room { length members.now ≤ length noted.old }
-    requires few { length members.now ≤ 64 }
     ensures { length noted.new ≡ length noted.old }
 {
     let mut places = places;
-    let mut moved = 0;
+    let mut moved = PlaceSet::none();
     for _ in 0..members.len() {
-        let k = places.trailing_zeros() as usize;
+        let k = places.next();
         // None is left.
         if k >= members.len() {
             return moved;
         }
         if note_member(look, members[k], &mut noted[k]) {
-            moved |= 1 << k;
+            moved.put(k);
         }
-        places = without_first(places);
     }
     moved
 }
 
 /// With whom a member fits in neither order as they are, and with whom of them it can't be.
 #[derive(Clone, Copy, Debug)]
-struct Rows {
-    tight: u64,
-    clashing: u64,
+struct Rows<const W: usize> {
+    tight: PlaceSet<W>,
+    clashing: PlaceSet<W>,
 }
 
 /// Those of the member at a place.
-fn rows_of(at: usize, n: usize, noted: &[Window]) -> Rows
-    requires here { at < n }
-    requires room { n ≤ length noted.now }
-    requires few { n ≤ 64 }
+fn rows_of<const W: usize>(at: usize, noted: &[Window]) -> Rows<W>
+    requires { at < length noted.now }
 {
     let window = noted[at];
     let mut rows = Rows {
-        tight: 0,
-        clashing: 0,
+        tight: PlaceSet::none(),
+        clashing: PlaceSet::none(),
     };
-    for k in 0..n {
+    for k in 0..noted.len() {
         let other = noted[k];
-        rows.tight |= u64::from(are_tight(window, other)) << k;
-        rows.clashing |= u64::from(do_clash(window, other)) << k;
+        let is_tight = are_tight(window, other);
+        rows.tight.put_if(k, is_tight);
+        rows.clashing.put_if(k, is_tight & do_clash(window, other));
     }
-    Rows {
-        tight: rows.tight & !only(at),
-        clashing: rows.clashing & rows.tight & !only(at),
-    }
+    rows.tight.take_out(at);
+    rows.clashing.take_out(at);
+    rows
 }
 
-/// Compares those at these places with each.
-fn compare_moved(moved: u64, n: usize, noted: &[Window], tight: &mut Table, clashing: &mut Table)
-    requires room { n ≤ length noted.now }
-    requires few { n ≤ 64 }
+/// The same where distances are kept.
+fn far_rows_of<const W: usize>(
+    model: &Model,
+    distances: &Distances,
+    at: usize,
+    noted: &[Window],
+) -> Rows<W>
+    requires { at < length noted.now }
 {
-    let mut moved = moved;
-    for _ in 0..moved.count_ones() {
-        let at = moved.trailing_zeros() as usize;
-        if at < n {
-            let rows = rows_of(at, n, noted);
-            tight.put(at, rows.tight);
-            clashing.put(at, rows.clashing);
-        }
-        moved = without_first(moved);
+    let window = noted[at];
+    let mut rows = Rows {
+        tight: PlaceSet::none(),
+        clashing: PlaceSet::none(),
+    };
+    for k in 0..noted.len() {
+        let other = noted[k];
+        let (forth, back) = (
+            distances.between(model, at, k),
+            distances.between(model, k, at),
+        );
+        let is_tight = is_pushed_by(window, other, forth) & is_pushed_by(other, window, back);
+        let do_clash = is_refuted(window, other, forth) & is_refuted(other, window, back);
+        rows.tight.put_if(k, is_tight);
+        rows.clashing.put_if(k, is_tight & do_clash);
     }
+    rows.tight.take_out(at);
+    rows.clashing.take_out(at);
+    rows
 }
