@@ -9,9 +9,9 @@ ghost use Rattle.prop_sets.specs.code.Rows.{member_at, side_of};
 ghost use Rattle.prop_sets.specs.code.Busy.{IsBusy, IsNext, IsNextOf, name_at, ids_of, likely_pushed};
 
 use crate::passes::{Behind, Cut};
-use crate::probe::Hint;
-use crate::times::has;
+use crate::probe::{Hint, WORDS};
 use findings::{Finding, Likely, Reaching, ask, ask_end, ask_reaching};
+use place_sets::PlaceSet;
 use refute_seq::{Few, OnSequence, SeqWitness};
 use region::Region;
 use sched_base::{Itv, NoMemory};
@@ -175,12 +175,12 @@ pub fn answer_detect(
 fn hinted_ids(
     alloc: Global,
     members: &[Itv],
-    set: u64,
+    set: &PlaceSet<WORDS>,
     ids: &mut Vec<u32>,
 ) -> Result<Few, NoMemory> {
     ids.clear();
     for k in 0..members.len() {
-        if has(set, k) {
+        if set.contains(k) {
             ids.push(members[k].0)?;
         }
     }
@@ -243,7 +243,7 @@ pub fn answer_hinted(
     if hint.place >= members.len() {
         return Ok(None);
     }
-    let s = hinted_ids(alloc, members, hint.set, ids)?;
+    let s = hinted_ids(alloc, members, &hint.set, ids)?;
     let i = members[hint.place];
     Ok(answer_behind(model, region, best, c, hint.back, i, s, hint.far))
 }

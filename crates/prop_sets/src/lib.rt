@@ -28,6 +28,7 @@ mod numbers;
 mod orders;
 mod passes;
 mod probe;
+mod probes;
 mod reaches;
 mod sides;
 mod table;

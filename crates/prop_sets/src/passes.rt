@@ -20,7 +20,7 @@ use theta_passes::witnesses::{EdgeSets, edge_sets, late_set, over_scan, overload
 use theta_passes::{Presence, Row};
 
 /// Of so many members a scan is sooner than a pass over the tree.
-const FEW: usize = 64;
+const FEW: usize = 128;
 
 /// A member, and a set of others.
 #[derive(Debug, Drop)]

@@ -16,9 +16,11 @@ ghost use Rattle.prop_sets.specs.code.Known.{IsStill, AreUnknown, AreNumbers};
 use crate::answering::answer_hinted;
 use crate::known::{Numbers, is_remembered, numbers_in, remember};
 use crate::orders::{Ordered, by_start};
-use crate::probe::{Hint, Probe, Told};
+use crate::probe::{Hint, Told};
+use crate::probes::AnyProbe;
 use crate::sides::{Asked, Spare, ask_rest, ask_side};
-use findings::{Finding, Moves};
+use findings::Finding;
+use place_sets::MovedPlaces;
 use refute_seq::{SeqWitness, members_of};
 use region::Region;
 use sched_base::{Itv, List, NoMemory, Seq, at};
@@ -44,9 +46,9 @@ pub struct PropSets {
     spare: Spare,
     /// What was told of each when it was asked whether it can wait, whom DETECT finds something of then,
     /// and which members have moved since. Nothing hangs on it.
-    probes: Vec<Probe>,
+    probes: Vec<AnyProbe>,
     hints: Vec<Option<Hint>>,
-    moves: Moves,
+    moves: MovedPlaces,
 }
 
 impl std::marker::Model for PropSets {
@@ -124,10 +126,10 @@ fn unknown(alloc: Global, n: usize) -> Result<Vec<Option<List<Numbers>>>, NoMemo
 }
 
 /// Room to tell what is found of each.
-fn probes_of(alloc: Global, members: &[List<Itv>]) -> Result<Vec<Probe>, NoMemory> {
+fn probes_of(alloc: Global, members: &[List<Itv>]) -> Result<Vec<AnyProbe>, NoMemory> {
     let mut probes = Vec::new(alloc);
     for k in 0..members.len() {
-        probes.push(Probe::new(alloc, members[k].len())?)?;
+        probes.push(AnyProbe::new(alloc, members[k].len())?)?;
     }
     Ok(probes)
 }
@@ -223,7 +225,7 @@ impl PropSets {
         let known = unknown(alloc, members.len())?;
         let probes = probes_of(alloc, &members)?;
         let hints = vec![in alloc; None; members.len()]?;
-        let moves = Moves::new(alloc, &members)?;
+        let moves = MovedPlaces::new(alloc, &members)?;
         Ok(PropSets {
             alloc,
             later,
@@ -306,8 +308,8 @@ impl PropSets {
         {
             return false;
         }
-        let moved = self.moves.take(i);
-        let told = self.probes[i].tell(region, self.members[i].as_slice(), moved);
+        let members = self.members[i].as_slice();
+        let told = self.probes[i].tell(region, members, i, &mut self.moves);
         self.hints[i] = match told {
             Told::Late(hint) => Some(hint),
             _ => None,

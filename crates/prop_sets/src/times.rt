@@ -1,22 +1,9 @@
 //! The members of a sequence on one side, in numbers, and with whose tests are to be made again.
 ghost use Rattle.std.specs.Prelude.{◌≡◌, ◌<◌, ◌+◌, length};
 
+use place_sets::PlaceSet;
 use sched_base::NoMemory;
 use std::alloc::Global;
-
-/// The set of one place.
-pub fn only(k: usize) -> u64 {
-    1u64 << (k % 64)
-}
-
-pub fn has(set: u64, k: usize) -> bool {
-    set & only(k) != 0
-}
-
-/// The set without its first place.
-pub fn without_first(set: u64) -> u64 {
-    set & set.wrapping_sub(1)
-}
 
 /// A member on one side: its place, its earliest start, its latest completion and its size. Each has 32
 /// bits, so that a sequence takes little room.
@@ -33,32 +20,27 @@ impl Times {
     fn at(&self) -> usize {
         self.place as usize
     }
-
-    /// The set of the place.
-    fn bit(&self) -> u64 {
-        only(self.at())
-    }
 }
 
 /// Some members, and the earliest completion of all of them.
 #[derive(Clone, Copy, Debug)]
-pub struct Part {
-    pub set: u64,
+pub struct Part<const W: usize> {
+    pub set: PlaceSet<W>,
     pub end: i64,
 }
 
 /// The members of a sequence on one side, where time goes on or is turned round. Sets of them are sets of
-/// their places, each a bit.
-#[derive(Debug, Drop)]
-pub struct SideTimes {
+/// their places.
+#[derive(Drop)]
+pub struct SideTimes<const W: usize> {
     /// The earliest start first.
     members: Vec<Times>,
     /// Where the member at each place stands in that order.
     spots: Vec<u32>,
     /// Who may be late since for those that must come before it.
-    pub due: u64,
+    pub due: PlaceSet<W>,
     /// With whose earliest start a set may begin that overloads since.
-    begins: u64,
+    begins: PlaceSet<W>,
 }
 
 /// Whether a member stands before another in the order: of those with one earliest start, the first place
@@ -100,25 +82,19 @@ fn sink(members: &mut [Times], spots: &mut [u32], from: usize)
 }
 
 /// Moves a member on to its place in the order. Those behind which it comes now.
-fn rise(members: &mut [Times], spots: &mut [u32], from: usize) -> u64
+fn rise<const W: usize>(members: &mut [Times], spots: &mut [u32], from: usize) -> PlaceSet<W>
     requires { from < length members.old }
     ensures { length members.new ≡ length members.old }
 {
-    let mut passed = 0;
+    let mut passed = PlaceSet::none();
     for k in from..members.len() - 1 {
         if comes_first(members[k], members[k + 1]) {
             return passed;
         }
         swap(members, spots, k);
-        passed |= members[k].bit();
+        passed.put(members[k].at());
     }
     passed
-}
-
-/// Each bit where a place is in a set, and none where it isn't. Who is in a set follows no pattern, so sums
-/// over sets are made without a branch.
-fn mask_of(set: u64, place: u32) -> i64 {
-    set.wrapping_shl(!place).cast_signed() >> 63
 }
 
 /// Each bit where a number isn't positive, and none where it is.
@@ -126,9 +102,9 @@ fn mask_unless_positive(n: i64) -> i64 {
     n.wrapping_sub(1) >> 63
 }
 
-impl SideTimes {
-    /// Room for as many members, at most 64.
-    pub fn new(alloc: Global, room: usize) -> Result<SideTimes, NoMemory> {
+impl<const W: usize> SideTimes<W> {
+    /// Room for as many members.
+    pub fn new(alloc: Global, room: usize) -> Result<SideTimes<W>, NoMemory> {
         let mut members = Vec::new(alloc);
         let mut spots = Vec::new(alloc);
         for place in 0..u32::try_from(room).unwrap_or(0) {
@@ -143,15 +119,15 @@ impl SideTimes {
         Ok(SideTimes {
             members,
             spots,
-            due: 0,
-            begins: 0,
+            due: PlaceSet::none(),
+            begins: PlaceSet::none(),
         })
     }
 
     /// All is to be tested.
     pub fn ask_all(&mut self) {
-        self.due = u64::MAX;
-        self.begins = u64::MAX;
+        self.due = PlaceSet::all();
+        self.begins = PlaceSet::all();
     }
 
     /// Where the member at a place stands in the order.
@@ -169,7 +145,7 @@ impl SideTimes {
     }
 
     /// Notes the numbers of the member at a place, where those are given that it must come before.
-    pub fn note(&mut self, place: usize, start: i32, finish: i32, size: i32, behind: u64) {
+    pub fn note(&mut self, place: usize, start: i32, finish: i32, size: i32, behind: &PlaceSet<W>) {
         let k = self.spot(place);
         if k >= self.members.len() {
             return;
@@ -183,22 +159,23 @@ impl SideTimes {
         };
         if start < old.start {
             sink(&mut self.members, &mut self.spots, k);
-            self.due |= old.bit();
+            self.due.put(old.at());
         }
         if old.start < start {
             let passed = rise(&mut self.members, &mut self.spots, k);
-            self.begins |= passed | old.bit();
-            self.due |= behind;
+            self.begins.put_all(&passed);
+            self.begins.put(old.at());
+            self.due.put_all(behind);
         }
     }
 
     /// Whether a set completes behind a moment.
-    fn is_late(&self, start: i32, set: u64) -> bool {
+    fn is_late(&self, start: i32, set: &PlaceSet<W>) -> bool {
         let mut sum: i64 = 0;
         let mut room: i64 = 0;
         for k in (0..self.members.len()).rev() {
             let one = &self.members[k];
-            let mask = mask_of(set, one.place);
+            let mask = set.mask_at(one.place);
             sum = sum.wrapping_add(i64::from(one.size) & mask);
             let end = sum.wrapping_add(i64::from(one.start));
             room |= i64::from(start).wrapping_sub(end) & mask;
@@ -208,36 +185,35 @@ impl SideTimes {
 
     /// The first that is present and late for those of the present ones that must come before it. Whoever
     /// isn't late is not to be asked about again.
-    pub fn first_late(&mut self, before: &[u64], present: u64) -> Option<usize> {
+    pub fn first_late(&mut self, before: &[PlaceSet<W>], present: &PlaceSet<W>) -> Option<usize> {
         let late = self.late_of(before, present);
         self.due = late;
-        if late == 0 {
+        if late.is_empty() {
             return None;
         }
-        self.first_of(late)
+        self.first_of(&late)
     }
 
     /// Who of those that may be late since is.
-    fn late_of(&self, before: &[u64], present: u64) -> u64 {
-        let mut due = self.due & present;
-        let mut late = 0;
-        for _ in 0..due.count_ones() {
-            let at = due.trailing_zeros() as usize;
-            due = without_first(due);
+    fn late_of(&self, before: &[PlaceSet<W>], present: &PlaceSet<W>) -> PlaceSet<W> {
+        let mut due = self.due.and(present);
+        let mut late = PlaceSet::none();
+        for _ in 0..before.len() {
+            let at = due.next();
+            // None is left.
             if at >= before.len() {
-                continue;
+                break;
             }
-            let set = before[at] & present;
-            if self.is_behind(at, set) {
-                late |= only(at);
+            if self.is_behind(at, &before[at].and(present)) {
+                late.put(at);
             }
         }
         late
     }
 
     /// Whether a set completes behind the start of a member.
-    fn is_behind(&self, place: usize, set: u64) -> bool {
-        if set == 0 {
+    fn is_behind(&self, place: usize, set: &PlaceSet<W>) -> bool {
+        if set.is_empty() {
             return false;
         }
         match self.at_place(place) {
@@ -247,9 +223,9 @@ impl SideTimes {
     }
 
     /// The first of a set in the order.
-    fn first_of(&self, set: u64) -> Option<usize> {
+    fn first_of(&self, set: &PlaceSet<W>) -> Option<usize> {
         for one in &self.members {
-            if set & one.bit() != 0 {
+            if set.contains(one.at()) {
                 return Some(one.at());
             }
         }
@@ -257,19 +233,19 @@ impl SideTimes {
     }
 
     /// Of a set the part that completes latest: those that start no earlier than one of it.
-    pub fn latest_part(&self, set: u64) -> Part {
+    pub fn latest_part(&self, set: &PlaceSet<W>) -> Part<W> {
         let mut part = Part {
-            set: 0,
+            set: PlaceSet::none(),
             end: i64::MIN,
         };
-        let mut seen = 0;
+        let mut seen = PlaceSet::none();
         let mut sum: i64 = 0;
         for k in (0..self.members.len()).rev() {
             let one = &self.members[k];
-            if set & one.bit() == 0 {
+            if !set.contains(one.at()) {
                 continue;
             }
-            seen |= one.bit();
+            seen.put(one.at());
             sum = sum.wrapping_add(i64::from(one.size));
             let end = sum.wrapping_add(i64::from(one.start));
             if end > part.end {
@@ -281,14 +257,14 @@ impl SideTimes {
 
     /// Whether a set of those present that begins at a moment on the other side overloads. On this side time
     /// is turned round.
-    fn overloads_from(&self, begin: i32, present: u64) -> bool {
+    fn overloads_from(&self, begin: i32, present: &PlaceSet<W>) -> bool {
         let begin = i64::from(begin);
         let mut end = begin;
         let mut room: i64 = 0;
         for k in (0..self.members.len()).rev() {
             let one = &self.members[k];
             let starts = mask_unless_positive(begin.wrapping_add(i64::from(one.finish)));
-            let mask = mask_of(present, one.place) & starts;
+            let mask = present.mask_at(one.place) & starts;
             end = end.wrapping_add(i64::from(one.size) & mask);
             room |= i64::from(one.start).wrapping_add(end).wrapping_neg() & mask;
         }
@@ -296,28 +272,31 @@ impl SideTimes {
     }
 
     /// Whether a set of those present overloads.
-    pub fn overloads(&mut self, other: &SideTimes, present: u64) -> bool {
+    pub fn overloads(&mut self, other: &SideTimes<W>, present: &PlaceSet<W>) -> bool {
         let overloading = self.overloading(other, present);
         self.begins = overloading;
-        overloading != 0
+        !overloading.is_empty()
     }
 
     /// With whose earliest start a set begins that overloads, of those with whom one may since.
-    fn overloading(&self, other: &SideTimes, present: u64) -> u64 {
-        let mut begins = self.begins & present;
-        let mut overloading = 0;
-        for _ in 0..begins.count_ones() {
-            let at = begins.trailing_zeros() as usize;
-            begins = without_first(begins);
+    fn overloading(&self, other: &SideTimes<W>, present: &PlaceSet<W>) -> PlaceSet<W> {
+        let mut begins = self.begins.and(present);
+        let mut overloading = PlaceSet::none();
+        for _ in 0..self.members.len() {
+            let at = begins.next();
+            // None is left.
+            if at >= self.members.len() {
+                break;
+            }
             if self.begins_overload(other, at, present) {
-                overloading |= only(at);
+                overloading.put(at);
             }
         }
         overloading
     }
 
     /// Whether a set of those present that begins with the earliest start of a member overloads.
-    fn begins_overload(&self, other: &SideTimes, place: usize, present: u64) -> bool {
+    fn begins_overload(&self, other: &SideTimes<W>, place: usize, present: &PlaceSet<W>) -> bool {
         match self.at_place(place) {
             None => false,
             Some(one) => other.overloads_from(one.start, present),
