@@ -4,3 +4,4 @@ pub mod Counting
 pub mod Members
 pub mod Presences
 pub mod Silence
+pub mod OneMore

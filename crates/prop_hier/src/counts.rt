@@ -1,12 +1,12 @@
 //! How many parts are what the rows of a constraint ask.
 ghost use Rattle.std.specs.Prelude.{◌≡◌, ◌<◌, ◌^◌};
 ghost use Rattle.region.specs.Looks.{HasMoments};
-ghost use Rattle.prop_hier.specs.code.Counts.{asks, counted, counts_of, recounted, counts_after, counts_refute};
-ghost use Rattle.prop_hier.specs.code.Few.{AreFew};
+ghost use Rattle.refute_hier.specs.code.Rows.{some_refutes};
+ghost use Rattle.prop_hier.specs.code.Counts.{asks, counts_of, counted_with, counts_with, recounted, counts_after, counts_refute};
+ghost use Rattle.prop_hier.specs.code.Few.{AreFew, AreBelow};
 
-use refute_hier::{Family, Kind, Role, plays, plays_in};
+use refute_hier::{Family, Kind, Role, known, plays};
 use region::{Bounds, Look, Presence};
-use sched_base::Itv;
 
 /// How many parts are what a row asks, and 0 of what no row of the kind asks.
 #[derive(Clone, Copy, Debug, PartialEq, Eq)]
@@ -18,6 +18,19 @@ pub struct Counts {
     pub may_start: usize,
     pub may_end: usize,
     pub may_match: usize,
+}
+
+impl Counts {
+    /// The numbers of no parts.
+    const NONE: Counts = Counts {
+        there: 0,
+        starts_before: 0,
+        ends_after: 0,
+        clashes: 0,
+        may_start: 0,
+        may_end: 0,
+        may_match: 0,
+    };
 }
 
 /// Whether a row of the kind asks for it.
@@ -43,32 +56,50 @@ fn asks(kind: Kind, role: Role) -> bool
     }
 }
 
-fn counted(look: &Look<'_>, kind: Kind, role: Role, a: Itv, parts: &[Itv]) -> usize
-    ensures { result ≡ counted kind role look.now.region a parts.now }
+/// The number with one more part.
+fn counted_with(kind: Kind, role: Role, a: Bounds, b: Bounds, n: usize) -> usize
+    requires first { HasMoments a }
+    requires second { HasMoments b }
+    requires few { n < 2 ^ 63 }
+    ensures { result ≡ counted_with kind role a b n }
 {
     if !asks(kind, role) {
         return 0;
     }
-    parts
-        .iter()
-        .filter(|b| plays_in(look, role, a, **b))
-        .count()
+    if plays(role, a, b) {
+        return n + 1;
+    }
+    n
 }
 
-/// The numbers of a look. It reads each part a few times.
+/// The numbers with one more part.
+fn counts_with(kind: Kind, a: Bounds, b: Bounds, n: Counts) -> Counts
+    requires first { HasMoments a }
+    requires second { HasMoments b }
+    requires few { AreBelow (2 ^ 63) n }
+    ensures { result ≡ counts_with kind a b n }
+{
+    Counts {
+        there: counted_with(kind, Role::IsThere, a, b, n.there),
+        starts_before: counted_with(kind, Role::StartsBefore, a, b, n.starts_before),
+        ends_after: counted_with(kind, Role::EndsAfter, a, b, n.ends_after),
+        clashes: counted_with(kind, Role::Clashes, a, b, n.clashes),
+        may_start: counted_with(kind, Role::MayStart, a, b, n.may_start),
+        may_end: counted_with(kind, Role::MayEnd, a, b, n.may_end),
+        may_match: counted_with(kind, Role::MayMatch, a, b, n.may_match),
+    }
+}
+
+/// The numbers of a look. It reads each part once.
 pub fn count_parts(look: &Look<'_>, family: &Family<'_>) -> Counts
     ensures { result ≡ counts_of family.now.kind look.now.region family.now.a family.now.parts.now }
 {
-    let Family { kind, a, parts } = *family;
-    Counts {
-        there: counted(look, kind, Role::IsThere, a, parts),
-        starts_before: counted(look, kind, Role::StartsBefore, a, parts),
-        ends_after: counted(look, kind, Role::EndsAfter, a, parts),
-        clashes: counted(look, kind, Role::Clashes, a, parts),
-        may_start: counted(look, kind, Role::MayStart, a, parts),
-        may_end: counted(look, kind, Role::MayEnd, a, parts),
-        may_match: counted(look, kind, Role::MayMatch, a, parts),
+    let whole = known(look, family.a);
+    let mut counts = Counts::NONE;
+    for b in family.parts {
+        counts = counts_with(family.kind, whole, known(look, *b), counts);
     }
+    counts
 }
 
 /// A part with other bounds, beside the bounds of its interval.
@@ -143,4 +174,12 @@ pub fn counts_refute(kind: Kind, presence: Presence, n: Counts) -> bool
             _ => false,
         },
     }
+}
+
+/// Whether some row refutes a look, told by its numbers.
+pub fn numbers_refute(look: &Look<'_>, family: &Family<'_>) -> bool
+    ensures { result ≡ some_refutes family.now.kind look.now.region family.now.a family.now.parts.now }
+{
+    let whole = known(look, family.a);
+    counts_refute(family.kind, whole.presence, count_parts(look, family))
 }

@@ -4,9 +4,9 @@ ghost use Rattle.region.specs.Guesses.{admits, topic, with_guess};
 ghost use Rattle.refute_hier.specs.code.Rows.{some_refutes};
 ghost use Rattle.prop_hier.specs.code.Ready.{IsReady, is_about, is_quick};
 
-use crate::counts::{Change, Counts, counts_after, counts_refute};
+use crate::counts::{Change, Counts, counts_after, counts_refute, numbers_refute};
 use crate::reaches::{reach_into, window_around, window_of};
-use refute_hier::{Family, known, some_refutes};
+use refute_hier::{Family, known};
 use region::{Guess, GuessTest, Region};
 use sched_base::Itv;
 
@@ -26,7 +26,7 @@ fn is_about(g: Guess, x: Itv) -> bool
 }
 
 /// Whether some witness of the constraint refutes the region under a guess. Of guesses on the part
-/// `x` the numbers of the region tell it at once; of others each part is read again.
+/// `x` the numbers of the region tell it at once; of others each part is counted again.
 #[derive(Drop)]
 pub struct MemberTest<'a> {
     pub region: &'a Region,
@@ -88,7 +88,7 @@ impl<'a> GuessTest for MemberTest<'a> {
         if self.is_quick(g) {
             return self.quick(g);
         }
-        some_refutes(&self.region.look(guess, None), self.family)
+        numbers_refute(&self.region.look(guess, None), self.family)
     }
 
     fn reach(&self, guess: Guess) -> Option<u64> {

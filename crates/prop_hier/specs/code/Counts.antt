@@ -40,9 +40,28 @@ counts_of kind r a bs = record {
   may_match = counted kind MayMatch r a bs;
 }
 
--- the same where one part has other bounds
+-- the same with one more part
 abbrev pub one_if : Bool → ℕ
 one_if b = cond b 1 0
+
+abbrev pub counted_with : Kind → Role → Bounds → Bounds → ℕ → ℕ
+counted_with kind role a b n = if asks kind role then n + one_if (plays role a b) else 0
+
+abbrev pub counts_with : Kind → Bounds → Bounds → Counts → Counts
+counts_with kind a b n = record {
+  there = counted_with kind IsThere a b n.there;
+  starts_before = counted_with kind StartsBefore a b n.starts_before;
+  ends_after = counted_with kind EndsAfter a b n.ends_after;
+  clashes = counted_with kind Clashes a b n.clashes;
+  may_start = counted_with kind MayStart a b n.may_start;
+  may_end = counted_with kind MayEnd a b n.may_end;
+  may_match = counted_with kind MayMatch a b n.may_match;
+}
+
+abbrev pub no_counts : Counts
+no_counts = record { there = 0; starts_before = 0; ends_after = 0; clashes = 0; may_start = 0; may_end = 0; may_match = 0 }
+
+-- and where one part has other bounds
 
 abbrev pub recounted : Kind → Role → Bounds → Bounds → Bounds → ℕ → ℕ
 recounted kind role a old new n = if asks kind role then (n - one_if (plays role a old)) + one_if (plays role a new) else 0
