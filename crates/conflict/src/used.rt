@@ -197,6 +197,7 @@ impl Watcher<LogExtra> for Used {
             }
             Line::Split(_) => Ok(()),
             Line::Sol(_) => Ok(()),
+            Line::Restart => Ok(()),
         }
     }
 }
