@@ -38,12 +38,14 @@ BLOCK = re.compile(r"^module .* where$")
 # The rings: what each is for, the definitions that it begins with, and those that it takes as words whose definition
 # stands further out. What none of them reaches belongs to the last.
 TEXTS = ["cpo_elab.specs.Deserves.Deserves"]
-LOGS = ["commands.specs.Runs.LogPromise", "commands.specs.Runs.HoldsBegunLog", "checker.specs.Judgement.IsAccepted", "checker.specs.Judgement.IsRefused", "checker.specs.Judgement.IsTooLong"]
+LOGS = ["commands.specs.Runs.LogPromise", "commands.specs.Runs.HoldsBegunLog", "checker.specs.Judgement.IsAccepted", "checker.specs.Judgement.IsRefused", "checker.specs.Judgement.IsTooLong", "bound_report.specs.Bounds.ShowsBound", "conflict.specs.Core.ShowsCore"]
 PRINTED = [
     "command_line.specs.Commands.command_of",
     "sched_text.specs.Answers.answer_text",
     "sched_text.specs.Answers.summary_text",
     "sched_text.specs.Answers.check_text",
+    "log_reports.specs.Texts.bound_text",
+    "log_reports.specs.Texts.core_text",
     "sched_text.specs.Canonical.canonical_text",
     "modelgen.specs.Generated.generated_text",
     "read_schedule.specs.Schedules.Spells",
@@ -58,7 +60,7 @@ PRINTED = [
     "given_files.specs.Told.memory_line",
 ]
 RINGS = [
-    ("To trust an accepted log", ["commands.specs.Runs.AcceptPromise"], TEXTS + LOGS + PRINTED),
+    ("To trust an accepted log", ["log_reports.specs.Reports.check_report", "log_reports.specs.Reports.PrintsReport"], TEXTS + LOGS + PRINTED),
     ("To trust the word of a run", ["commands.specs.Runs.Runs"], TEXTS + LOGS + PRINTED),
     ("What a text deserves", TEXTS, []),
     ("What a log is", LOGS, []),

@@ -5,7 +5,7 @@ use Rattle.std.specs.Str.{bytes_eq}
 use Rattle.std.proofs.lemmas.Bool.{or_right, or_left}
 use Rattle.command_line.specs.declared.commands.Verb.{Verb}
 use Rattle.command_line.specs.declared.commands.Verb.TheVariants as verb
-use Rattle.command_line.specs.Commands.{Parts, Word, check_in, command_by, command_for, gen_in, is_option, limit_of, parts_of, placed, show_in, solve_in, stripped, trial_in, verify_in, with_argument, with_limit}
+use Rattle.command_line.specs.Commands.{Bound, Check, Command, Core, Parts, Verify, Word, command_by, command_for, gen_in, is_option, limit_of, parts_of, placed, show_in, solve_in, stripped, trial_in, two_in, with_argument, with_limit}
 use Rattle.command_line.specs.code.Found.{arguments_found, listed}
 use Rattle.base_laws.specs.laws.Truth.{alone}
 
@@ -107,17 +107,11 @@ unlimited_trial (a ∷ b ∷ c ∷ d ∷ []) = refl
 unlimited_trial (a ∷ b ∷ c ∷ d ∷ e ∷ more) = refl
 
 -- ... or with `--nodes` where it doesn't belong
-no_check : (arguments : List Word) (n : Word) (rest : List Word) → check_in arguments (n ∷ rest) ≡ None
-no_check [] n rest = refl
-no_check (a ∷ []) n rest = refl
-no_check (a ∷ b ∷ []) n rest = refl
-no_check (a ∷ b ∷ c ∷ more) n rest = refl
-
-no_verify : (arguments : List Word) (n : Word) (rest : List Word) → verify_in arguments (n ∷ rest) ≡ None
-no_verify [] n rest = refl
-no_verify (a ∷ []) n rest = refl
-no_verify (a ∷ b ∷ []) n rest = refl
-no_verify (a ∷ b ∷ c ∷ more) n rest = refl
+no_two : (make : Word → Word → Command) (arguments : List Word) (n : Word) (rest : List Word) → two_in make arguments (n ∷ rest) ≡ None
+no_two make [] n rest = refl
+no_two make (a ∷ []) n rest = refl
+no_two make (a ∷ b ∷ []) n rest = refl
+no_two make (a ∷ b ∷ c ∷ more) n rest = refl
 
 no_show : (arguments : List Word) (n : Word) (rest : List Word) → show_in arguments (n ∷ rest) ≡ None
 no_show [] n rest = refl
@@ -133,11 +127,13 @@ no_gen (a ∷ b ∷ c ∷ d ∷ more) n rest = refl
 
 not_for : (v : Verb) (arguments : List Word) (n : Word) (rest : List Word) → limit_of (n ∷ rest) ≡ None → command_for v (record { arguments = arguments; limits = n ∷ rest }) ≡ None
 not_for verb.Solve arguments n rest none = ap (solve_in arguments) none ∙ unlimited_solve arguments
-not_for verb.Check arguments n rest none = no_check arguments n rest
-not_for verb.Verify arguments n rest none = no_verify arguments n rest
+not_for verb.Check arguments n rest none = no_two Check arguments n rest
+not_for verb.Verify arguments n rest none = no_two Verify arguments n rest
 not_for verb.Show arguments n rest none = no_show arguments n rest
 not_for verb.Gen arguments n rest none = no_gen arguments n rest
 not_for verb.Trial arguments n rest none = ap (trial_in arguments) none ∙ unlimited_trial arguments
+not_for verb.Bound arguments n rest none = no_two Bound arguments n rest
+not_for verb.Core arguments n rest none = no_two Core arguments n rest
 
 not_limited : (v : Verb) (arguments limits : List Word) → has_option limits ≡ true → command_for v (record { arguments = arguments; limits = limits }) ≡ None
 not_limited v arguments [] has = absurd (cc has)
@@ -151,6 +147,8 @@ many verb.Verify a b c d e more limits = refl
 many verb.Show a b c d e more limits = refl
 many verb.Gen a b c d e more limits = refl
 many verb.Trial a b c d e more limits = refl
+many verb.Bound a b c d e more limits = refl
+many verb.Core a b c d e more limits = refl
 
 too_many : (v : Verb) (arguments limits : List Word) → taken_from (record { arguments = arguments; limits = limits }) ≡ None → command_for v (record { arguments = arguments; limits = limits }) ≡ None
 too_many v [] [] is = absurd (cc is)

@@ -18,6 +18,8 @@ pub data Command : Type 0 where
   Show : Word → Command
   Gen : Shop → Command
   Trial : Shop → Word → ℕ → Command
+  Bound : Word → Word → Command
+  Core : Word → Word → Command
 
 -- ---- options and arguments
 
@@ -100,19 +102,18 @@ verb_of name =
     else (if bytes_eq name (codes "show") then Some verb.Show
     else (if bytes_eq name (codes "gen") then Some verb.Gen
     else (if bytes_eq name (codes "trial") then Some verb.Trial
-    else None)))))
+    else (if bytes_eq name (codes "bound") then Some verb.Bound
+    else (if bytes_eq name (codes "core") then Some verb.Core
+    else None)))))))
 
 abbrev pub solve_in : List Word → Option ℕ → Option Command
 solve_in (model ∷ log ∷ []) (Some n) = Some (Solve model log n)
 solve_in _ _ = None
 
-abbrev pub check_in : List Word → List Word → Option Command
-check_in (model ∷ log ∷ []) [] = Some (Check model log)
-check_in _ _ = None
-
-abbrev pub verify_in : List Word → List Word → Option Command
-verify_in (model ∷ schedule ∷ []) [] = Some (Verify model schedule)
-verify_in _ _ = None
+-- of the commands with two arguments and no limit
+abbrev pub two_in : (Word → Word → Command) → List Word → List Word → Option Command
+two_in make (first ∷ second ∷ []) [] = Some (make first second)
+two_in make _ _ = None
 
 abbrev pub show_in : List Word → List Word → Option Command
 show_in (model ∷ []) [] = Some (Show model)
@@ -129,11 +130,13 @@ trial_in _ _ = None
 -- all arguments are there, and no others; `--nodes` belongs to `solve` and `trial` alone, at most once
 abbrev pub command_for : Verb → Parts → Option Command
 command_for verb.Solve p = solve_in p.arguments (limit_of p.limits)
-command_for verb.Check p = check_in p.arguments p.limits
-command_for verb.Verify p = verify_in p.arguments p.limits
+command_for verb.Check p = two_in Check p.arguments p.limits
+command_for verb.Verify p = two_in Verify p.arguments p.limits
 command_for verb.Show p = show_in p.arguments p.limits
 command_for verb.Gen p = gen_in p.arguments p.limits
 command_for verb.Trial p = trial_in p.arguments (limit_of p.limits)
+command_for verb.Bound p = two_in Bound p.arguments p.limits
+command_for verb.Core p = two_in Core p.arguments p.limits
 
 -- the command of the words behind the first
 abbrev pub command_by : Verb → List Word → Option Command

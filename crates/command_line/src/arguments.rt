@@ -108,6 +108,32 @@ fn trial<'a>(matches: &ArgMatches<'a>) -> Option<Line<'a>>
     Some(Line::Trial { shop, log, nodes })
 }
 
+/// `bound`, by its arguments.
+fn bound<'a>(matches: &ArgMatches<'a>) -> Option<Line<'a>>
+    ensures is { option_map seen_of result ≡ command_for Verb.Bound (parts_found (found_of matches.now)) }
+    ensures within { IfSome result (λ c. HasLimits (seen_of c)) }
+{
+    let model = matches.get_str("first")?;
+    let log = matches.get_str("second")?;
+    if matches.get_str("third").is_some() || matches.get_str("nodes").is_some() {
+        return None;
+    }
+    Some(Line::Bound { model, log })
+}
+
+/// `core`, by its arguments.
+fn core<'a>(matches: &ArgMatches<'a>) -> Option<Line<'a>>
+    ensures is { option_map seen_of result ≡ command_for Verb.Core (parts_found (found_of matches.now)) }
+    ensures within { IfSome result (λ c. HasLimits (seen_of c)) }
+{
+    let model = matches.get_str("first")?;
+    let log = matches.get_str("second")?;
+    if matches.get_str("third").is_some() || matches.get_str("nodes").is_some() {
+        return None;
+    }
+    Some(Line::Core { model, log })
+}
+
 fn line_of<'a>(verb: Verb, matches: &ArgMatches<'a>) -> Option<Line<'a>>
     ensures is { option_map seen_of result ≡ command_for verb (parts_found (found_of matches.now)) }
     ensures within { IfSome result (λ c. HasLimits (seen_of c)) }
@@ -119,6 +145,8 @@ fn line_of<'a>(verb: Verb, matches: &ArgMatches<'a>) -> Option<Line<'a>>
         Verb::Show => show(matches),
         Verb::Gen => generate(matches),
         Verb::Trial => trial(matches),
+        Verb::Bound => bound(matches),
+        Verb::Core => core(matches),
     }
 }
 

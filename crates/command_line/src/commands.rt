@@ -25,6 +25,8 @@ pub enum Verb {
     Show,
     Gen,
     Trial,
+    Bound,
+    Core,
 }
 
 /// What the program is asked to do. `model`, `log` and `schedule` name files.
@@ -60,6 +62,17 @@ pub enum Command<'a> {
         log: &'a str,
         nodes: u32,
     },
+    /// Read the log as a check does, and tell what it shows of the best value.
+    Bound {
+        model: &'a str,
+        log: &'a str,
+    },
+    /// Read the log as a check does, and tell which constraints it uses, where it shows that there is
+    /// no solution.
+    Core {
+        model: &'a str,
+        log: &'a str,
+    },
 }
 
 /// The verb that a word is.
@@ -83,6 +96,12 @@ fn verb_named(name: &str) -> Option<Verb>
     }
     if name == "trial" {
         return Some(Verb::Trial);
+    }
+    if name == "bound" {
+        return Some(Verb::Bound);
+    }
+    if name == "core" {
+        return Some(Verb::Core);
     }
     None
 }

@@ -7,11 +7,11 @@ use Rattle.sched_model.specs.declared.types.Answer.{Answer}
 use Rattle.sched_model.specs.declared.types.Answer.TheVariants as answer
 use Rattle.cpo_text.specs.declared.text.Refusal.{Refusal}
 use Rattle.command_line.specs.declared.shop.Shop.{Shop}
-use Rattle.command_line.specs.Commands.{Command, Solve, Check, Verify, Show, Gen, Trial}
+use Rattle.command_line.specs.Commands.{Command, Solve, Check, Verify, Show, Gen, Trial, Bound, Core}
 use Rattle.textline.specs.Lines.{Bytes}
 use Rattle.logtext.specs.Judgement.{log_limit}
 use Rattle.given_files.specs.declared.stop.Stop.TheVariants as given
-use Rattle.given_files.specs.Files.{file_of, schedule_limit, ReadsModel, ReadsSchedule}
+use Rattle.given_files.specs.Files.{HasFile, file_of, schedule_limit, ReadsModel, ReadsSchedule}
 use Rattle.given_files.specs.Told.{Reports, fault_line, memory_line, refusal_line, unfit_line}
 use Rattle.given_files.specs.code.Reading.{OnlyReads}
 use Rattle.given_files.specs.laws.Endings.{tells_on}
@@ -20,10 +20,14 @@ use Rattle.commands.specs.declared.ended.Ended.TheVariants as end
 use Rattle.commands.specs.declared.stop.Stop.{Stop}
 use Rattle.commands.specs.declared.stop.Stop.TheVariants as stop
 use Rattle.sched_text.specs.Canonical.{canonical_text}
-use Rattle.sched_text.specs.Answers.{check_text}
+use Rattle.log_reports.specs.declared.stop.LogStop.{LogStop}
+use Rattle.log_reports.specs.declared.stop.LogStop.TheVariants as why
+use Rattle.log_reports.specs.Reports.{Report, PrintsReport, PrintsPart, ReadsLog, check_report, bound_report, core_report}
+use Rattle.log_reports.specs.code.Tries.{TriesReport}
+use Rattle.commands.specs.code.Stops.{stop_of_report}
 use Rattle.commands.specs.Ended.{is_success}
 use Rattle.commands.specs.Told.{usage_line, log_line, too_long_line}
-use Rattle.commands.specs.Runs.{Source, SourceDeserves, HasSource, ReadsSource, IsUnread, SolvePromise, shop_text, told_text, RunPromise, NeverRefused, EveryRun, CommandPromise, HasFiles, RefusesModel, ShowsPart, LogPromise, HoldsBegunLog, CutShort, AnswerPromise, AcceptsPart, ending_of, SolveEnds, ReadsLog, VerifiesPart}
+use Rattle.commands.specs.Runs.{Source, SourceDeserves, HasSource, ReadsSource, IsUnread, SolvePromise, shop_text, told_text, RunPromise, NeverRefused, EveryRun, CommandPromise, HasFiles, RefusesModel, ShowsPart, LogPromise, HoldsBegunLog, CutShort, AnswerPromise, ReportEnds, ReportPromise, ReadsBoth, ReadsFiles, ending_of, SolveEnds, VerifiesPart}
 use Rattle.commands.specs.VerifyText.{verify_text}
 use Rattle.sched_model.specs.Solution.{objective_of}
 use Rattle.commands.specs.Runs.Source.{file, generated}
@@ -31,7 +35,7 @@ use Rattle.commands.specs.Runs.CutShort.{before_log, in_log, in_answer}
 use Rattle.cpo_elab.specs.Answers.Answer.{Refused}
 use Rattle.commands.specs.Runs.RefusesLog.{at_line, too_long}
 use Rattle.commands.proofs.Solved.{unread_on}
-use Rattle.commands.specs.code.Tries.{TriesSolve, TriesCheck, TriesVerify, TriesShow, TriesGen, EndsStopped}
+use Rattle.commands.specs.code.Tries.{TriesSolve, TriesVerify, TriesShow, TriesGen, EndsStopped}
 
 -- What every run promises, by its ending.
 
@@ -156,10 +160,6 @@ model_read model text old s new far reports = subst (λ (p : Place). ReadsAtMost
 log_read : (log text : Bytes) (old s new : State) → ReadsLog log old s → Reports text s new → ReadsLog log old new
 log_read log text old s new far reports = subst (λ (p : Place). ReadsAtMost (log_limit + 1) (file_of old log) p.left) (sym (ap (λ (x : State). x.log) reports.only)) far
 
-part_told : (model log text : Bytes) (old s new : State) → AcceptsPart model log old s → Reports text s new → AcceptsPart model log old new
-part_told model log text old s new (inl out) reports = inl (ap (λ (x : State). x.out) reports.only ∙ out)
-part_told model log text old s new (inr part) reports = inr (part.0, part.1, part.2, subst (λ b. AppendedFrom (check_text part.0 part.1) old.out b) (sym (ap (λ (x : State). x.out) reports.only)) part.3)
-
 refuses : (model : Source) (old s new : State) → OnlyReads old s → (r : Refusal) → SourceDeserves old model (Refused r) → Reports (refusal_line r) s new → RefusesModel model old new
 refuses model old s new reads r due reports = record {
   refusal = r;
@@ -272,59 +272,83 @@ solve_stopped model log limit (stop.LogRefused k) ended old s new due tries ends
 solve_stopped model log limit stop.LogTooLong ended old s new due tries ends = absurd tries.tried
 solve_stopped model log limit (stop.Given (given.ScheduleRefused r)) ended old s new due tries ends = absurd tries.tried
 
--- `check`.
+-- `check`, `bound` and `core`.
 
-pub checked : (model log : Bytes) (e : Ended) (old new : State) → TriesCheck model log (Ok e) old new → RunPromise (Some (Check model log)) e old new
-checked model log e old new tries = subst (λ x. RunPromise (Some (Check model log)) x old new) (sym tries.tried.1) (record {
-  every = succeeded (Check model log) end.Accepted old new refl tries.tried.0 (ap (λ (x : State). x.err) tries.only);
-  its_own = record { only = subst (OnlyChecks old) (sym tries.only) refl; ends = tries.tried.2 };
-  reads = λ no_fault enough. (tries.tried.3, λ served. tries.tried.4);
-})
+-- the command reports this of a log, and a success ends so
+pub record IsReport {V : Type 0} (r : Report V) (success : Ended) (model log : Bytes) (k : Command) : Type 0 where
+  pub won : is_success success ≡ true
+  pub files : (s : State) → HasFiles (Some k) s → HasFile s model × HasFile s log
+  pub promise : (e : Ended) (old new : State) → ReportPromise r success model log e old new → CommandPromise (Some k) e old new
+  pub reads : (e : Ended) (old new : State) → ReadsBoth model log e old new → ReadsFiles (Some k) e old new
 
-check_no_memory : (model log : Bytes) (old s new : State) → s ≡ record old { model = s.model; log = s.log; out = s.out; faults = s.faults } → old.faults ≤ s.faults → s.out ≡ old.out
-    → Reports memory_line s new → RunPromise (Some (Check model log)) end.NoMemory old new
-check_no_memory model log old s new only later out reports = record {
-  every = no_memory (Check model log) old s new (ap (λ (x : State). x.err) only) out later reports;
-  its_own = record { only = check_only memory_line old s new only reports; ends = ap (λ (x : State). x.out) reports.only ∙ out };
-  reads = λ no_fault enough. absurd (enough refl);
-}
+module _ {V : Type 0} (r : Report V) (success : Ended) (model log : Bytes) (k : Command) (is : IsReport r success model log k) where
+  run_of : (e : Ended) (old new : State) → EveryRun (Some k) e old new → ReportPromise r success model log e old new → ((e ≡ end.Fault → ⊥) → (e ≡ end.NoMemory → ⊥) → ReadsBoth model log e old new) → RunPromise (Some k) e old new
+  run_of e old new every promise reads = record { every = every; its_own = is.promise e old new promise; reads = λ no_fault enough. is.reads e old new (reads no_fault enough) }
 
-pub check_stopped : (model log : Bytes) (e : Stop) (ended : Ended) (old s new : State) → TriesCheck model log (Err e) old s → EndsStopped e ended s new → RunPromise (Some (Check model log)) ended old new
-check_stopped model log (stop.Given given.Fault) ended old s new tries ends = subst (λ x. RunPromise (Some (Check model log)) x old new) (sym ends.0) (record {
-  every = faulted (Check model log) old s new (ap (λ (x : State). x.err) tries.only) tries.later tries.tried.0 (λ calm there. tries.tried.1 calm there.0 there.1) ends.1;
-  its_own = record { only = check_only fault_line old s new tries.only ends.1; ends = part_told model log fault_line old s new tries.tried.2 ends.1 };
-  reads = λ no_fault enough. absurd (no_fault refl);
-})
-check_stopped model log (stop.Given given.NoMemory) ended old s new tries ends = subst (λ x. RunPromise (Some (Check model log)) x old new) (sym ends.0)
-    (check_no_memory model log old s new tries.only tries.later tries.tried ends.1)
-check_stopped model log (stop.Given (given.ModelRefused r)) ended old s new tries (inl ends) =
-    let reads = tries.tried.0 in
-    subst (λ x. RunPromise (Some (Check model log)) x old new) (sym ends.0) (record {
-      every = model_refused (Check model log) (refusal_line r) old s new (ap (λ (x : State). x.out) reads.only) reads.later ends.1;
-      its_own = record { only = check_only (refusal_line r) old s new tries.only ends.1; ends = refuses (file model) old s new reads r tries.tried.2 ends.1 };
-      reads = λ no_fault enough. (model_read model (refusal_line r) old s new tries.tried.3 ends.1, λ served. absurd (served refl));
-    })
-check_stopped model log (stop.Given (given.ModelRefused r)) ended old s new tries (inr ends) = subst (λ x. RunPromise (Some (Check model log)) x old new) (sym ends.0)
-    (check_no_memory model log old s new tries.only tries.later (ap (λ (x : State). x.out) tries.tried.0.only) ends.1)
-check_stopped model log (stop.LogRefused k) ended old s new tries (inl ends) = subst (λ x. RunPromise (Some (Check model log)) x old new) (sym ends.0) (record {
-  every = log_refused (Check model log) (log_line k) old s new tries.tried.0 tries.later ends.1;
-  its_own = record {
-    only = check_only (log_line k) old s new tries.only ends.1;
-    ends = at_line tries.tried.1.0 k tries.tried.1.1 tries.tried.1.2 (tells_on (log_line k) old s new (ap (λ (x : State). x.err) tries.only) tries.later ends.1);
-  };
-  reads = λ no_fault enough. (model_read model (log_line k) old s new tries.tried.2 ends.1, λ served. log_read log (log_line k) old s new tries.tried.3 ends.1);
-})
-check_stopped model log (stop.LogRefused k) ended old s new tries (inr ends) = subst (λ x. RunPromise (Some (Check model log)) x old new) (sym ends.0)
-    (check_no_memory model log old s new tries.only tries.later tries.tried.0 ends.1)
-check_stopped model log stop.LogTooLong ended old s new tries ends = subst (λ x. RunPromise (Some (Check model log)) x old new) (sym ends.0) (record {
-  every = log_refused (Check model log) too_long_line old s new tries.tried.0 tries.later ends.1;
-  its_own = record {
-    only = check_only too_long_line old s new tries.only ends.1;
-    ends = too_long tries.tried.1.0 tries.tried.1.1 tries.tried.1.2 (tells_on too_long_line old s new (ap (λ (x : State). x.err) tries.only) tries.later ends.1);
-  };
-  reads = λ no_fault enough. (model_read model too_long_line old s new tries.tried.2 ends.1, λ served. log_read log too_long_line old s new tries.tried.3 ends.1);
-})
-check_stopped model log (stop.Given (given.ScheduleRefused r)) ended old s new tries ends = absurd tries.tried
+  report_ends : (e : Ended) (old new : State) → is_success e ≡ true → e ≡ success → PrintsReport r model log old new → ReportEnds r success model log e old new
+  report_ends end.Done old new won so prints = (so, prints)
+  report_ends end.Accepted old new won so prints = (so, prints)
+  report_ends end.Infeasible old new won so prints = (so, prints)
+  report_ends end.Unfinished old new won so prints = (so, prints)
+  report_ends end.Usage old new won so prints = (so, prints)
+  report_ends end.ModelRefused old new won so prints = absurd cc
+  report_ends end.Fault old new won so prints = absurd cc
+  report_ends end.LogRefused old new won so prints = absurd cc
+  report_ends end.ScheduleRefused old new won so prints = (so, prints)
+  report_ends end.NoMemory old new won so prints = absurd cc
+
+  pub reported : (u : Unit {0}) (old new : State) → TriesReport r model log (Ok u) old new → RunPromise (Some k) success old new
+  reported u old new tries = run_of success old new (succeeded k success old new is.won tries.tried.0 (ap (λ (x : State). x.err) tries.only)) (record {
+    only = subst (OnlyChecks old) (sym tries.only) refl;
+    ends = report_ends success old new is.won refl tries.tried.1;
+  }) (λ no_fault enough. (tries.tried.2, λ served. tries.tried.3))
+
+  part_told : (text : Bytes) (old s new : State) → PrintsPart r model log old s → Reports text s new → PrintsPart r model log old new
+  part_told text old s new (inl out) reports = inl (ap (λ (x : State). x.out) reports.only ∙ out)
+  part_told text old s new (inr part) reports = inr (part.0, part.1, subst (λ b. AppendedFrom (r.text part.0) old.out b) (sym (ap (λ (x : State). x.out) reports.only)) part.2)
+
+  report_no_memory : (old s new : State) → s ≡ record old { model = s.model; log = s.log; out = s.out; faults = s.faults } → old.faults ≤ s.faults → s.out ≡ old.out → Reports memory_line s new → RunPromise (Some k) end.NoMemory old new
+  report_no_memory old s new only later out reports = run_of end.NoMemory old new (no_memory k old s new (ap (λ (x : State). x.err) only) out later reports) (record {
+    only = check_only memory_line old s new only reports;
+    ends = ap (λ (x : State). x.out) reports.only ∙ out;
+  }) (λ no_fault enough. absurd (enough refl))
+
+  pub report_stopped : (e : LogStop) (ended : Ended) (old s new : State) → TriesReport r model log (Err e) old s → EndsStopped (stop_of_report e) ended s new → RunPromise (Some k) ended old new
+  report_stopped (why.Given given.Fault) ended old s new tries ends = subst (λ x. RunPromise (Some k) x old new) (sym ends.0)
+      (run_of end.Fault old new (faulted k old s new (ap (λ (x : State). x.err) tries.only) tries.later tries.tried.0 (λ calm there. let both = is.files old there in tries.tried.1 calm both.0 both.1) ends.1) (record {
+        only = check_only fault_line old s new tries.only ends.1;
+        ends = part_told fault_line old s new tries.tried.2 ends.1;
+      }) (λ no_fault enough. absurd (no_fault refl)))
+  report_stopped (why.Given given.NoMemory) ended old s new tries ends = subst (λ x. RunPromise (Some k) x old new) (sym ends.0) (report_no_memory old s new tries.only tries.later tries.tried ends.1)
+  report_stopped (why.Given (given.ModelRefused e)) ended old s new tries (inl ends) =
+      let reads = tries.tried.0 in
+      subst (λ x. RunPromise (Some k) x old new) (sym ends.0) (run_of end.ModelRefused old new (model_refused k (refusal_line e) old s new (ap (λ (x : State). x.out) reads.only) reads.later ends.1) (record {
+        only = check_only (refusal_line e) old s new tries.only ends.1;
+        ends = refuses (file model) old s new reads e tries.tried.2 ends.1;
+      }) (λ no_fault enough. (model_read model (refusal_line e) old s new tries.tried.3 ends.1, λ served. absurd (served refl))))
+  report_stopped (why.Given (given.ModelRefused e)) ended old s new tries (inr ends) = subst (λ x. RunPromise (Some k) x old new) (sym ends.0)
+      (report_no_memory old s new tries.only tries.later (ap (λ (x : State). x.out) tries.tried.0.only) ends.1)
+  report_stopped (why.Refused n) ended old s new tries (inl ends) = subst (λ x. RunPromise (Some k) x old new) (sym ends.0)
+      (run_of end.LogRefused old new (log_refused k (log_line n) old s new tries.tried.0 tries.later ends.1) (record {
+        only = check_only (log_line n) old s new tries.only ends.1;
+        ends = at_line n tries.tried.1 (tells_on (log_line n) old s new (ap (λ (x : State). x.err) tries.only) tries.later ends.1);
+      }) (λ no_fault enough. (model_read model (log_line n) old s new tries.tried.2 ends.1, λ served. log_read log (log_line n) old s new tries.tried.3 ends.1)))
+  report_stopped (why.Refused n) ended old s new tries (inr ends) = subst (λ x. RunPromise (Some k) x old new) (sym ends.0) (report_no_memory old s new tries.only tries.later tries.tried.0 ends.1)
+  report_stopped why.TooLong ended old s new tries ends = subst (λ x. RunPromise (Some k) x old new) (sym ends.0)
+      (run_of end.LogRefused old new (log_refused k too_long_line old s new tries.tried.0 tries.later ends.1) (record {
+        only = check_only too_long_line old s new tries.only ends.1;
+        ends = too_long tries.tried.1 (tells_on too_long_line old s new (ap (λ (x : State). x.err) tries.only) tries.later ends.1);
+      }) (λ no_fault enough. (model_read model too_long_line old s new tries.tried.2 ends.1, λ served. log_read log too_long_line old s new tries.tried.3 ends.1)))
+  report_stopped (why.Given (given.ScheduleRefused e)) ended old s new tries ends = absurd tries.tried
+
+pub check_reports : (model log : Bytes) → IsReport check_report end.Accepted model log (Check model log)
+check_reports model log = record { won = refl; files = λ s there. there; promise = λ e old new promise. promise; reads = λ e old new reads. reads }
+
+pub bound_reports : (model log : Bytes) → IsReport bound_report end.Done model log (Bound model log)
+bound_reports model log = record { won = refl; files = λ s there. there; promise = λ e old new promise. promise; reads = λ e old new reads. reads }
+
+pub core_reports : (model log : Bytes) → IsReport core_report end.Done model log (Core model log)
+core_reports model log = record { won = refl; files = λ s there. there; promise = λ e old new promise. promise; reads = λ e old new reads. reads }
 
 -- `verify`.
 
@@ -500,6 +524,12 @@ unread command old new reports = record {
   memory_told = λ h. reports.tells;
 }
 
+unreported : {V : Type 0} (r : Report V) (success : Ended) (model log : Bytes) (old new : State) → Reports memory_line old new → ReportPromise r success model log end.NoMemory old new
+unreported r success model log old new reports = record {
+  only = subst (OnlyChecks old) (sym reports.only) refl;
+  ends = ap (λ (x : State). x.out) reports.only;
+}
+
 unread_own : (command : Option Command) (old new : State) → Reports memory_line old new → CommandPromise command end.NoMemory old new
 unread_own None old new reports = reports
 unread_own (Some (Solve model log limit)) old new reports = record {
@@ -507,10 +537,7 @@ unread_own (Some (Solve model log limit)) old new reports = record {
   unread = tt;
   ends = before_log (subst (OnlyRefuses old) (sym reports.only) refl);
 }
-unread_own (Some (Check model log)) old new reports = record {
-  only = subst (OnlyChecks old) (sym reports.only) refl;
-  ends = ap (λ (x : State). x.out) reports.only;
-}
+unread_own (Some (Check model log)) old new reports = unreported check_report end.Accepted model log old new reports
 unread_own (Some (Verify model schedule)) old new reports = record {
   only = subst (OnlyVerifies old) (sym reports.only) refl;
   ends = ap (λ (x : State). x.out) reports.only;
@@ -531,6 +558,8 @@ unread_own (Some (Trial shop log limit)) old new reports = (
   },
   λ is. cc,
 )
+unread_own (Some (Bound model log)) old new reports = unreported bound_report end.Done model log old new reports
+unread_own (Some (Core model log)) old new reports = unreported core_report end.Done model log old new reports
 
 pub words_unread : (command : Option Command) (old new : State) → Reports memory_line old new → RunPromise command end.NoMemory old new
 words_unread command old new reports = record { every = unread command old new reports; its_own = unread_own command old new reports; reads = λ no_fault enough. absurd (enough refl) }

@@ -2,6 +2,5 @@ pub mod Logged
 pub mod Searched
 pub mod Shown
 pub mod Solved
-pub mod Checked
 pub mod Verified
 pub mod Ending

@@ -1,7 +1,7 @@
 -- What a run promises: which ending it has, and what it has done to the desk by then.
-use Rattle.std.specs.Prelude.{◌≡◌, ◌↔◌, ◌⊎◌, ℕ, ◌+◌, ◌≤◌, true, false, List, [], Option, Some, None, option_map, ⊤}
+use Rattle.std.specs.Prelude.{◌≡◌, ◌↔◌, ◌⊎◌, ℕ, ◌≤◌, true, false, List, [], Option, Some, None, option_map, ⊤}
 use Rattle.sched_base.specs.State.{State, with_log}
-use Rattle.sched_base.specs.Calls.{Rose, appended, ReadsAtMost, AppendedFrom}
+use Rattle.sched_base.specs.Calls.{Rose, appended, AppendedFrom}
 use Rattle.region.specs.Points.{budget_of}
 use Rattle.sched_model.specs.declared.types.Answer.{Answer as Printed}
 use Rattle.sched_model.specs.declared.types.Answer.TheVariants as answer
@@ -14,26 +14,24 @@ use Rattle.cpo_text.specs.declared.text.Refusal.{Refusal}
 use Rattle.cpo_elab.specs.Answers.{Answer}
 use Rattle.cpo_elab.specs.Answers.Answer.{Accepted, Refused}
 use Rattle.cpo_elab.specs.Deserves.{Deserves}
-use Rattle.sched_model.specs.declared.types.Verdict.{Verdict}
 use Rattle.kernel.specs.Steps.{LogState}
-use Rattle.kernel.specs.Promises.{Means}
 use Rattle.command_line.specs.declared.shop.Shop.{Shop}
-use Rattle.command_line.specs.Commands.{Command, Solve, Check, Verify, Show, Gen, Trial, command_of}
+use Rattle.command_line.specs.Commands.{Command, Solve, Check, Verify, Show, Gen, Trial, Bound, Core, command_of}
 use Rattle.modelgen.specs.Generated.{generated_text}
 use Rattle.textline.specs.Lines.{Bytes}
-use Rattle.sched_text.specs.Answers.{answer_text, summary_text, check_text}
+use Rattle.sched_text.specs.Answers.{answer_text, summary_text}
 use Rattle.sched_text.specs.Canonical.{canonical_text}
 use Rattle.logtext.specs.Logs.{PlainLine, plain_log}
 use Rattle.logtext.specs.declared.version.Version.TheVariants.{One}
-use Rattle.logtext.specs.Judgement.{log_limit, log_bytes}
-use Rattle.checker.specs.Judgement.{IsAccepted, IsRefused, IsTooLong}
+use Rattle.checker.specs.Judgement.{IsAccepted}
 use Rattle.solver.specs.Written.{IsWritten}
 use Rattle.sched_model.specs.Answers.{verdict_in}
 use Rattle.solver.specs.Answers.{IsAnswer, shown_in, is_unfinished}
 use Rattle.given_files.specs.declared.stop.ScheduleRefusal.{ScheduleRefusal}
-use Rattle.given_files.specs.Files.{IfFile, HasFile, FileDeserves, file_of, ReadsModel, ReadsSchedule}
+use Rattle.given_files.specs.Files.{HasFile, FileDeserves, ReadsModel, ReadsSchedule}
 use Rattle.given_files.specs.Schedules.{IsVerified, RefusalDue}
 use Rattle.given_files.specs.Told.{Tells, Reports, fault_line, memory_line, refusal_line, unfit_line}
+use Rattle.log_reports.specs.Reports.{Report, PrintsReport, PrintsPart, IsRefusedAt, IsFoundTooLong, ReadsLog, check_report, bound_report, core_report}
 use Rattle.commands.specs.declared.ended.Ended.{Ended}
 use Rattle.commands.specs.declared.ended.Ended.TheVariants as end
 use Rattle.commands.specs.Ended.{is_success}
@@ -42,11 +40,6 @@ use Rattle.commands.specs.Told.{usage_line, log_line, too_long_line}
 use Rattle.commands.specs.VerifyText.{verify_text}
 
 -- The files of a desk.
-
--- of the file of this name, where the desk tells its files and this one is there, one byte beyond the log's limit of 2^62 was
--- read at most, and the others are left in its slot
-abbrev pub ReadsLog : Bytes → State → State → Type 0
-ReadsLog name old new = ReadsAtMost (log_limit + 1) (file_of old name) new.log.left
 
 -- the desk tells its files, and each that the command reads is there
 abbrev pub HasFiles : Option Command → State → Type 0
@@ -57,6 +50,8 @@ HasFiles (Some (Verify model schedule)) s = HasFile s model × HasFile s schedul
 HasFiles (Some (Show model)) s = HasFile s model
 HasFiles (Some (Gen shop)) s = ⊤
 HasFiles (Some (Trial shop log limit)) s = ⊤
+HasFiles (Some (Bound model log)) s = HasFile s model × HasFile s log
+HasFiles (Some (Core model log)) s = HasFile s model × HasFile s log
 
 -- Where a model comes from.
 
@@ -204,45 +199,25 @@ pub record SolvePromise (model : Source) (log : Bytes) (limit : ℕ) (result : E
   pub unread : IsUnread model old new
   pub ends : SolveEnds model log limit result old new
 
--- What `check` promises.
+-- What `check`, `bound` and `core` promise.
 
--- The log in its file is accepted: its bytes are a whole log of the model that the text deserves, with this verdict and
--- this count of nodes, and what the verdict says of the model is so, whoever wrote the log.
-pub record AcceptsLog (model log : Bytes) (v : Verdict) (n : ℕ) (s : State) : Type 0 where
-  pub m : Data
-  pub deserved : FileDeserves s model (Accepted m)
-  pub judged : IfFile s log (λ bytes. IsAccepted m (log_bytes bytes) v n × (IsTooLong m (log_bytes bytes) → ⊥))
-  pub means : Means m v
-
--- it is, and exactly the text that says so was printed
-pub record AcceptPromise (model log : Bytes) (old new : State) : Type 0 where
-  pub verdict : Verdict
-  pub nodes : ℕ
-  pub accepts : AcceptsLog model log verdict nodes old
-  pub printed : new.out ≡ appended (check_text verdict nodes) old.out
-
--- it is refused at the first line that is wrong or missing, or is too long without one; this is told
+-- the log is refused at the first line that is wrong or missing, or is too long without one; this is told
 pub data RefusesLog (model log : Bytes) (old new : State) : Type 0 where
-  at_line : (m : Data) (k : ℕ) → FileDeserves old model (Accepted m) → IfFile old log (λ bytes. IsRefused m (log_bytes bytes) k × (IsTooLong m (log_bytes bytes) → ⊥)) → Tells (log_line k) old new → RefusesLog model log old new
-  too_long : (m : Data) → FileDeserves old model (Accepted m) → IfFile old log (λ bytes. IsTooLong m (log_bytes bytes)) → Tells too_long_line old new → RefusesLog model log old new
+  at_line : (k : ℕ) → IsRefusedAt model log k old → Tells (log_line k) old new → RefusesLog model log old new
+  too_long : IsFoundTooLong model log old → Tells too_long_line old new → RefusesLog model log old new
 
--- after a fault nothing was printed, or a front part of the text of a log that is accepted
-abbrev pub AcceptsPart : Bytes → Bytes → State → State → Type 0
-AcceptsPart model log old new = (new.out ≡ old.out) ⊎ ((v : Verdict) × (n : ℕ) × AcceptsLog model log v n old × AppendedFrom (check_text v n) old.out new.out)
+-- by its ending; a success ends so, and no other comes
+abbrev pub ReportEnds : {V : Type 0} → Report V → Ended → Bytes → Bytes → Ended → State → State → Type 0
+ReportEnds r success model log end.ModelRefused old new = RefusesModel (file model) old new
+ReportEnds r success model log end.LogRefused old new = RefusesLog model log old new
+ReportEnds r success model log end.Fault old new = PrintsPart r model log old new
+ReportEnds r success model log end.NoMemory old new = new.out ≡ old.out
+ReportEnds r success model log ended old new = (ended ≡ success) × PrintsReport r model log old new
 
--- by its ending; no other comes
-abbrev pub CheckEnds : Bytes → Bytes → Ended → State → State → Type 0
-CheckEnds model log end.Accepted old new = AcceptPromise model log old new
-CheckEnds model log end.ModelRefused old new = RefusesModel (file model) old new
-CheckEnds model log end.LogRefused old new = RefusesLog model log old new
-CheckEnds model log end.Fault old new = AcceptsPart model log old new
-CheckEnds model log end.NoMemory old new = new.out ≡ old.out
-CheckEnds model log _ old new = ⊥
-
-pub record CheckPromise (model log : Bytes) (result : Ended) (old new : State) : Type 0 where
+pub record ReportPromise {V : Type 0} (r : Report V) (success : Ended) (model log : Bytes) (result : Ended) (old new : State) : Type 0 where
   -- nothing but these has changed; no log is created
   pub only : new ≡ record old { model = new.model; log = new.log; out = new.out; err = new.err; faults = new.faults }
-  pub ends : CheckEnds model log result old new
+  pub ends : ReportEnds r success model log result old new
 
 -- What `verify` promises.
 
@@ -333,21 +308,28 @@ NeverRefused result = result ≡ end.ModelRefused → ⊥
 abbrev pub CommandPromise : Option Command → Ended → State → State → Type 0
 CommandPromise None result old new = NoCommandEnds result old new
 CommandPromise (Some (Solve model log limit)) result old new = SolvePromise (file model) log limit result old new
-CommandPromise (Some (Check model log)) result old new = CheckPromise model log result old new
+CommandPromise (Some (Check model log)) result old new = ReportPromise check_report end.Accepted model log result old new
 CommandPromise (Some (Verify model schedule)) result old new = VerifyPromise model schedule result old new
 CommandPromise (Some (Show model)) result old new = ShowPromise model result old new
 CommandPromise (Some (Gen shop)) result old new = GenPromise shop result old new
 CommandPromise (Some (Trial shop log limit)) result old new = SolvePromise (generated shop) log limit result old new × NeverRefused result
+CommandPromise (Some (Bound model log)) result old new = ReportPromise bound_report end.Done model log result old new
+CommandPromise (Some (Core model log)) result old new = ReportPromise core_report end.Done model log result old new
 
--- how far a command reads its files; `check` and `verify` open the second only where the model isn't refused
+-- how far a command reads its files; the second is opened only where the model isn't refused
+abbrev pub ReadsBoth : Bytes → Bytes → Ended → State → State → Type 0
+ReadsBoth model log result old new = ReadsModel model old new × ((result ≡ end.ModelRefused → ⊥) → ReadsLog log old new)
+
 abbrev pub ReadsFiles : Option Command → Ended → State → State → Type 0
 ReadsFiles None result old new = ⊤
 ReadsFiles (Some (Solve model log limit)) result old new = ReadsModel model old new
-ReadsFiles (Some (Check model log)) result old new = ReadsModel model old new × ((result ≡ end.ModelRefused → ⊥) → ReadsLog log old new)
+ReadsFiles (Some (Check model log)) result old new = ReadsBoth model log result old new
 ReadsFiles (Some (Verify model schedule)) result old new = ReadsModel model old new × ((result ≡ end.ModelRefused → ⊥) → ReadsSchedule schedule old new)
 ReadsFiles (Some (Show model)) result old new = ReadsModel model old new
 ReadsFiles (Some (Gen shop)) result old new = ⊤
 ReadsFiles (Some (Trial shop log limit)) result old new = ⊤
+ReadsFiles (Some (Bound model log)) result old new = ReadsBoth model log result old new
+ReadsFiles (Some (Core model log)) result old new = ReadsBoth model log result old new
 
 pub record RunPromise (command : Option Command) (result : Ended) (old new : State) : Type 0 where
   pub every : EveryRun command result old new

@@ -1,6 +1,7 @@
 //! The commands of the program, over a desk: what each does, the texts that it prints, and how it ends.
 #![tactic(auto)]
 
+mod bounding;
 mod checking;
 mod ended;
 mod generating;
@@ -11,6 +12,7 @@ mod showing;
 mod solving;
 mod stop;
 mod trying;
+mod using;
 mod valid;
 mod verifying;
 

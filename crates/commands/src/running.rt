@@ -4,6 +4,7 @@ ghost use Rattle.commands.specs.Runs.{Runs};
 ghost use Rattle.commands.specs.Told.{usage_line};
 ghost use Rattle.commands.specs.declared.ended.Ended.TheVariants as end;
 
+use crate::bounding::run_bound;
 use crate::checking::run_check;
 use crate::ended::Ended;
 use crate::generating::run_gen;
@@ -12,6 +13,7 @@ use crate::showing::run_show;
 use crate::solving::run_solve;
 use crate::stop::Stop;
 use crate::trying::run_trial;
+use crate::using::run_core;
 use crate::verifying::run_verify;
 use command_line::{Command, WordsFault, read_command};
 use given_files::{Stop as Given, report};
@@ -36,6 +38,8 @@ fn run_words<D: Desk>(alloc: Global, words: &[String], desk: &mut D) -> Ended
         Ok(Command::Show { model }) => run_show(alloc, desk, model),
         Ok(Command::Gen { shop }) => run_gen(alloc, desk, shop),
         Ok(Command::Trial { shop, log, nodes }) => run_trial(alloc, desk, shop, log, nodes),
+        Ok(Command::Bound { model, log }) => run_bound(alloc, desk, model, log),
+        Ok(Command::Core { model, log }) => run_core(alloc, desk, model, log),
         Err(WordsFault::Usage) => end_usage(desk),
         Err(WordsFault::NoMemory) => end_stopped(alloc, desk, Stop::Given(Given::NoMemory)),
     }

@@ -1,5 +1,5 @@
-use checker::CheckFault;
 use given_files::Stop as Given;
+use log_reports::LogStop;
 use sched_base::{Failed, NoMemory};
 use solver::SolveFault;
 
@@ -62,18 +62,17 @@ impl From<SolveFault> for Stop {
     }
 }
 
-impl From<CheckFault> for Stop {
+impl From<LogStop> for Stop {
     ghost use Rattle.std.specs.Prelude.{◌≡◌};
-    ghost use Rattle.commands.specs.code.Stops.{stop_of_check};
+    ghost use Rattle.commands.specs.code.Stops.{stop_of_report};
 
-    ghost from_gives = { λ e s. s ≡ stop_of_check e };
+    ghost from_gives = { λ e s. s ≡ stop_of_report e };
 
-    fn from(e: CheckFault) -> Stop {
+    fn from(e: LogStop) -> Stop {
         match e {
-            CheckFault::Refused { line } => Stop::LogRefused(line),
-            CheckFault::TooLong => Stop::LogTooLong,
-            CheckFault::Fault => Stop::Given(Given::Fault),
-            CheckFault::NoMemory => Stop::Given(Given::NoMemory),
+            LogStop::Given(given) => Stop::Given(given),
+            LogStop::Refused(line) => Stop::LogRefused(line),
+            LogStop::TooLong => Stop::LogTooLong,
         }
     }
 }

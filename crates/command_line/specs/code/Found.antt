@@ -3,7 +3,7 @@ use Rattle.std.specs.Prelude.{◌≡◌, ℕ, ◌≤◌, true, List, [], ◌∷�
 use Rattle.clap.specs.declared.parser.matches.Found.{Found}
 use Rattle.clap.specs.Matches.{first_value}
 use Rattle.modelgen.specs.Generated.{are_within}
-use Rattle.command_line.specs.Commands.{Command, Solve, Check, Verify, Show, Gen, Trial, Parts, Word}
+use Rattle.command_line.specs.Commands.{Command, Solve, Check, Verify, Show, Gen, Trial, Bound, Core, Parts, Word}
 use Rattle.command_line.specs.declared.shop.Shop.{Shop}
 use Rattle.command_line.specs.declared.commands.Command as code
 use Rattle.command_line.specs.declared.commands.Command.TheVariants as view
@@ -34,6 +34,8 @@ seen_of (view.Verify model schedule) = Verify model.now schedule.now
 seen_of (view.Show model) = Show model.now
 seen_of (view.Gen shop) = Gen shop
 seen_of (view.Trial shop log nodes) = Trial shop log.now nodes
+seen_of (view.Bound model log) = Bound model.now log.now
+seen_of (view.Core model log) = Core model.now log.now
 
 -- from 1 to 10,000,000
 abbrev pub IsLimit : ℕ → Type 0

@@ -1,6 +1,6 @@
 -- Which stop an error below becomes, and the ending of each stop that given_files tells.
-use Rattle.checker.specs.declared.judging.CheckFault.{CheckFault}
-use Rattle.checker.specs.declared.judging.CheckFault.TheVariants as check
+use Rattle.log_reports.specs.declared.stop.LogStop.{LogStop}
+use Rattle.log_reports.specs.declared.stop.LogStop.TheVariants as why
 use Rattle.solver.specs.declared.fault.SolveFault.{SolveFault}
 use Rattle.solver.specs.declared.fault.SolveFault.TheVariants as solve
 use Rattle.given_files.specs.declared.stop.Stop.{Stop as GivenStop}
@@ -14,11 +14,10 @@ abbrev pub stop_of_search : SolveFault → Stop
 stop_of_search solve.Fault = Given given.Fault
 stop_of_search solve.NoMemory = Given given.NoMemory
 
-abbrev pub stop_of_check : CheckFault → Stop
-stop_of_check (check.Refused k) = LogRefused k
-stop_of_check check.TooLong = LogTooLong
-stop_of_check check.Fault = Given given.Fault
-stop_of_check check.NoMemory = Given given.NoMemory
+abbrev pub stop_of_report : LogStop → Stop
+stop_of_report (why.Given s) = Given s
+stop_of_report (why.Refused k) = LogRefused k
+stop_of_report why.TooLong = LogTooLong
 
 abbrev pub ending_of_stop : GivenStop → Ended
 ending_of_stop given.Fault = end.Fault

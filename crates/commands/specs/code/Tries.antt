@@ -7,15 +7,11 @@ use Rattle.sched_model.specs.Data.{Data}
 use Rattle.cpo_elab.specs.Answers.Answer.{Accepted, Refused}
 use Rattle.cpo_elab.specs.Deserves.{Deserves}
 use Rattle.command_line.specs.declared.shop.Shop.{Shop}
-use Rattle.kernel.specs.Promises.{Means}
 use Rattle.textline.specs.Lines.{Bytes}
-use Rattle.checker.specs.declared.judging.Checked.{Checked}
-use Rattle.checker.specs.Judgement.{IsAccepted, IsRefused, IsTooLong}
-use Rattle.logtext.specs.Judgement.{log_bytes}
 use Rattle.solver.specs.Answers.{IsAnswer}
 use Rattle.given_files.specs.declared.stop.Stop.{Stop as GivenStop}
 use Rattle.given_files.specs.declared.stop.Stop.TheVariants as given
-use Rattle.given_files.specs.Files.{IfFile, HasFile, FileDeserves, ReadsModel, ReadsSchedule}
+use Rattle.given_files.specs.Files.{HasFile, FileDeserves, ReadsModel, ReadsSchedule}
 use Rattle.given_files.specs.Schedules.{RefusalDue}
 use Rattle.given_files.specs.Told.{Reports}
 use Rattle.given_files.specs.code.Reading.{OnlyReads, IsFault}
@@ -26,7 +22,7 @@ use Rattle.commands.specs.declared.stop.Stop.{Stop}
 use Rattle.commands.specs.declared.stop.Stop.TheVariants as stop
 use Rattle.commands.specs.Ended.{is_success}
 use Rattle.commands.specs.Told.{log_line, too_long_line}
-use Rattle.commands.specs.Runs.{Source, SourceDeserves, HasSource, ReadsSource, IsUnread, shop_text, LogPromise, HoldsBegunLog, AnswerPromise, CutShort, AcceptsPart, AcceptPromise, ShowsModel, ShowsPart, ReadsLog, VerifiesSchedule, VerifiesPart}
+use Rattle.commands.specs.Runs.{Source, SourceDeserves, HasSource, ReadsSource, IsUnread, shop_text, LogPromise, HoldsBegunLog, AnswerPromise, CutShort, ShowsModel, ShowsPart, VerifiesSchedule, VerifiesPart}
 use Rattle.commands.specs.code.Stops.{ending_of_stop}
 
 -- Searching with a log.
@@ -60,37 +56,6 @@ pub record TriesSolve (model : Source) (log : Bytes) (limit : ℕ) (result : Res
   pub unread : IsUnread model old new
   pub later : old.faults ≤ new.faults
   pub tried : SolveTried model log limit result old new
-
--- Checking a log.
-
--- only the slot of the log and the count of faults have changed
-pub record OnlyJudges (old new : State) : Type 0 where
-  pub only : new ≡ record old { log = new.log; faults = new.faults }
-  pub later : old.faults ≤ new.faults
-
--- what the log in a file is found to be
-abbrev pub JudgesFile : Data → Bytes → Result Checked Stop → State → State → Type 0
-JudgesFile m log (Ok c) old new = (new.faults ≡ old.faults) × IfFile old log (λ bytes. IsAccepted m (log_bytes bytes) c.verdict c.nodes × (IsTooLong m (log_bytes bytes) → ⊥)) × Means m c.verdict × ReadsLog log old new
-JudgesFile m log (Err (stop.LogRefused k)) old new = IfFile old log (λ bytes. IsRefused m (log_bytes bytes) k × (IsTooLong m (log_bytes bytes) → ⊥)) × ReadsLog log old new
-JudgesFile m log (Err stop.LogTooLong) old new = IfFile old log (λ bytes. IsTooLong m (log_bytes bytes)) × ReadsLog log old new
-JudgesFile m log (Err (stop.Given given.Fault)) old new = IsFault log old new
-JudgesFile m log (Err (stop.Given given.NoMemory)) old new = ⊤
-JudgesFile m log (Err (stop.Given (given.ModelRefused r))) old new = ⊥
-JudgesFile m log (Err (stop.Given (given.ScheduleRefused r))) old new = ⊥
-
-abbrev pub CheckTried : Bytes → Bytes → Result Ended Stop → State → State → Type 0
-CheckTried model log (Ok ended) old new = (new.faults ≡ old.faults) × (ended ≡ end.Accepted) × AcceptPromise model log old new × ReadsModel model old new × ReadsLog log old new
-CheckTried model log (Err (stop.Given given.Fault)) old new = Rose old.faults new.faults × (old.calm ≡ true → HasFile old model → HasFile old log → ⊥) × AcceptsPart model log old new
-CheckTried model log (Err (stop.Given given.NoMemory)) old new = new.out ≡ old.out
-CheckTried model log (Err (stop.Given (given.ModelRefused r))) old new = OnlyReads old new × (new.faults ≡ old.faults) × FileDeserves old model (Refused r) × ReadsModel model old new
-CheckTried model log (Err (stop.LogRefused k)) old new = (new.out ≡ old.out) × ((m : Data) × FileDeserves old model (Accepted m) × IfFile old log (λ bytes. IsRefused m (log_bytes bytes) k × (IsTooLong m (log_bytes bytes) → ⊥))) × ReadsModel model old new × ReadsLog log old new
-CheckTried model log (Err stop.LogTooLong) old new = (new.out ≡ old.out) × ((m : Data) × FileDeserves old model (Accepted m) × IfFile old log (λ bytes. IsTooLong m (log_bytes bytes))) × ReadsModel model old new × ReadsLog log old new
-CheckTried model log (Err (stop.Given (given.ScheduleRefused r))) old new = ⊥
-
-pub record TriesCheck (model log : Bytes) (result : Result Ended Stop) (old new : State) : Type 0 where
-  pub only : new ≡ record old { model = new.model; log = new.log; out = new.out; faults = new.faults }
-  pub later : old.faults ≤ new.faults
-  pub tried : CheckTried model log result old new
 
 -- Verifying a schedule.
 

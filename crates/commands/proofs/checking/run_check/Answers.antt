@@ -1,9 +1,22 @@
-use Rattle.commands.proofs.Ending.{checked, check_stopped}
+use Rattle.std.proofs.Common.{subst}
+use Rattle.command_line.specs.Commands.{Check}
+use Rattle.log_reports.specs.Reports.{check_report}
+use Rattle.commands.specs.declared.ended.Ended.TheVariants as end
+use Rattle.commands.specs.code.Tries.{EndsStopped}
+use Rattle.commands.proofs.Ending.{check_reports, reported, report_stopped}
 use Rattle.commands.proofs.checking.run_check.Goals as goal
 
 pub returns-in-Ok : goal.returns-in-Ok
-returns-in-Ok g c = checked c.args.model.now c.args.log.now c.in-Ok.ended (g.D.Desk.state c.args.desk.now) (g.D.Desk.state c.check_file.new.desk) c.in-Ok.ensures
+returns-in-Ok g c =
+    let model = c.args.model.now in
+    let log = c.args.log.now in
+    reported check_report end.Accepted model log (Check model log) (check_reports model log) _ (g.D.Desk.state c.args.desk.now) (g.D.Desk.state c.report_check.new.desk) c.in-Ok.ensures
 
 pub returns-in-Err : goal.returns-in-Err
-returns-in-Err g c = check_stopped c.args.model.now c.args.log.now c.in-Err.stop c.end_stopped.result (g.D.Desk.state c.args.desk.now) (g.D.Desk.state c.check_file.new.desk) (g.D.Desk.state c.end_stopped.new.desk)
-    c.in-Err.ensures c.end_stopped.ensures
+returns-in-Err g c =
+    let model = c.args.model.now in
+    let log = c.args.log.now in
+    let after = g.D.Desk.state c.report_check.new.desk in
+    let new = g.D.Desk.state c.end_stopped.new.desk in
+    report_stopped check_report end.Accepted model log (Check model log) (check_reports model log) c.in-Err.stop c.end_stopped.result (g.D.Desk.state c.args.desk.now) after new c.in-Err.ensures
+    (subst (λ stop. EndsStopped stop c.end_stopped.result after new) c.from.ensures c.end_stopped.ensures)

@@ -1,0 +1,22 @@
+use Rattle.std.proofs.Common.{subst}
+use Rattle.command_line.specs.Commands.{Core}
+use Rattle.log_reports.specs.Reports.{core_report}
+use Rattle.commands.specs.declared.ended.Ended.TheVariants as end
+use Rattle.commands.specs.code.Tries.{EndsStopped}
+use Rattle.commands.proofs.Ending.{core_reports, reported, report_stopped}
+use Rattle.commands.proofs.using.run_core.Goals as goal
+
+pub returns-in-Ok : goal.returns-in-Ok
+returns-in-Ok g c =
+    let model = c.args.model.now in
+    let log = c.args.log.now in
+    reported core_report end.Done model log (Core model log) (core_reports model log) _ (g.D.Desk.state c.args.desk.now) (g.D.Desk.state c.report_core.new.desk) c.in-Ok.ensures
+
+pub returns-in-Err : goal.returns-in-Err
+returns-in-Err g c =
+    let model = c.args.model.now in
+    let log = c.args.log.now in
+    let after = g.D.Desk.state c.report_core.new.desk in
+    let new = g.D.Desk.state c.end_stopped.new.desk in
+    report_stopped core_report end.Done model log (Core model log) (core_reports model log) c.in-Err.stop c.end_stopped.result (g.D.Desk.state c.args.desk.now) after new c.in-Err.ensures
+    (subst (λ stop. EndsStopped stop c.end_stopped.result after new) c.from.ensures c.end_stopped.ensures)

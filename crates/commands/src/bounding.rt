@@ -1,0 +1,20 @@
+ghost use Rattle.std.specs.Prelude.{Some};
+ghost use Rattle.command_line.specs.Commands.{Bound};
+ghost use Rattle.commands.specs.Runs.{RunPromise};
+
+use crate::ended::Ended;
+use crate::report::end_stopped;
+use crate::stop::Stop;
+use log_reports::report_bound;
+use sched_base::Desk;
+use std::alloc::Global;
+
+/// Carries out `bound`.
+pub fn run_bound<D: Desk>(alloc: Global, desk: &mut D, model: &str, log: &str) -> Ended
+    ensures { RunPromise (Some (Bound model.now log.now)) result (D.state desk.old) (D.state desk.new) }
+{
+    match report_bound(alloc, desk, model, log) {
+        Ok(()) => Ended::Done,
+        Err(stop) => end_stopped(alloc, desk, Stop::from(stop)),
+    }
+}
