@@ -1,7 +1,8 @@
 #!/usr/bin/env bash
 # Solves each model of this folder and compares: the answer with the one beside the model (NAME.answer), what `check` says
 # of the log, and that what `solve` printed is a solution by `verify`. Then the logs that are kept beside models are
-# checked, and a plan is changed by hand, once rightly and once not. It ends with status 1 where something differs.
+# checked, a plan is changed by hand, once rightly and once not, and a plan that can't be is asked why. It ends with status 1
+# where something differs.
 # usage: run.sh [PROGRAM]
 # It wants a built program: (cd crates/schedtool && rt run -- solve ../../examples/two_in_a_row.cpo two_in_a_row.log)
 set -eu
@@ -47,6 +48,15 @@ if "$tool" verify "$model" too_late 2> why; then
   differs night_shift "verify takes a plan that ends too late"
 fi
 [ "$(cat why)" = "schedule refused line 3" ] || differs night_shift "verify says '$(cat why)'"
+
+# A plan that can't be: fourteen rules clash, and none of them can go.
+left=$(TOOL=$tool "$here/../audit/shrink.py" "$here/festival.cpo" | grep -c '^constraint [0-9]*:') || true
+[ "$left" = 14 ] || differs festival "shrink.py leaves $left constraints, wanted are 14"
+
+# What a closed log shows of the best value is its optimum.
+said=$("$tool" bound "$here/two_in_a_row.cpo" "$here/two_in_a_row.log" | head -n 2 | tr '\n' ' ')
+wanted=$(cut -d ' ' -f 2 "$here/two_in_a_row.answer")
+[ "$said" = "bound $wanted best $wanted " ] || differs two_in_a_row "bound prints '$said'"
 
 [ $wrong = 0 ] && echo "all as wanted"
 exit $wrong
