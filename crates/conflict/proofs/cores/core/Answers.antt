@@ -7,7 +7,7 @@ use Rattle.checker.specs.Checking.{ChecksBy}
 use Rattle.checker.specs.code.Faults.{fault_of}
 use Rattle.checker.specs.lemmas.Replayed.{falls_short, tells}
 use Rattle.conflict.specs.Core.{ShowsCore}
-use Rattle.conflict.specs.laws.Cores.{noting, shows_core, shows_other, cant_all_hold, few_marks}
+use Rattle.conflict.specs.laws.Cores.{noting, shows_core, shows_other, cant_all_hold, few_marks, lists_used}
 use Rattle.conflict.proofs.cores.core.Goals as goal
 
 pub returns-in_err-kernel-clause-cores : goal.returns-in_err-kernel-clause-cores
@@ -32,6 +32,11 @@ returns-clause-cores g c =
     let infeasible : verdict_of c.in_ok-kernel.kernel ≡ Infeasible = search rules in
     tells ShowsCore noting _ _ c.args.model.now c.in_ok-kernel.kernel _ (g.D.Desk.state c.args.desk.now) (g.D.Desk.state c.replay.new.desk)
     (λ bytes whole. shows_core c.args.model.now bytes c.in_ok-kernel.kernel _ _ c.in_ok-listed.field-0 none c.in_ok-listed.ensures infeasible whole) c.in_ok-kernel.ensures.replays
+
+pub returns-clause-rises : goal.returns-clause-rises
+returns-clause-rises g c =
+    let none : c.in_ok-used.used ≡ replicate (length c.args.model.now.constraints) false = search rules in
+    (lists_used c.args.model.now c.in_ok-kernel.kernel _ _ c.in_ok-listed.field-0 none c.in_ok-listed.ensures c.in_ok-kernel.ensures.replays.replayed).rises
 
 pub returns-clause-means : goal.returns-clause-means
 returns-clause-means g c =
