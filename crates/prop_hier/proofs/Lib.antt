@@ -5,3 +5,4 @@ pub mod Members
 pub mod Presences
 pub mod Silence
 pub mod OneMore
+pub mod Quiet

@@ -6,5 +6,6 @@ pub mod Presences
 pub mod Ready
 pub mod Related
 pub mod Rows
+pub mod Silent
 pub mod Tables
 pub mod Tasks

@@ -51,6 +51,9 @@ fn ask_some<'a>(
             counts,
             x,
         };
+        if test.is_silent() {
+            continue;
+        }
         if let Some(guess) = ask_by(&test, region, &[x], &[]) {
             return Some(Hit { guess, place: k });
         }
@@ -72,7 +75,8 @@ fn place_in(from: usize, n: usize) -> usize
 /// What is found of a constraint on an interval and its parts, which are listed together: nothing, or
 /// that one of its witnesses refutes the region, or the tight guess on one of these intervals under
 /// which one does. Where they are many they are asked from a place on, and then those before it. The
-/// parts are counted once; each guess on a part then costs a few comparisons.
+/// parts are counted once; each guess on a part then costs a few comparisons, and none is tested of a part
+/// of which its numbers show that nothing is found.
 pub fn ask_family<'a>(
     region: &'a Region,
     family: &'a Family<'a>,

@@ -8,6 +8,7 @@ mod member_test;
 mod possible;
 mod reaches;
 mod relations;
+mod silent;
 mod table;
 mod watch;
 

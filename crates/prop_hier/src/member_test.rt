@@ -1,11 +1,14 @@
 //! Whether a constraint refutes a region under a guess on one of its intervals.
-ghost use Rattle.std.specs.Prelude.{◌≡◌, IsTrue};
+ghost use Rattle.std.specs.Prelude.{◌≡◌, ◌∷◌, [], true, IsTrue};
 ghost use Rattle.region.specs.Guesses.{admits, topic, with_guess};
+ghost use Rattle.findings.specs.code.Reads.{AreUnrefuted};
 ghost use Rattle.refute_hier.specs.code.Rows.{some_refutes};
+ghost use Rattle.prop_hier.specs.code.Rows.{refutes_under};
 ghost use Rattle.prop_hier.specs.code.Ready.{IsReady, is_about, is_quick};
 
 use crate::counts::{Change, Counts, counts_after, counts_refute, numbers_refute};
 use crate::reaches::{reach_into, window_around, window_of};
+use crate::silent::is_silent;
 use refute_hier::{Family, known};
 use region::{Guess, GuessTest, Region};
 use sched_base::Itv;
@@ -36,6 +39,22 @@ pub struct MemberTest<'a> {
 }
 
 impl<'a> MemberTest<'a> {
+    /// Whether a few comparisons show that neither the region is refuted nor a guess on the part.
+    pub fn is_silent(&self) -> bool
+        requires { IsReady self.now.family.now.kind self.now.region.now.region self.now.family.now.a self.now.family.now.parts.now self.now.counts self.now.x }
+        ensures { result ≡ true → AreUnrefuted (refutes_under self.now.family.now.kind self.now.region.now.region self.now.family.now.a self.now.family.now.parts.now) self.now.region.now.region (self.now.x ∷ []) [] }
+    {
+        if self.x.0 == self.family.a.0 {
+            return false;
+        }
+        let look = self.region.look(None, None);
+        let whole = known(&look, self.family.a);
+        if counts_refute(self.family.kind, whole.presence, self.counts) {
+            return false;
+        }
+        is_silent(&look, self.family.kind, whole, self.x, self.counts)
+    }
+
     /// Whether it is a guess on the part.
     fn is_quick(&self, g: Guess) -> bool
         ensures { result ≡ is_quick self.now.family.now.a self.now.x (topic g) }

@@ -9,3 +9,7 @@ returns-in-Some-clause-busy c =
 pub loop-k-preserved : goal.loop-k-preserved
 loop-k-preserved c =
     one_more _ c.args.region.now.region c.args.xs.now c.loop-k.k _ (record { 0 = 0 }) (search rules) refl c.loop-k.invariant c.in_default.ensures.none
+
+pub loop-k-preserved-then-is_silent : goal.loop-k-preserved-then-is_silent
+loop-k-preserved-then-is_silent c =
+    one_more _ c.args.region.now.region c.args.xs.now c.loop-k.k _ (record { 0 = 0 }) (search rules) refl c.loop-k.invariant (c.is_silent.ensures c.if-is_silent.true)
