@@ -3,10 +3,10 @@ use Rattle.std.specs.Prelude.{◌≡◌, ℕ, ◌+◌, ◌-◌, ◌<◌, ℤ, �
 use Rattle.std.specs.Int.{int_max, int_min}
 use Rattle.std.specs.Ordering.{int_eq}
 use Rattle.std.proofs.Common.{refl, sym, subst, arith}
-use Rattle.std.proofs.lemmas.Bool.{true≢false}
+use Rattle.std.proofs.lemmas.Bool.{true≢false, or_from, or_parts}
 use Rattle.std.proofs.lemmas.Bool.Decides.{nat_tests}
 use Rattle.std.proofs.lemmas.Int.{ints}
-use Rattle.base_laws.specs.laws.Truth.{alone}
+use Rattle.base_laws.specs.laws.Truth.{alone, never_both}
 use Rattle.sched_base.specs.declared.ids.Itv.{Itv}
 use Rattle.sched_model.specs.Data.{same}
 use Rattle.region.specs.declared.types.Presence.{Presence}
@@ -72,11 +72,7 @@ one_left m true false few h = grind (arith, nat_tests, few)
 one_left m false true few h = grind (arith, nat_tests, h)
 one_left m false false few h = grind (arith, nat_tests, few)
 
--- where each of some tests fails, or none does
-neither : (b c : Bool) → (b || c) ≡ false → (b ≡ false) × (c ≡ false)
-neither true c h = cc
-neither false c h = (refl, h)
-
+-- where each of some tests fails
 four_fail : (w x y z : Bool) → w ≡ true → x ≡ true → y ≡ false → z ≡ false → (not w || not x || y || z) ≡ false
 four_fail true true false false e f g h = refl
 four_fail true true true z e f g h = cc
@@ -89,11 +85,6 @@ three_fail false true false e f g = refl
 three_fail false true true e f g = cc
 three_fail false false y e f g = cc
 three_fail true x y e f g = cc
-
-two_fail : (w x : Bool) → w ≡ false → x ≡ false → (w || x) ≡ false
-two_fail false false e f = refl
-two_fail false true e f = cc
-two_fail true x e f = cc
 
 -- no guess on a part makes it clash with its interval
 record Fits (a c : Bounds) : Type 0 where
@@ -132,7 +123,7 @@ record Meets (a d : Bounds) : Type 0 where
   pub end : ect_in d ≤ℤ lct_in d
 
 no_clash : (a d : Bounds) → Meets a d → clash a d ≡ false
-no_clash a d m = two_fail (have_starts_apart a d) (have_ends_apart a d)
+no_clash a d m = or_from (have_starts_apart a d) (have_ends_apart a d)
     (meets (est_in a) (lst_in a) (est_in d) (lst_in d) m.own_start m.start_late m.start_soon m.start)
     (meets (ect_in a) (lct_in a) (ect_in d) (lct_in d) m.own_end m.end_late m.end_soon m.end)
 
@@ -211,38 +202,34 @@ meeting k a c e f = record {
     end (claim.EndGe t) e = subst (λ s. int_max s (c.smin +ℤ c.pmin) ≤ℤ c.emax) (sym (is_equal t c.emax e)) (lasts_until c.emax c.smin c.pmin c.emax (itself c.emax) fitting)
 
 never_clash : (k : Claim) (a c : Bounds) → is_end_at k c ≡ true → always_matches a c ≡ true → plays Clashes a (guessed k c) ≡ false
-never_clash k a c e all = unless (says_present (guessed k c).presence) (no_clash a (guessed k c) (meeting k a c e (fits a c all)))
-  where
-    unless : (b : Bool) → clash a (guessed k c) ≡ false → (b && clash a (guessed k c)) ≡ false
-    unless true h = h
-    unless false h = refl
+never_clash k a c e all = never_both (says_present (guessed k c).presence) (clash a (guessed k c)) (no_clash a (guessed k c) (meeting k a c e (fits a c all)))
 
 -- of one kind after another
 quiet_span : (p : Presence) (k : Claim) (a c : Bounds) (n : Counts) → is_end_at k c ≡ true → counts_refute Span p n ≡ false → has_others p n ≡ true → is_within a (ends_of c) ≡ true → counts_refute Span p (counts_after Span a c (guessed k c) n) ≡ false
 quiet_span Absent k a c n e calm others within = cc
 quiet_span Present k a c n e calm others within =
-    let three = neither (not (nat_lt 0 n.may_start) || not (nat_lt 0 n.may_end) || nat_lt 0 n.starts_before) (nat_lt 0 n.ends_after) calm in
-    let two = neither (not (nat_lt 0 n.may_start) || not (nat_lt 0 n.may_end)) (nat_lt 0 n.starts_before) three.0 in
+    let three = or_parts (not (nat_lt 0 n.may_start) || not (nat_lt 0 n.may_end) || nat_lt 0 n.starts_before) (nat_lt 0 n.ends_after) calm in
+    let two = or_parts (not (nat_lt 0 n.may_start) || not (nat_lt 0 n.may_end)) (nat_lt 0 n.starts_before) three.0 in
     let both = both_true (nat_lt 1 n.may_start) (nat_lt 1 n.may_end) others in
     four_fail _ _ _ _ (more_left n.may_start (plays MayStart a c) (plays MayStart a (guessed k c)) both.0) (more_left n.may_end (plays MayEnd a c) (plays MayEnd a (guessed k c)) both.1)
     (none_left n.starts_before (plays StartsBefore a c) (plays StartsBefore a (guessed k c)) two.1 (never_before k a c e within))
     (none_left n.ends_after (plays EndsAfter a c) (plays EndsAfter a (guessed k c)) three.1 (never_after k a c e within))
 quiet_span Maybe k a c n e calm others within =
-    let two = neither (nat_lt 0 n.starts_before) (nat_lt 0 n.ends_after) calm in
-    two_fail _ _ (none_left n.starts_before (plays StartsBefore a c) (plays StartsBefore a (guessed k c)) two.0 (never_before k a c e within))
+    let two = or_parts (nat_lt 0 n.starts_before) (nat_lt 0 n.ends_after) calm in
+    or_from _ _ (none_left n.starts_before (plays StartsBefore a c) (plays StartsBefore a (guessed k c)) two.0 (never_before k a c e within))
     (none_left n.ends_after (plays EndsAfter a c) (plays EndsAfter a (guessed k c)) two.1 (never_after k a c e within))
 
 quiet_alternative : (p : Presence) (k : Claim) (a c : Bounds) (n : Counts) → is_end_at k c ≡ true → counts_refute Alternative p n ≡ false → has_another p c.presence n ≡ true → always_matches a c ≡ true → counts_refute Alternative p (counts_after Alternative a c (guessed k c) n) ≡ false
 quiet_alternative Absent k a c n e calm other all = cc
 quiet_alternative Present k a c n e calm other all =
-    let two = neither (nat_lt 1 n.there || not (nat_lt 0 n.may_match)) (nat_lt 0 n.clashes) calm in
-    let one = neither (nat_lt 1 n.there) (not (nat_lt 0 n.may_match)) two.0 in
+    let two = or_parts (nat_lt 1 n.there || not (nat_lt 0 n.may_match)) (nat_lt 0 n.clashes) calm in
+    let one = or_parts (nat_lt 1 n.there) (not (nat_lt 0 n.may_match)) two.0 in
     let both = both_true (says_present c.presence || not (nat_lt 0 n.there)) (nat_lt 1 n.may_match) other in
     three_fail _ _ _ (one_left n.there (plays IsThere a c) (plays IsThere a (guessed k c)) one.0 both.0) (more_left n.may_match (plays MayMatch a c) (plays MayMatch a (guessed k c)) both.1)
     (none_left n.clashes (plays Clashes a c) (plays Clashes a (guessed k c)) two.1 (never_clash k a c e all))
 quiet_alternative Maybe k a c n e calm other all =
-    let two = neither (nat_lt 1 n.there) (nat_lt 0 n.clashes) calm in
-    two_fail _ _ (one_left n.there (plays IsThere a c) (plays IsThere a (guessed k c)) two.0 other) (none_left n.clashes (plays Clashes a c) (plays Clashes a (guessed k c)) two.1 (never_clash k a c e all))
+    let two = or_parts (nat_lt 1 n.there) (nat_lt 0 n.clashes) calm in
+    or_from _ _ (one_left n.there (plays IsThere a c) (plays IsThere a (guessed k c)) two.0 other) (none_left n.clashes (plays Clashes a c) (plays Clashes a (guessed k c)) two.1 (never_clash k a c e all))
 
 quiet_synchronize : (p : Presence) (k : Claim) (a c : Bounds) (n : Counts) → is_end_at k c ≡ true → counts_refute Synchronize p n ≡ false → always_matches a c ≡ true → counts_refute Synchronize p (counts_after Synchronize a c (guessed k c) n) ≡ false
 quiet_synchronize Absent k a c n e calm all = refl
