@@ -116,7 +116,8 @@ impl Shown {
         Ok(())
     }
 
-    /// The arcs of one member of a sequence with those behind it, or before it.
+    /// The arcs of one member of a sequence with those behind it, or before it: one that isn't present has
+    /// none.
     fn try_side(
         &mut self,
         model: &Model,
@@ -131,6 +132,9 @@ impl Shown {
         ensures { OnOk result (TriesAll model.now look.now.region (IsOfSide behind u x.0) self.old self.new) }
     {
         for y in members {
+            if !is_there(look, *y) {
+                continue;
+            }
             self.try_told(model, look, named_member(behind, u, x, *y))?;
         }
         Ok(())

@@ -237,6 +237,19 @@ side_more m r behind u x ys k y s t w within at before last = record {
   ];
 }
 
+-- a member that isn't present has none
+pub side_past : (m : Data) (r : Region) (behind : Bool) (u x : ℕ) (y : Itv) (s : Shown) → IsRegionOf m r → is_there r y ≡ false → Tries m r (member_name behind u x y.0) s s
+side_past m r false u x y s of away = record {
+  shown = λ are. are;
+  grows = λ e is. is;
+  has = λ e is. absurd (true≢false (sym (ordered m r (member_name false u x y.0) e of refl is).also ∙ away));
+}
+side_past m r true u x y s of away = record {
+  shown = λ are. are;
+  grows = λ e is. is;
+  has = λ e is. absurd (true≢false (sym (ordered m r (member_name true u x y.0) e of refl is).present ∙ away));
+}
+
 pub side_all : (m : Data) (r : Region) (behind : Bool) (u x : ℕ) (ys : List Itv) (k : ℕ) (s t : Shown) → IsRegionOf m r → ys ≡ members_at m (slice_get m.constraints u) → length ys ≤ k → TriesAll m r (IsOfSideOf behind u x (take k ys)) s t
     → TriesAll m r (IsOfSide behind u x) s t
 side_all m r behind u x ys k s t of are past before = record {
