@@ -5,6 +5,7 @@
 #![tactic(auto)]
 
 pub mod of_cycles;
+pub mod of_energy;
 pub mod of_findings;
 pub mod of_hull_tree;
 pub mod of_prop_basic;
