@@ -7,6 +7,8 @@
 #[cfg(test)]
 mod base_tests;
 #[cfg(test)]
+mod energy_tests;
+#[cfg(test)]
 mod generated_tests;
 #[cfg(test)]
 mod lines;
