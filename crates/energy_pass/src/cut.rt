@@ -102,6 +102,7 @@ pub struct EnergyPass {
 }
 
 impl EnergyPass {
+    /// One that has taken no memory yet.
     pub fn new(alloc: Global) -> EnergyPass {
         EnergyPass {
             alloc,
