@@ -5,6 +5,7 @@ pub mod Growing
 pub mod Grown
 pub mod Kept
 pub mod Lists
+pub mod Made
 pub mod Parted
 pub mod Rooms
 pub mod Trees

@@ -1,3 +1,5 @@
+pub mod Asking
+pub mod Calendars
 pub mod Clear
 pub mod Defined
 pub mod Defining

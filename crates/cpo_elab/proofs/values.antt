@@ -3,4 +3,5 @@ pub mod Expressions
 pub mod Functions
 pub mod Intervals
 pub mod Operands
+pub mod Rising
 pub mod Walks

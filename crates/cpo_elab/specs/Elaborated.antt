@@ -45,7 +45,7 @@ use Rattle.cpo_text.specs.declared.cumul.Cpart.TheVariants as cpart
 use Rattle.cpo_text.specs.declared.cumul.Signed.{Signed}
 use Rattle.cpo_text.specs.declared.cumul.Cumul.{Cumul}
 use Rattle.cpo_text.specs.declared.tree.Definition.{Definition}
-use Rattle.cpo_text.specs.declared.tree.Definition.TheVariants.{IntervalVar, SequenceVar, TransitionMatrix, StateFunction, Cumulative}
+use Rattle.cpo_text.specs.declared.tree.Definition.TheVariants.{IntervalVar, SequenceVar, TransitionMatrix, StateFunction, StepFunction, Cumulative}
 use Rattle.cpo_text.specs.declared.tree.Temporal.{Temporal}
 use Rattle.cpo_text.specs.declared.tree.Temporal.TheVariants.{StartBeforeStart, StartBeforeEnd, EndBeforeStart, EndBeforeEnd, StartAtStart, StartAtEnd, EndAtStart, EndAtEnd}
 use Rattle.cpo_text.specs.declared.tree.Hierarchy.{Hierarchy}
@@ -66,7 +66,7 @@ use Rattle.cpo_text.specs.declared.tree.Constrained.TheVariants.{Between, Parts,
 use Rattle.cpo_text.specs.declared.tree.Sense.{Sense}
 use Rattle.cpo_text.specs.declared.tree.Sense.TheVariants.{Minimize, Maximize}
 use Rattle.cpo_text.specs.declared.tree.Statement.{Statement}
-use Rattle.cpo_text.specs.declared.tree.Statement.TheVariants.{Empty, Define, Constrain, Aim}
+use Rattle.cpo_text.specs.declared.tree.Statement.TheVariants.{Empty, Define, Constrain, Forbid, Aim}
 use Rattle.cpo_elab.specs.Named.{itv_of, itvs_of, mat_of, seq_of, cum_of, stf_of, signed_parts}
 use Rattle.cpo_elab.specs.Literals.{size_of, int_of, int_or_zero, range_of}
 
@@ -123,11 +123,13 @@ parts_in m c = flat_map (parts_signed m) (signed_parts c)
 abbrev pub cumul_named : Data → Option (List ℕ) → Cumul → CumulDef
 cumul_named m n c = record { name = n; parts = parts_in m c }
 
+-- a step function is none of the things of a model
 abbrev pub defined : Data → List ℕ → Definition → Data
 defined m n (IntervalVar args) = with_interval (interval_of n args) m
 defined m n (SequenceVar ns types) = with_sequence (sequence_named m (Some n) ns types) m
 defined m n (TransitionMatrix rows) = with_matrix (matrix_named n rows) m
 defined m n (StateFunction x) = with_state (state_named m n x) m
+defined m n (StepFunction ps) = m
 defined m n (Cumulative c) = with_cumul (cumul_named m (Some n) c) m
 
 -- Expressions: brackets are gone.
@@ -276,9 +278,10 @@ sense_of Maximize = aimed.Maximize
 abbrev pub objective_of : Data → Sense → Logic → Objective
 objective_of m s e = record { sense = sense_of s; expr = expr_of m e }
 
--- the model with a statement
+-- The model with a statement. What a calendar's sentence adds depends on a step function, which no model has.
 abbrev pub after : Data → Statement → Data
 after m Empty = m
 after m (Define n d) = defined m n d
 after m (Constrain c) = with_constraint (constraint_of m c) (with_written m c)
+after m (Forbid w a f) = m
 after m (Aim s e) = with_objective (objective_of m s e) m

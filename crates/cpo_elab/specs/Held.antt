@@ -10,7 +10,7 @@ use Rattle.cpo_text.specs.declared.cumul.Cpart.{Cpart}
 use Rattle.cpo_text.specs.declared.cumul.Cpart.TheVariants as cpart
 use Rattle.cpo_text.specs.declared.cumul.Cumul.{Cumul}
 use Rattle.cpo_text.specs.declared.tree.Definition.{Definition}
-use Rattle.cpo_text.specs.declared.tree.Definition.TheVariants.{IntervalVar, SequenceVar, TransitionMatrix, Cumulative}
+use Rattle.cpo_text.specs.declared.tree.Definition.TheVariants.{IntervalVar, SequenceVar, TransitionMatrix, StepFunction, Cumulative}
 use Rattle.cpo_text.specs.declared.tree.Over.{Over}
 use Rattle.cpo_text.specs.declared.tree.Over.TheVariants as over
 use Rattle.cpo_text.specs.declared.tree.Moments.{Moments}
@@ -50,6 +50,7 @@ some_moments test c = list_any (λ s. passes test (cpart_moments s.part)) (signe
 -- whether some range or pair of moments passes a test
 abbrev pub some_bound : (ℤ × ℤ → Bool) → Statement → Bool
 some_bound test (Define n (IntervalVar args)) = some_range test args
+some_bound test (Define n (StepFunction ps)) = list_any (λ p. test (int_of p.moment, int_of p.moment)) ps
 some_bound test (Define n (Cumulative c)) = some_moments test c
 some_bound test (Constrain (Bounded f b c)) = some_moments test f
 some_bound test (Constrain (AlwaysIn f w lo hi)) = passes test (window_moments w) || some_moments test f
@@ -60,7 +61,7 @@ abbrev pub levels_in : Statement → Option (ℤ × ℤ)
 levels_in (Constrain (AlwaysIn f w lo hi)) = Some (int_of lo, int_of hi)
 levels_in _ = None
 
--- Sizes, and heights, types, distances and states.
+-- Sizes, and heights, types, distances, states and values.
 
 abbrev pub least_size : Ivarg → Option ℤ
 least_size (Size r) = Some (range_of r).0
@@ -87,10 +88,11 @@ some_int test is = list_any (λ i. test (int_of i)) is
 abbrev pub some_in_rows : (ℤ → Bool) → List (List Int) → Bool
 some_in_rows test rows = list_any (some_int test) rows
 
--- whether some height, type, distance or state passes a test
+-- whether some height, type, distance, state or value of a step function passes a test
 abbrev pub some_amount : (ℤ → Bool) → Statement → Bool
 some_amount test (Define n (SequenceVar ns (Some types))) = some_int test types
 some_amount test (Define n (TransitionMatrix rows)) = some_in_rows test rows
+some_amount test (Define n (StepFunction ps)) = list_any (λ p. test (int_of p.value)) ps
 some_amount test (Define n (Cumulative c)) = some_height test c
 some_amount test (Constrain (Bounded f b c)) = some_height test f
 some_amount test (Constrain (AlwaysIn f w lo hi)) = some_height test f

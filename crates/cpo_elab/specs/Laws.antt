@@ -1,14 +1,16 @@
 -- Laws of what a text deserves.
 use Rattle.std.specs.Prelude.{◌≡◌, ℕ, ◌≤◌, List, length, take, IsTrue}
-use Rattle.sched_model.specs.Data.{empty_model}
+use Rattle.sched_model.specs.Data.{Data}
 use Rattle.cpo_text.specs.Tokens.{Token, HasTokens}
 use Rattle.cpo_text.specs.Runs.{words_of}
 use Rattle.cpo_text.specs.Reads.{IsRead, text_limit, told_limit}
 use Rattle.cpo_text.specs.declared.text.Reading.{Reading}
 use Rattle.cpo_text.specs.declared.text.Tree.{Tree}
 use Rattle.cpo_elab.specs.Shaped.{are_shaped}
+use Rattle.cpo_elab.specs.Stages.{empty_stage}
 use Rattle.cpo_elab.specs.Answers.{Answer, judged}
 use Rattle.cpo_elab.specs.Answers.Answer.{Refused, Accepted}
+use Rattle.cpo_elab.specs.Asked.{MeansText}
 use Rattle.cpo_elab.specs.Deserves.{Deserves}
 
 -- two answers that a text deserves are one
@@ -21,7 +23,7 @@ SomeAnswer = (text : List ℕ) → (a : Answer) × Deserves text a
 
 -- the statements behind the last that is told say nothing: at the latest that one deserves a number
 abbrev pub OnlyToldCount : Type 0
-OnlyToldCount = (xs : List Reading) → judged empty_model 1 (take told_limit xs) ≡ judged empty_model 1 xs
+OnlyToldCount = (xs : List Reading) → judged empty_stage 1 (take told_limit xs) ≡ judged empty_stage 1 xs
 
 abbrev pub SameButOffset : Answer → Answer → Type 0
 SameButOffset (Refused r) (Refused q) = (r.number ≡ q.number) × (r.statement ≡ q.statement)
@@ -38,3 +40,7 @@ OnlyWordsCount = (text other : List ℕ) (ts us : List Token) (a b : Answer)
 -- the trees of a text are as the grammar has them
 abbrev pub TextsAreShaped : Type 0
 TextsAreShaped = (text : List ℕ) (tree : Tree) → IsRead text tree → IsTrue (are_shaped tree.statements)
+
+-- what the model that a text deserves asks of an assignment is what the text does
+abbrev pub ModelsSayTheirTexts : Type 0
+ModelsSayTheirTexts = (text : List ℕ) (tree : Tree) (m : Data) → IsRead text tree → Deserves text (Accepted m) → MeansText tree.statements m

@@ -2,10 +2,12 @@ pub mod Named
 pub mod Literals
 pub mod Held
 pub mod Elaborated
+pub mod Stages
 pub mod Factors
 pub mod Judged
 pub mod NamedFirst
 pub mod Answers
+pub mod Asked
 pub mod Deserves
 pub mod lemmas
 pub mod code

@@ -1,4 +1,4 @@
--- Names: what a model defines, and what a statement defines and uses. The model so far is the whole environment.
+-- Names: what a model defines, and what a statement defines and uses. But for step functions the model so far is the whole environment.
 use Rattle.std.specs.Prelude.{ℕ, Bool, false, ◌||◌, List, [], ◌∷◌, map, Option, Some, None, is_some, unwrap_or, position}
 use Rattle.std.specs.Str.{bytes_eq}
 use Rattle.std.specs.List.{list_any}
@@ -18,7 +18,7 @@ use Rattle.cpo_text.specs.declared.cumul.Cpart.TheVariants as cpart
 use Rattle.cpo_text.specs.declared.cumul.Signed.{Signed}
 use Rattle.cpo_text.specs.declared.cumul.Cumul.{Cumul}
 use Rattle.cpo_text.specs.declared.tree.Definition.{Definition}
-use Rattle.cpo_text.specs.declared.tree.Definition.TheVariants.{IntervalVar, SequenceVar, TransitionMatrix, StateFunction, Cumulative}
+use Rattle.cpo_text.specs.declared.tree.Definition.TheVariants.{IntervalVar, SequenceVar, TransitionMatrix, StateFunction, StepFunction, Cumulative}
 use Rattle.cpo_text.specs.declared.tree.Over.{Over}
 use Rattle.cpo_text.specs.declared.tree.Over.TheVariants as over
 use Rattle.cpo_text.specs.declared.tree.Moments.{Moments}
@@ -26,7 +26,7 @@ use Rattle.cpo_text.specs.declared.tree.Moments.TheVariants as moments
 use Rattle.cpo_text.specs.declared.tree.Constrained.{Constrained}
 use Rattle.cpo_text.specs.declared.tree.Constrained.TheVariants.{Between, Parts, NoOverlap, Extreme, Ordered, Bounded, AlwaysIn, AlwaysEqual, AlwaysNoState, Holds}
 use Rattle.cpo_text.specs.declared.tree.Statement.{Statement}
-use Rattle.cpo_text.specs.declared.tree.Statement.TheVariants.{Empty, Define, Constrain, Aim}
+use Rattle.cpo_text.specs.declared.tree.Statement.TheVariants.{Empty, Define, Constrain, Forbid, Aim}
 use Rattle.cpo_elab.specs.declared.names.Sort.{Sort}
 use Rattle.cpo_elab.specs.declared.names.Sort.TheVariants.{Interval, Matrix, Sequence, Cumulated, State}
 
@@ -70,7 +70,7 @@ cum_of m n = record { 0 = id_of m Cumulated n }
 abbrev pub stf_of : Data → List ℕ → Stf
 stf_of m n = record { 0 = id_of m State n }
 
--- Whether some name that is used passes a test of the sort that its place asks for, and of the name.
+-- Whether some name that is used, but for those of step functions, passes a test of the sort that its place asks for, and of the name.
 
 abbrev pub NameTest : Type 0
 NameTest = Sort → List ℕ → Bool
@@ -119,6 +119,7 @@ some_in_definition test (IntervalVar args) = false
 some_in_definition test (SequenceVar ns types) = list_any (test Interval) ns
 some_in_definition test (TransitionMatrix rows) = false
 some_in_definition test (StateFunction x) = passes (test Matrix) x
+some_in_definition test (StepFunction ps) = false
 some_in_definition test (Cumulative c) = some_in_cumul test c
 
 abbrev pub some_in_constraint : NameTest → Constrained → Bool
@@ -137,6 +138,7 @@ abbrev pub some_name : NameTest → Statement → Bool
 some_name test Empty = false
 some_name test (Define n d) = some_in_definition test d
 some_name test (Constrain c) = some_in_constraint test c
+some_name test (Forbid w a f) = test Interval a
 some_name test (Aim s e) = some_in_logic test e
 
 -- the name that a statement defines

@@ -1,3 +1,4 @@
+pub mod Calendars
 pub mod Counted
 pub mod Drafts
 pub mod Items

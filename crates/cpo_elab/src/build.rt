@@ -1,4 +1,4 @@
-ghost use Rattle.std.specs.Prelude.{◌≡◌, ◌≤◌, ℕ, false, true, length, Some, None, IfOk, option_map};
+ghost use Rattle.std.specs.Prelude.{◌≡◌, ◌≤◌, false, true, length, Some, None, IfOk, option_map};
 ghost use Rattle.sched_model.specs.Words.{passes};
 ghost use Rattle.sched_model.specs.Data.{with_constraint};
 ghost use Rattle.sched_model.specs.Valid.{IsValid};
@@ -7,7 +7,9 @@ ghost use Rattle.cpo_elab.specs.Named.{is_defined};
 ghost use Rattle.cpo_elab.specs.Held.{some_amount, some_int, rows_in, logic_held, logic_in};
 ghost use Rattle.cpo_elab.specs.Elaborated.{types_in, sequence_named, matrix_named, state_named, cumul_named, defined, constraint_of, named_itself, with_unnamed, with_listed, with_written, expr_of, after};
 ghost use Rattle.cpo_elab.specs.code.Items.{with_item, item_name, with_any, IsUnnamed};
-ghost use Rattle.cpo_elab.specs.Judged.{is_large, is_negative, aims_again, number_in};
+ghost use Rattle.cpo_elab.specs.Judged.{is_large, is_negative, aims_again};
+ghost use Rattle.cpo_elab.specs.code.Calendars.{is_of_calendars};
+ghost use Rattle.cpo_elab.specs.code.Judging.{IsClear};
 ghost use Rattle.cpo_elab.specs.Shaped.{is_shaped};
 
 use crate::constraints::{constraint_of, is_unnamed, sense_of};
@@ -99,6 +101,7 @@ fn cumul_named(alloc: Global, draft: &Draft, name: &[u8], c: &Cumul) -> Result<C
 
 /// The thing that a definition names.
 fn item_of(alloc: Global, draft: &Draft, name: &[u8], d: &Definition) -> Result<Item, NoMemory>
+    requires own { is_of_calendars (Define name.now d.now) ≡ false }
     requires large { some_amount is_large (Define name.now d.now) ≡ false }
     requires negative { some_amount is_negative (Define name.now d.now) ≡ false }
     requires rows { length (rows_in (Define name.now d.now)) ≤ 200 }
@@ -122,6 +125,7 @@ fn item_of(alloc: Global, draft: &Draft, name: &[u8], d: &Definition) -> Result<
             let def = state_named(alloc, draft, name, matrix)?;
             Ok(Item::State(def))
         }
+        Definition::StepFunction(_) => unreachable!(),
         Definition::Cumulative(c) => {
             let def = cumul_named(alloc, draft, name, c)?;
             Ok(Item::Cumulated(def))
@@ -134,6 +138,7 @@ fn item_of(alloc: Global, draft: &Draft, name: &[u8], d: &Definition) -> Result<
 /// What can fail stands in functions that borrow the draft or take it whole, since each other way
 /// out of one that owns it lets it go.
 fn define(alloc: Global, draft: Draft, name: &[u8], d: &Definition) -> Result<Draft, NoMemory>
+    requires own { is_of_calendars (Define name.now d.now) ≡ false }
     requires valid { IsValid (defined draft name.now d.now) }
     requires fresh { is_defined draft name.now ≡ false }
     requires large { some_amount is_large (Define name.now d.now) ≡ false }
@@ -218,15 +223,17 @@ fn constrain(alloc: Global, draft: Draft, c: &Constrained) -> Result<Draft, NoMe
 /// The draft with a statement that holds no expression.
 fn with_plain(alloc: Global, draft: Draft, s: &Statement) -> Result<Draft, NoMemory>
     requires plain { logic_in s.now ≡ None }
+    requires own { is_of_calendars s.now ≡ false }
     requires valid { IsValid draft }
     requires shaped { is_shaped s.now ≡ true }
-    requires clear { (k : ℕ) × (number_in draft k s.now ≡ None) }
+    requires clear { IsClear draft s.now }
     ensures { IfOk result (λ e. e ≡ after draft s.now) }
 {
     match s {
         Statement::Empty => Ok(draft),
         Statement::Define(name, d) => define(alloc, draft, name.as_slice(), d),
         Statement::Constrain(c) => constrain(alloc, draft, c),
+        Statement::Forbid(_, _, _) => unreachable!(),
         Statement::Aim(_, _) => unreachable!(),
     }
 }
@@ -249,7 +256,8 @@ fn with_expr(draft: Draft, s: &Statement, expr: Expr) -> Result<Draft, NoMemory>
     }
 }
 
-/// The draft with a statement that deserves no number behind some others. The expression that the
+/// The draft with a statement that is of no calendar and deserves no number behind some others,
+/// whatever step functions stand beside the model. The expression that the
 /// statement holds, if it holds one, is `written`.
 pub fn with_statement(
     alloc: Global,
@@ -257,10 +265,11 @@ pub fn with_statement(
     s: &Statement,
     written: Option<Expr>,
 ) -> Result<Draft, NoMemory>
+    requires own { is_of_calendars s.now ≡ false }
     requires written { written ≡ option_map (expr_of draft) (logic_in s.now) }
     requires valid { IsValid draft }
     requires shaped { is_shaped s.now ≡ true }
-    requires clear { (k : ℕ) × (number_in draft k s.now ≡ None) }
+    requires clear { IsClear draft s.now }
     ensures { IfOk result (λ e. e ≡ after draft s.now) }
 {
     match written {

@@ -4,10 +4,12 @@ ghost use Rattle.cpo_elab.specs.Literals.{size_of, int_of};
 ghost use Rattle.cpo_elab.specs.Held.{some_int};
 ghost use Rattle.cpo_elab.specs.Judged.{is_large, is_negative};
 ghost use Rattle.cpo_elab.specs.Elaborated.{types_in};
+ghost use Rattle.cpo_elab.specs.Stages.{pairs_of};
 
 use crate::draft::Draft;
 use crate::literals::{int_of, size_of};
-use cpo_text::Int;
+use calendar::Pair;
+use cpo_text::{Int, StepPair};
 use sched_base::{Itv, List, NoMemory};
 use std::alloc::Global;
 
@@ -59,6 +61,20 @@ pub fn cells_in(alloc: Global, rows: &[List<Int>]) -> Result<List<i64>, NoMemory
     let mut found = Vec::new(alloc);
     for row in rows {
         push_ints(&mut found, row.as_slice())?;
+    }
+    Ok(List::from_vec(found))
+}
+
+/// The pairs of a step function.
+pub fn pairs_of(alloc: Global, pairs: &[StepPair]) -> Result<List<Pair>, NoMemory>
+    ensures { IfOk result (λ ps. ps ≡ pairs_of pairs.now) }
+{
+    let mut found = Vec::new(alloc);
+    for pair in pairs {
+        found.push(Pair {
+            t: int_of(pair.moment),
+            v: int_of(pair.value),
+        })?;
     }
     Ok(List::from_vec(found))
 }

@@ -1,15 +1,21 @@
-ghost use Rattle.std.specs.Prelude.{◌≡◌, ◌+◌, ◌≤◌, length, [], ◌∷◌, ◌++◌, false, Some, None, IfOk, OnOk};
+ghost use Rattle.std.specs.Prelude.{◌≡◌, ◌+◌, ◌≤◌, length, [], ◌∷◌, ◌++◌, false, true, Some, None, IfOk, OnOk};
 ghost use Rattle.std.specs.Str.{bytes_eq};
 ghost use Rattle.std.specs.Map.{lookup};
 ghost use Rattle.sched_model.specs.Data.{empty_model, with_constraint, with_objective};
-ghost use Rattle.sched_model.specs.Valid.{IsValid, cell_count, node_total};
+ghost use Rattle.sched_model.specs.Valid.{IsValid, cell_count, node_total, is_itv, is_within_limits};
 ghost use Rattle.cpo_elab.specs.Named.{number_of, id_of, is_defined, itv_of, mat_of, seq_of, cum_of, stf_of};
 ghost use Rattle.cpo_elab.specs.Judged.{node_limit};
+ghost use Rattle.calendar.specs.Steps.{are_steps};
+ghost use Rattle.calendar.specs.Rules.{rules_of, with_constraints};
+ghost use Rattle.cpo_elab.specs.Stages.{demand_of};
 ghost use Rattle.cpo_elab.specs.code.Items.{with_item, item_name, item_sort, next_id, with_any, IsUnnamed};
 
 use crate::counts::{constraint_nodes, nodes};
 use crate::item::{Item, any_cells, any_nodes};
 use crate::names::{Meaning, Names, Sort, same_sort};
+use crate::steps::Calendar;
+use calendar::{Demand, StepFn, forbid_extent, forbid_start, made_nodes};
+use cpo_text::Forbidden;
 use sched_base::{Cum, Itv, Mat, NoMemory, Seq, Stf};
 use sched_model::{Constraint, Model, Objective};
 use std::alloc::Global;
@@ -88,6 +94,33 @@ fn add_constraint(model: &mut Model, written: Option<Item>, c: Constraint) -> Re
     add_any(model, written)?;
     let _ = model.add_constraint(c)?;
     Ok(())
+}
+
+pub fn demand_of(word: Forbidden) -> Demand
+    ensures { result ≡ demand_of word }
+{
+    match word {
+        Forbidden::Start => Demand::Start,
+        Forbidden::Extent => Demand::Extent,
+    }
+}
+
+/// Adds the constraints of a calendar's sentence. After an error the model has the first of them.
+fn add_calendar(
+    alloc: Global,
+    model: &mut Model,
+    word: Forbidden,
+    a: Itv,
+    f: &StepFn,
+) -> Result<(), NoMemory>
+    requires steps { are_steps f.now.pairs ≡ true }
+    requires valid { IsValid (with_constraints (rules_of (demand_of word) a f.now.pairs) model.old) }
+    ensures { OnOk result (model.new ≡ with_constraints (rules_of (demand_of word) a f.now.pairs) model.old) }
+{
+    match word {
+        Forbidden::Start => forbid_start(alloc, model, a, f),
+        Forbidden::Extent => forbid_extent(alloc, model, a, f),
+    }
 }
 
 impl Draft {
@@ -256,6 +289,36 @@ impl Draft {
         let cells = cells + more;
         let left = room - nodes;
         let room = left - count;
+        Ok(Draft {
+            model,
+            names,
+            cells,
+            room,
+        })
+    }
+
+    /// With the constraints of a calendar's sentence on an interval, for which there is room.
+    pub fn with_calendar(
+        self,
+        alloc: Global,
+        word: Forbidden,
+        a: Itv,
+        calendar: &Calendar,
+    ) -> Result<Draft, NoMemory>
+        requires there { is_itv self a ≡ true }
+        requires limits { is_within_limits (with_constraints (rules_of (demand_of word) a calendar.now) self) ≡ true }
+        ensures { IfOk result (λ d. d ≡ with_constraints (rules_of (demand_of word) a calendar.now) self) }
+    {
+        let count = made_nodes(demand_of(word), calendar.ranges()) as usize;
+        let function = calendar.function();
+        let Draft {
+            mut model,
+            names,
+            cells,
+            room,
+        } = self;
+        add_calendar(alloc, &mut model, word, a, function)?;
+        let room = room - count;
         Ok(Draft {
             model,
             names,

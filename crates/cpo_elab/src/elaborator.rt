@@ -1,25 +1,24 @@
 ghost use Rattle.std.specs.Prelude.{◌≡◌, ◌+◌, true, None, option_map, IfOk};
-ghost use Rattle.sched_model.specs.Valid.{IsValid};
 ghost use Rattle.cpo_text.specs.declared.text.ReadFault.TheVariants as fault;
 ghost use Rattle.cpo_elab.specs.Held.{logic_in};
-ghost use Rattle.cpo_elab.specs.Elaborated.{expr_of, after};
+ghost use Rattle.cpo_elab.specs.Elaborated.{expr_of};
+ghost use Rattle.cpo_elab.specs.Stages.{reached};
 ghost use Rattle.cpo_elab.specs.Judged.{number_in};
 ghost use Rattle.cpo_elab.specs.Shaped.{is_shaped, is_shaped_form};
 ghost use Rattle.cpo_elab.specs.code.Judging.{Judges};
 ghost use Rattle.cpo_elab.specs.code.Steps.{first_state, TakesStatement, Takes};
 
-use crate::build::with_statement;
-use crate::draft::Draft;
 use crate::judge::{Judgement, judgement_in};
+use crate::stage::Stage;
 use cpo_text::{Form, ReadFault, Reading, Refusal, Statement};
 use sched_base::NoMemory;
 use sched_model::{Expr, Model};
 use std::alloc::Global;
 
-/// The draft of the statements read so far, and their number.
+/// What stands behind the statements read so far, and their number.
 #[derive(Drop)]
 pub struct Elaborator {
-    draft: Draft,
+    stage: Stage,
     statements: u32,
 }
 
@@ -32,9 +31,9 @@ impl std::marker::Model for Elaborator {
 
     ghost coded = { Prim.hlevel (codes, e.the_row.coded) };
 
-    ghost view = { λ e. record { model = e.draft; statements = e.statements } };
+    ghost view = { λ e. record { stage = e.stage; statements = e.statements } };
 
-    ghost invariant = { λ e. IsInStep (record { model = e.draft; statements = e.statements }) };
+    ghost invariant = { λ e. IsInStep (record { stage = e.stage; statements = e.statements }) };
 }
 
 impl Elaborator {
@@ -43,19 +42,19 @@ impl Elaborator {
         ensures { result ≡ first_state }
     {
         Elaborator {
-            draft: Draft::new(alloc),
+            stage: Stage::new(alloc),
             statements: 0,
         }
     }
 
     pub fn into_model(self) -> Model
-        ensures { result ≡ self.model }
+        ensures { result ≡ self.stage.model }
     {
         let Elaborator {
-            draft,
+            stage,
             statements: _,
         } = self;
-        draft.into_model()
+        stage.into_model()
     }
 
     /// The number of the next statement, counted from 1.
@@ -67,9 +66,9 @@ impl Elaborator {
 
     /// What the next statement deserves.
     fn judgement(&self, alloc: Global, s: &Statement) -> Result<Judgement, NoMemory>
-        ensures { IfOk result (λ j. Judges self.now.model (self.now.statements + 1) s.now j) }
+        ensures { IfOk result (λ j. Judges self.now.stage (self.now.statements + 1) s.now j) }
     {
-        judgement_in(alloc, &self.draft, self.statements, s)
+        judgement_in(alloc, &self.stage, self.statements, s)
     }
 
     /// The elaborator with a statement that deserves no number, and with the expression that the
@@ -80,16 +79,14 @@ impl Elaborator {
         s: &Statement,
         written: Option<Expr>,
     ) -> Result<Elaborator, NoMemory>
-        requires written { written ≡ option_map (expr_of self.model) (logic_in s.now) }
+        requires written { written ≡ option_map (expr_of self.stage.model) (logic_in s.now) }
         requires shaped { is_shaped s.now ≡ true }
-        requires clear { number_in self.model (self.statements + 1) s.now ≡ None }
-        ensures { IfOk result (λ e. e ≡ record { model = after self.model s.now; statements = self.statements + 1 }) }
+        requires clear { number_in self.stage (self.statements + 1) s.now ≡ None }
+        ensures { IfOk result (λ e. e ≡ record { stage = reached self.stage s.now; statements = self.statements + 1 }) }
     {
-        let Elaborator { draft, statements } = self;
-        // Called for its clause alone.
-        let _ = draft.model();
+        let Elaborator { stage, statements } = self;
         Ok(Elaborator {
-            draft: with_statement(alloc, draft, s, written)?,
+            stage: stage.with(alloc, s, written)?,
             statements: statements + 1,
         })
     }

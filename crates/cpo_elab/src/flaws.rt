@@ -1,14 +1,19 @@
-ghost use Rattle.std.specs.Prelude.{◌≡◌};
+ghost use Rattle.std.specs.Prelude.{◌≡◌, not};
 ghost use Rattle.std.specs.List.{list_any};
 ghost use Rattle.sched_model.specs.Words.{passes};
 ghost use Rattle.sched_model.specs.Bounds.{is_moment};
 ghost use Rattle.cpo_elab.specs.Literals.{int_of};
 ghost use Rattle.cpo_elab.specs.Held.{ivarg_range, cpart_moments, window_moments, some_range, some_moments, some_bound, levels_in, least_size, some_size, cpart_height, some_height, some_int, some_in_rows, some_amount};
 ghost use Rattle.cpo_elab.specs.Judged.{is_outside, is_large, has_reversed, has_negative};
+ghost use Rattle.cpo_elab.specs.Stages.{steps_in, pairs_of};
+ghost use Rattle.calendar.specs.Steps.{rises as are_rising};
 ghost use Rattle.cpo_elab.specs.code.Drafts.{is_flawed_pair, is_flawed};
 
 use crate::literals::{int_of, range_of};
-use cpo_text::{Constrained, Cpart, Cumul, Definition, Int, Ivarg, Moments, Signed, Statement};
+use crate::rising::rises;
+use cpo_text::{
+    Constrained, Cpart, Cumul, Definition, Int, Ivarg, Moments, Signed, Statement, StepPair,
+};
 use sched_base::List;
 use sched_model::is_moment;
 
@@ -20,7 +25,7 @@ pub enum PairFlaw {
     Outside,
 }
 
-/// What may be wrong with a size, a height, a type, a distance or a state.
+/// What may be wrong with a size, a height, a type, a distance, a state or a value of a step function.
 #[derive(Clone, Copy, Debug, PartialEq, Eq)]
 pub enum AmountFlaw {
     Negative,
@@ -150,12 +155,20 @@ fn some_moments(flaw: PairFlaw, c: &Cumul) -> bool
     pair_if_any(flaw, cpart_moments(&c.first.part)) || some_later_moments(flaw, c.more.as_slice())
 }
 
+/// Whether a moment of a step function has the flaw, as a pair with itself.
+fn some_step(flaw: PairFlaw, pairs: &[StepPair]) -> bool
+    ensures { result ≡ list_any (λ p. is_flawed_pair flaw (int_of p.moment, int_of p.moment)) pairs.now }
+{
+    pairs.iter().any(|p| is_flawed_pair(flaw, (int_of(p.moment), int_of(p.moment))))
+}
+
 /// Whether a range or a pair of moments has the flaw.
 fn some_bound(flaw: PairFlaw, s: &Statement) -> bool
     ensures { result ≡ some_bound (is_flawed_pair flaw) s.now }
 {
     match s {
         Statement::Define(_, Definition::IntervalVar(args)) => some_range(flaw, args.as_slice()),
+        Statement::Define(_, Definition::StepFunction(pairs)) => some_step(flaw, pairs.as_slice()),
         Statement::Define(_, Definition::Cumulative(c)) => some_moments(flaw, c),
         Statement::Constrain(Constrained::Bounded(f, _, _)) => some_moments(flaw, f),
         Statement::Constrain(Constrained::AlwaysIn(f, moments, _, _)) => {
@@ -172,11 +185,24 @@ pub fn is_outside(s: &Statement) -> bool
     some_bound(PairFlaw::Outside, s)
 }
 
-/// Whether a range, a pair of moments or a pair of levels has its ends turned round.
+/// Whether a moment of a step function isn't later than those before it.
+fn has_fall(s: &Statement) -> bool
+    ensures { result ≡ not (are_rising (pairs_of (steps_in s.now))) }
+{
+    match s {
+        Statement::Define(_, Definition::StepFunction(pairs)) => !rises(pairs.as_slice()),
+        _ => false,
+    }
+}
+
+/// Whether a range, a pair of moments or a pair of levels has its ends turned round, or the moments
+/// of a step function don't rise.
 pub fn has_reversed(s: &Statement) -> bool
     ensures { result ≡ has_reversed s.now }
 {
-    some_bound(PairFlaw::Reversed, s) || pair_if_any(PairFlaw::Reversed, levels_in(s))
+    has_fall(s)
+        || some_bound(PairFlaw::Reversed, s)
+        || pair_if_any(PairFlaw::Reversed, levels_in(s))
 }
 
 fn some_least_size(flaw: AmountFlaw, args: &[Ivarg]) -> bool
@@ -216,6 +242,12 @@ fn some_int(flaw: AmountFlaw, ints: &[Int]) -> bool
     ints.iter().any(|i| is_flawed(flaw, int_of(*i)))
 }
 
+fn some_value(flaw: AmountFlaw, pairs: &[StepPair]) -> bool
+    ensures { result ≡ list_any (λ p. is_flawed flaw (int_of p.value)) pairs.now }
+{
+    pairs.iter().any(|p| is_flawed(flaw, int_of(p.value)))
+}
+
 fn some_in_rows(flaw: AmountFlaw, rows: &[List<Int>]) -> bool
     ensures { result ≡ some_in_rows (is_flawed flaw) rows.now }
 {
@@ -233,6 +265,7 @@ fn some_amount(flaw: AmountFlaw, s: &Statement) -> bool
         Statement::Define(_, Definition::TransitionMatrix(rows)) => {
             some_in_rows(flaw, rows.as_slice())
         }
+        Statement::Define(_, Definition::StepFunction(pairs)) => some_value(flaw, pairs.as_slice()),
         Statement::Define(_, Definition::Cumulative(c)) => some_height(flaw, c),
         Statement::Constrain(Constrained::Bounded(f, _, _)) => some_height(flaw, f),
         Statement::Constrain(Constrained::AlwaysIn(f, _, _, _)) => some_height(flaw, f),

@@ -13,6 +13,7 @@ use crate::factors::{Factor, factor_of};
 use crate::fits::{has_twice, misfits};
 use crate::flaws::{has_negative, has_reversed};
 use crate::limits::passes_limit;
+use crate::stage::Stage;
 use crate::uses::{defines_again, uses_unknown, uses_wrong};
 use cpo_text::{Cause, Constrained, Logic, Statement};
 use sched_base::NoMemory;
@@ -100,19 +101,20 @@ fn has_crowded(s: &Statement) -> bool
 /// of a model. The nodes of one are counted on its tree, so that none is built beyond the limit.
 fn early_number(
     alloc: Global,
-    draft: &Draft,
+    stage: &Stage,
     before: u32,
     s: &Statement,
 ) -> Result<Option<u32>, NoMemory>
-    ensures { IfOk result (λ o. o ≡ early_number draft.now (before + 1) s.now) }
+    ensures { IfOk result (λ o. o ≡ early_number stage.now (before + 1) s.now) }
 {
-    if defines_again(draft, s) {
+    let draft = stage.draft();
+    if defines_again(stage, s) {
         return Ok(Some(Cause::DefinedAgain as u32));
     }
-    if uses_unknown(draft, s) {
+    if uses_unknown(stage, s) {
         return Ok(Some(Cause::UnknownName as u32));
     }
-    if uses_wrong(draft, s) {
+    if uses_wrong(stage, s) {
         return Ok(Some(Cause::WrongName as u32));
     }
     if has_reversed(s) {
@@ -127,7 +129,7 @@ fn early_number(
     if has_twice(alloc, draft, s)? {
         return Ok(Some(Cause::TwiceInList as u32));
     }
-    if passes_limit(draft, before, s) {
+    if passes_limit(stage, before, s) {
         return Ok(Some(Cause::LimitPassed as u32));
     }
     if aims_again(draft, s) {
@@ -137,11 +139,11 @@ fn early_number(
 }
 
 /// The number that the last two tests give a statement, whose expression is `written`.
-fn late_number(draft: &Draft, s: &Statement, written: &Option<Expr>) -> Option<u32>
-    requires { written.now ≡ option_map (expr_of draft.now) (logic_in s.now) }
-    ensures { result ≡ late_number draft.now s.now }
+fn late_number(stage: &Stage, s: &Statement, written: &Option<Expr>) -> Option<u32>
+    requires { written.now ≡ option_map (expr_of stage.now.model) (logic_in s.now) }
+    ensures { result ≡ late_number stage.now s.now }
 {
-    if has_no_hull(draft, s, written) {
+    if has_no_hull(stage.draft(), s, written) {
         return Some(Cause::NoHull as u32);
     }
     if has_crowded(s) {
@@ -154,11 +156,11 @@ fn late_number(draft: &Draft, s: &Statement, written: &Option<Expr>) -> Option<u
 ///
 /// In a function of its own, since each way out of one that owns an expression lets it go.
 #[tactic(auto, using(crate::proofs::judging::Ordered::late_decides))]
-fn judgement_of(draft: &Draft, s: &Statement, written: Option<Expr>) -> Judgement
-    requires { written ≡ option_map (expr_of draft.now) (logic_in s.now) }
-    ensures { (k : ℕ) → early_number draft.now k s.now ≡ None → Judges draft.now k s.now result }
+fn judgement_of(stage: &Stage, s: &Statement, written: Option<Expr>) -> Judgement
+    requires { written ≡ option_map (expr_of stage.now.model) (logic_in s.now) }
+    ensures { (k : ℕ) → early_number stage.now k s.now ≡ None → Judges stage.now k s.now result }
 {
-    match late_number(draft, s, &written) {
+    match late_number(stage, s, &written) {
         Some(number) => Judgement::Refused(number),
         None => Judgement::Taken(written),
     }
@@ -167,17 +169,17 @@ fn judgement_of(draft: &Draft, s: &Statement, written: Option<Expr>) -> Judgemen
 /// What a statement deserves behind so many others.
 pub fn judgement_in(
     alloc: Global,
-    draft: &Draft,
+    stage: &Stage,
     before: u32,
     s: &Statement,
 ) -> Result<Judgement, NoMemory>
-    ensures { IfOk result (λ j. Judges draft.now (before + 1) s.now j) }
+    ensures { IfOk result (λ j. Judges stage.now (before + 1) s.now j) }
 {
-    match early_number(alloc, draft, before, s)? {
+    match early_number(alloc, stage, before, s)? {
         Some(number) => Ok(Judgement::Refused(number)),
         None => {
-            let written = written(alloc, draft, s)?;
-            Ok(judgement_of(draft, s, written))
+            let written = written(alloc, stage.draft(), s)?;
+            Ok(judgement_of(stage, s, written))
         }
     }
 }

@@ -1,25 +1,31 @@
-ghost use Rattle.std.specs.Prelude.{◌≡◌, ◌+◌, ◌≤◌, ◌&&◌, ℕ, length, nat_le, nat_lt};
+ghost use Rattle.std.specs.Prelude.{◌≡◌, ◌+◌, ◌≤◌, ◌&&◌, ℕ, List, length, sum_by, nat_le, nat_lt};
 ghost use Rattle.sched_model.specs.Words.{passes, passes_if_any};
 ghost use Rattle.sched_model.specs.Data.{with_interval, with_matrix, with_sequence, with_cumul, with_state};
-ghost use Rattle.sched_model.specs.Valid.{cell_count, node_total, node_count, pair_count, is_within_limits};
+ghost use Rattle.sched_model.specs.Valid.{cell_count, node_total, node_count, pair_count, nodes_of, is_within_limits};
 ghost use Rattle.sched_model.specs.declared.types.IntervalDef.{IntervalDef};
 ghost use Rattle.sched_model.specs.declared.types.MatrixDef.{MatrixDef};
 ghost use Rattle.sched_model.specs.declared.types.SequenceDef.{SequenceDef};
 ghost use Rattle.sched_model.specs.declared.types.CumulDef.{CumulDef};
 ghost use Rattle.sched_model.specs.declared.types.StateDef.{StateDef};
-ghost use Rattle.cpo_text.specs.declared.tree.Statement.TheVariants.{Constrain};
-ghost use Rattle.cpo_elab.specs.Named.{name_defined};
+ghost use Rattle.cpo_text.specs.declared.tree.Statement.TheVariants.{Define, Constrain, Forbid};
+ghost use Rattle.cpo_elab.specs.Named.{itv_of, name_defined};
 ghost use Rattle.cpo_elab.specs.Held.{listed_in, logic_held, members_defined, members_written, rows_in};
-ghost use Rattle.cpo_elab.specs.Elaborated.{expr_of, named_itself, with_unnamed, with_listed, with_written, defined, after};
+ghost use Rattle.cpo_elab.specs.Elaborated.{expr_of, named_itself, with_unnamed, with_listed, with_written, after};
+ghost use Rattle.sched_model.specs.declared.types.Constraint.{Constraint};
+ghost use Rattle.calendar.specs.Rules.{rules_of, with_constraints};
+ghost use Rattle.cpo_elab.specs.Stages.{steps_in, demand_of};
 ghost use Rattle.cpo_elab.specs.Judged.{is_wide, leaves_room, passes_limit};
 ghost use Rattle.cpo_elab.specs.code.Drafts.{capped};
 
 use crate::constraints::is_unnamed;
 use crate::counts::{pair_count, parts_count};
-use crate::draft::Draft;
+use crate::draft::{Draft, demand_of};
 use crate::flaws::{has_large, is_outside};
+use crate::stage::Stage;
+use crate::steps::Calendar;
 use crate::tree_nodes::tree_nodes;
-use cpo_text::{Constrained, Cumul, Definition, Logic, Over, Statement};
+use calendar::made_nodes;
+use cpo_text::{Constrained, Cumul, Definition, Forbidden, Logic, Over, Statement};
 
 /// The most statements that a text may have, empty ones counted.
 pub const STATEMENT_LIMIT: u32 = 100_000;
@@ -45,6 +51,12 @@ const STATE_LIMIT: usize = 200;
 
 const CONSTRAINT_LIMIT: usize = 20_000;
 
+/// The most step functions.
+const FUNCTION_LIMIT: usize = 200;
+
+/// The most pairs of a step function.
+const PAIR_LIMIT: usize = 1_000;
+
 /// The most cells: five for each interval, and one for each two members of a sequence.
 const CELL_LIMIT: usize = 1_000_000;
 
@@ -66,11 +78,23 @@ fn has_many_rows(s: &Statement) -> bool
     }
 }
 
-/// Whether a name is too long, a moment is outside the bounds, an amount is too large, or a matrix
-/// has too many rows.
+fn has_many_pairs(s: &Statement) -> bool
+    ensures { result ≡ nat_lt 1000 (length (steps_in s.now)) }
+{
+    match s {
+        Statement::Define(_, Definition::StepFunction(pairs)) => PAIR_LIMIT < pairs.len(),
+        _ => false,
+    }
+}
+
+/// Whether a name is too long, a moment is outside the bounds, an amount is too large, a matrix has
+/// too many rows, or a step function too many pairs.
 fn is_wide(s: &Statement) -> bool
     ensures { result ≡ is_wide s.now }
 {
+    if has_many_pairs(s) {
+        return true;
+    }
     if is_long(s) {
         return true;
     }
@@ -178,10 +202,18 @@ fn cumul_fits(draft: &Draft, parts: u64) -> bool
     both(has_cumul_room(draft), nodes_fit(draft, parts))
 }
 
-/// Whether there is room for a definition.
-fn definition_fits(draft: &Draft, name: &[u8], d: &Definition) -> bool
-    ensures { result ≡ (nat_le (length (members_defined d.now)) 500 && is_within_limits (defined draft.now name.now d.now)) }
+fn function_fits(stage: &Stage) -> bool
+    ensures { result ≡ nat_lt (length stage.now.steps) 200 }
 {
+    stage.functions() < FUNCTION_LIMIT
+}
+
+/// Whether there is room for a definition.
+fn definition_fits(stage: &Stage, name: &[u8], d: &Definition) -> bool
+    ensures { result ≡ leaves_room stage.now (Define name.now d.now) }
+{
+    let _ = name;
+    let draft = stage.draft();
     match d {
         Definition::IntervalVar(_) => interval_fits(draft),
         Definition::SequenceVar(names, _) => {
@@ -192,6 +224,7 @@ fn definition_fits(draft: &Draft, name: &[u8], d: &Definition) -> bool
         }
         Definition::TransitionMatrix(_) => matrix_fits(draft),
         Definition::StateFunction(_) => state_fits(draft),
+        Definition::StepFunction(_) => function_fits(stage),
         Definition::Cumulative(c) => cumul_fits(draft, parts_count(draft, c)),
     }
 }
@@ -270,23 +303,64 @@ fn constraint_fits(draft: &Draft, c: &Constrained) -> bool
     both(room, held_fits(draft, c))
 }
 
-/// Whether the model has room for what a statement adds.
-fn leaves_room(draft: &Draft, s: &Statement) -> bool
-    ensures { result ≡ leaves_room draft.now s.now }
+fn has_rules_room(draft: &Draft, count: usize) -> bool
+    requires { count ≤ 1001 }
+    ensures { result ≡ nat_le (length draft.now.constraints + count) 20000 }
 {
+    draft.model().constraints().len() + count <= CONSTRAINT_LIMIT
+}
+
+/// Whether there is room for so many constraints more, which have so many nodes.
+fn rules_fit(draft: &Draft, count: usize, nodes: u64) -> bool
+    requires { count ≤ 1001 }
+    ensures { (cs : List Constraint) → length cs ≡ count → sum_by nodes_of cs ≡ nodes → result ≡ is_within_limits (with_constraints cs draft.now) }
+{
+    // Called for its clause alone.
+    let _ = draft.model();
+    both(
+        has_rules_room(draft, count),
+        has_node_room(draft.room() as u64, nodes),
+    )
+}
+
+/// Whether there is room for the constraints that a calendar's sentence becomes.
+fn calendar_fits(draft: &Draft, word: Forbidden, a: &[u8], calendar: &Calendar) -> bool
+    ensures { result ≡ is_within_limits (with_constraints (rules_of (demand_of word) (itv_of draft.now a.now) calendar.now) draft.now) }
+{
+    let _ = a;
+    let ranges = calendar.ranges();
+    let nodes = made_nodes(demand_of(word), ranges);
+    rules_fit(draft, ranges.len(), nodes)
+}
+
+fn sentence_fits(stage: &Stage, word: Forbidden, a: &[u8], f: &[u8]) -> bool
+    ensures { result ≡ leaves_room stage.now (Forbid word a.now f.now) }
+{
+    match stage.function(f) {
+        None => true,
+        Some(calendar) => calendar_fits(stage.draft(), word, a, calendar),
+    }
+}
+
+/// Whether the model has room for what a statement adds.
+fn leaves_room(stage: &Stage, s: &Statement) -> bool
+    ensures { result ≡ leaves_room stage.now s.now }
+{
+    let draft = stage.draft();
     // Called for its clause alone.
     let _ = draft.model();
     match s {
         Statement::Empty => true,
-        Statement::Define(name, d) => definition_fits(draft, name.as_slice(), d),
+        Statement::Define(name, d) => definition_fits(stage, name.as_slice(), d),
         Statement::Constrain(c) => constraint_fits(draft, c),
+        Statement::Forbid(word, a, f) => sentence_fits(stage, *word, a.as_slice(), f.as_slice()),
         Statement::Aim(_, e) => expr_fits(draft, e),
     }
 }
 
 /// Whether a limit is passed by a statement, with `before` statements in front of it.
-pub fn passes_limit(draft: &Draft, before: u32, s: &Statement) -> bool
-    ensures { result ≡ passes_limit draft.now (before + 1) s.now }
+pub fn passes_limit(stage: &Stage, before: u32, s: &Statement) -> bool
+    ensures { result ≡ passes_limit stage.now (before + 1) s.now }
 {
     if STATEMENT_LIMIT <= before {
         return true;
@@ -294,5 +368,5 @@ pub fn passes_limit(draft: &Draft, before: u32, s: &Statement) -> bool
     if is_wide(s) {
         return true;
     }
-    !leaves_room(draft, s)
+    !leaves_room(stage, s)
 }

@@ -1,5 +1,5 @@
 -- The grammar: each tree has one spelling, a list of words. A run is a statement exactly where it is the spelling of a tree.
-use Rattle.std.specs.Prelude.{◌≡◌, ℕ, ◌==◌, Bool, true, not, ◌&&◌, List, [], ◌∷◌, ◌++◌, map, codes, Option, Some, None, option_to_list}
+use Rattle.std.specs.Prelude.{◌≡◌, ℕ, ◌==◌, Bool, true, not, ◌&&◌, List, [], ◌∷◌, ◌++◌, map, length, nat_le, codes, Option, Some, None, option_to_list}
 use Rattle.std.specs.List.{list_all}
 use Rattle.cpo_text.specs.Words.{Word, square, call}
 use Rattle.cpo_text.specs.Words.Word.{name, sign}
@@ -10,8 +10,9 @@ use Rattle.cpo_text.specs.declared.tree.Int.{Int}
 use Rattle.cpo_text.specs.declared.tree.Range.{Range}
 use Rattle.cpo_text.specs.declared.tree.Ivarg.{Ivarg}
 use Rattle.cpo_text.specs.declared.tree.Ivarg.TheVariants.{Optional, Start, End, Size}
+use Rattle.cpo_text.specs.declared.tree.StepPair.{StepPair}
 use Rattle.cpo_text.specs.declared.tree.Definition.{Definition}
-use Rattle.cpo_text.specs.declared.tree.Definition.TheVariants.{IntervalVar, SequenceVar, TransitionMatrix, StateFunction, Cumulative}
+use Rattle.cpo_text.specs.declared.tree.Definition.TheVariants.{IntervalVar, SequenceVar, TransitionMatrix, StateFunction, StepFunction, Cumulative}
 use Rattle.cpo_text.specs.declared.tree.Temporal.{Temporal}
 use Rattle.cpo_text.specs.declared.tree.Temporal.TheVariants.{StartBeforeStart, StartBeforeEnd, EndBeforeStart, EndBeforeEnd, StartAtStart, StartAtEnd, EndAtStart, EndAtEnd}
 use Rattle.cpo_text.specs.declared.tree.Hierarchy.{Hierarchy}
@@ -29,10 +30,12 @@ use Rattle.cpo_text.specs.declared.tree.Moments.{Moments}
 use Rattle.cpo_text.specs.declared.tree.Moments.TheVariants.{From, During}
 use Rattle.cpo_text.specs.declared.tree.Constrained.{Constrained}
 use Rattle.cpo_text.specs.declared.tree.Constrained.TheVariants as constrained
+use Rattle.cpo_text.specs.declared.tree.Forbidden.{Forbidden}
+use Rattle.cpo_text.specs.declared.tree.Forbidden.TheVariants as forbidden
 use Rattle.cpo_text.specs.declared.tree.Sense.{Sense}
 use Rattle.cpo_text.specs.declared.tree.Sense.TheVariants.{Minimize, Maximize}
 use Rattle.cpo_text.specs.declared.tree.Statement.{Statement}
-use Rattle.cpo_text.specs.declared.tree.Statement.TheVariants.{Empty, Define, Constrain, Aim}
+use Rattle.cpo_text.specs.declared.tree.Statement.TheVariants.{Empty, Define, Constrain, Forbid, Aim}
 
 abbrev pub to_words : Option Int → List Word
 to_words None = []
@@ -52,11 +55,16 @@ abbrev pub types_items : Option (List Int) → List (List Word)
 types_items None = []
 types_items (Some is) = given (codes "types") (ints_words is) ∷ []
 
+-- a moment of a step function, and the value from there on
+abbrev pub step_words : StepPair → List Word
+step_words p = square (int_words p.moment ∷ int_words p.value ∷ [])
+
 abbrev pub definition_words : Definition → List Word
 definition_words (IntervalVar args) = call (codes "intervalVar") (map ivarg_words args)
 definition_words (SequenceVar ns types) = call (codes "sequenceVar") (names_words ns ∷ types_items types)
 definition_words (TransitionMatrix rows) = call (codes "transitionMatrix") (square (map ints_words rows) ∷ [])
 definition_words (StateFunction m) = call (codes "stateFunction") (map name_words (option_to_list m))
+definition_words (StepFunction ps) = call (codes "stepFunction") (square (map step_words ps) ∷ [])
 definition_words (Cumulative c) = cumul_words c
 
 abbrev pub temporal_word : Temporal → List ℕ
@@ -120,17 +128,23 @@ abbrev pub sense_word : Sense → List ℕ
 sense_word Minimize = codes "minimize"
 sense_word Maximize = codes "maximize"
 
+abbrev pub forbidden_word : Forbidden → List ℕ
+forbidden_word forbidden.Start = codes "forbidStart"
+forbidden_word forbidden.Extent = codes "forbidExtent"
+
 abbrev pub statement_body : Statement → List Word
 statement_body Empty = []
 statement_body (Define n d) = name n ∷ sign (codes "=") ∷ definition_words d
 statement_body (Constrain c) = constraint_words c
+statement_body (Forbid w a f) = call (forbidden_word w) (name_words a ∷ name_words f ∷ [])
 statement_body (Aim s e) = call (sense_word s) (logic_words e ∷ [])
 
 -- the words of a statement, with its semicolon
 abbrev pub spelling : Statement → List Word
 spelling s = statement_body s ++ sign (codes ";") ∷ []
 
--- what the spelling doesn't say: each kind of argument of an interval at most once, brackets where an operand needs them
+-- what the spelling doesn't say: each kind of argument of an interval at most once, a pair at least of a step function, brackets
+-- where an operand needs them
 abbrev pub ivarg_sort : Ivarg → ℕ
 ivarg_sort Optional = 0
 ivarg_sort (Start r) = 1
@@ -143,6 +157,7 @@ are_distinct (x ∷ xs) = list_all (λ y. not (x == y)) xs && are_distinct xs
 
 abbrev pub is_formed : Statement → Bool
 is_formed (Define n (IntervalVar args)) = are_distinct (map ivarg_sort args)
+is_formed (Define n (StepFunction ps)) = nat_le 1 (length ps)
 is_formed (Constrain (constrained.Holds e)) = is_logic e
 is_formed (Aim s e) = is_logic e
 is_formed _ = true

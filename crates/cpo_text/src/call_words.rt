@@ -1,13 +1,13 @@
 //! The words that begin calls. None is reserved: each is known by the bracket that follows it.
 ghost use Rattle.std.specs.Prelude.{◌≡◌, option_map};
 ghost use Rattle.cpo_text.specs.code.Rules.{find_word};
-ghost use Rattle.cpo_text.specs.code.CallWords.{contributions, definitions, precedences, gatherings, always, senses, constraint_of, is_call, definition_word_at, begins_part, begins_cumul};
+ghost use Rattle.cpo_text.specs.code.CallWords.{contributions, definitions, precedences, gatherings, always, senses, prohibitions, constraint_of, is_call, definition_word_at, begins_part, begins_cumul};
 ghost use Rattle.cpo_text.specs.code.Gives.{ahead};
 
 use crate::level_words::{gather_of, measure_of};
 use crate::parts::{behind, next_name};
 use crate::place::Place;
-use crate::tree::{Extreme, Hierarchy, Order, Sense, Temporal};
+use crate::tree::{Extreme, Forbidden, Hierarchy, Order, Sense, Temporal};
 
 /// The word of a part of a cumulative expression.
 #[derive(Clone, Copy)]
@@ -25,6 +25,7 @@ pub enum DefinitionWord {
     SequenceVar,
     TransitionMatrix,
     StateFunction,
+    StepFunction,
 }
 
 /// The word of a constraint.
@@ -72,6 +73,9 @@ fn definition_of(word: &[u8]) -> Option<DefinitionWord>
     }
     if word == b"stateFunction".as_slice() {
         return Some(DefinitionWord::StateFunction);
+    }
+    if word == b"stepFunction".as_slice() {
+        return Some(DefinitionWord::StepFunction);
     }
     None
 }
@@ -174,6 +178,18 @@ pub fn sense_of(word: &[u8]) -> Option<Sense>
     }
     if word == b"maximize".as_slice() {
         return Some(Sense::Maximize);
+    }
+    None
+}
+
+pub fn forbidden_of(word: &[u8]) -> Option<Forbidden>
+    ensures { result ≡ find_word prohibitions word.now }
+{
+    if word == b"forbidStart".as_slice() {
+        return Some(Forbidden::Start);
+    }
+    if word == b"forbidExtent".as_slice() {
+        return Some(Forbidden::Extent);
     }
     None
 }

@@ -1,10 +1,10 @@
 //! Definitions and constraints that are calls, each from behind the call's word.
 ghost use Rattle.cpo_text.specs.code.Rules.{name_at};
-ghost use Rattle.cpo_text.specs.code.Calls.{flag_at, types_given_at, types_at, sequence_at, matrix_at, state_function_at, parts_at, over_at, direct_at, spaced_at, spacing_at, no_overlap_at, pair_at, extreme_at, ordered_at, flags_at, aligned_at, state_at, always_equal_at, always_no_state_at};
+ghost use Rattle.cpo_text.specs.code.Calls.{flag_at, types_given_at, types_at, sequence_at, matrix_at, state_function_at, step_function_at, parts_at, over_at, direct_at, spaced_at, spacing_at, no_overlap_at, pair_at, extreme_at, ordered_at, flags_at, aligned_at, state_at, always_equal_at, always_no_state_at};
 ghost use Rattle.cpo_text.specs.code.Gives.{ahead, Gives};
 
 use crate::fault::Fault;
-use crate::lists::{ints, names, rows};
+use crate::lists::{ints, names, rows, steps};
 use crate::parts::{behind, copy, ended, int, name, owned_before, sign, size};
 use crate::place::Place;
 use crate::tree::{Constrained, Definition, Extreme, Hierarchy, Int, Order, Over, Spaced};
@@ -87,6 +87,18 @@ pub fn state_function(alloc: Global, place: Place<'_>) -> Result<(Definition, Pl
     Ok((Definition::StateFunction(Some(matrix)), rest))
 }
 
+/// The pairs of a step function, one at least.
+#[tactic(auto, unfolding(crate::specs::code::Calls::step_function_at))]
+pub fn step_function(alloc: Global, place: Place<'_>) -> Result<(Definition, Place<'_>), Fault>
+    ensures { Gives result (step_function_at (ahead place.entry)) }
+{
+    let (pairs, rest) = steps(alloc, sign(b"(", place)?)?;
+    if pairs.is_empty() {
+        return Err(Fault::Outside);
+    }
+    ended(Definition::StepFunction(pairs), b")", rest)
+}
+
 /// An interval and its parts.
 #[tactic(auto, unfolding(crate::specs::code::Calls::parts_at, crate::specs::code::Rules::name_before))]
 pub fn parts(
@@ -163,7 +175,7 @@ pub fn no_overlap(alloc: Global, place: Place<'_>) -> Result<(Constrained, Place
 
 /// Two names in round brackets.
 #[tactic(auto, unfolding(crate::specs::code::Calls::pair_at, crate::specs::code::Rules::name_before))]
-fn pair(alloc: Global, place: Place<'_>) -> Result<((List<u8>, List<u8>), Place<'_>), Fault>
+pub fn pair(alloc: Global, place: Place<'_>) -> Result<((List<u8>, List<u8>), Place<'_>), Fault>
     ensures { Gives result (pair_at (ahead place.entry)) }
 {
     let (first, rest) = owned_before(alloc, b",", sign(b"(", place)?)?;

@@ -33,7 +33,7 @@ pub use laws::reading_is_determined;
 pub use refusal::Cause;
 pub use text::{Form, ReadFault, Reading, Refusal, TEXT_LIMIT, TOLD_LIMIT, Tree};
 pub use tree::{
-    Bound, Constrained, Definition, Extreme, Hierarchy, Int, Ivarg, Moments, Order, Over, Range,
-    Sense, Spaced, Statement, Temporal,
+    Bound, Constrained, Definition, Extreme, Forbidden, Hierarchy, Int, Ivarg, Moments, Order,
+    Over, Range, Sense, Spaced, Statement, StepPair, Temporal,
 };
 pub use whole::read_text;

@@ -1,11 +1,11 @@
 //! Lists in square brackets, their items with commas between.
-ghost use Rattle.cpo_text.specs.code.Lists.{items_at, listed_at, names_at, ints_at, rows_at};
+ghost use Rattle.cpo_text.specs.code.Lists.{items_at, listed_at, names_at, ints_at, rows_at, step_at, steps_at};
 ghost use Rattle.cpo_text.specs.code.Gives.{ahead, Gives};
 
 use crate::fault::Fault;
-use crate::parts::{behind, copy, ended, int, name, sign};
+use crate::parts::{behind, copy, ended, int, int_before, name, sign};
 use crate::place::Place;
-use crate::tree::Int;
+use crate::tree::{Int, StepPair};
 use sched_base::List;
 use std::alloc::Global;
 
@@ -100,6 +100,31 @@ impl Reader for RowReader {
     }
 }
 
+/// A moment and the value from there on, in square brackets.
+#[tactic(auto, unfolding(crate::specs::code::Lists::step_at))]
+fn step(place: Place<'_>) -> Result<(StepPair, Place<'_>), Fault>
+    ensures { Gives result (step_at (ahead place.entry)) }
+{
+    let (moment, rest) = int_before(b",", sign(b"[", place)?)?;
+    let (value, rest) = int_before(b"]", rest)?;
+    Ok((StepPair { moment, value }, rest))
+}
+
+/// Reads moments and values.
+struct StepReader;
+
+impl Reader for StepReader {
+    ghost use Rattle.cpo_text.specs.code.Lists.{step_at};
+
+    type Item = StepPair;
+
+    ghost reading = { step_at };
+
+    fn read(_: Global, place: Place<'_>) -> Result<(StepPair, Place<'_>), Fault> {
+        step(place)
+    }
+}
+
 /// A list of names.
 #[tactic(auto, unfolding(crate::specs::code::Lists::names_at))]
 pub fn names(alloc: Global, place: Place<'_>) -> Result<(List<List<u8>>, Place<'_>), Fault>
@@ -122,4 +147,12 @@ pub fn rows(alloc: Global, place: Place<'_>) -> Result<(List<List<Int>>, Place<'
     ensures { Gives result (rows_at (ahead place.entry)) }
 {
     listed::<RowReader>(alloc, place)
+}
+
+/// A list of moments and values.
+#[tactic(auto, unfolding(crate::specs::code::Lists::steps_at))]
+pub fn steps(alloc: Global, place: Place<'_>) -> Result<(List<StepPair>, Place<'_>), Fault>
+    ensures { Gives result (steps_at (ahead place.entry)) }
+{
+    listed::<StepReader>(alloc, place)
 }

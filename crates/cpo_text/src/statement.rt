@@ -1,15 +1,15 @@
 ghost use Rattle.std.specs.Prelude.{◌≡◌, option_map, codes};
 ghost use Rattle.cpo_text.specs.code.Rules.{name_before};
-ghost use Rattle.cpo_text.specs.code.Statements.{enough, logic_at, holds_at, aim_at, defined_at, definition_at, constraint_at, called_at, named_at, clause_at, body_at, statement_at};
+ghost use Rattle.cpo_text.specs.code.Statements.{enough, logic_at, holds_at, aim_at, defined_at, definition_at, constraint_at, forbid_at, called_at, named_at, clause_at, body_at, statement_at};
 ghost use Rattle.cpo_text.specs.code.Gives.{ahead, Gives};
 
 use crate::call_words::{
-    ConstraintWord, DefinitionWord, begins_cumul, constraint_word, definition_word, is_call,
-    sense_of,
+    ConstraintWord, DefinitionWord, begins_cumul, constraint_word, definition_word, forbidden_of,
+    is_call, sense_of,
 };
 use crate::calls::{
-    always_equal, always_no_state, extreme, matrix, no_overlap, ordered, parts, sequence,
-    state_function,
+    always_equal, always_no_state, extreme, matrix, no_overlap, ordered, pair, parts, sequence,
+    state_function, step_function,
 };
 use crate::contributions::{always_in, bounded, cumul};
 use crate::expression::Logic;
@@ -18,7 +18,7 @@ use crate::grammar::{between, interval};
 use crate::levels::logic;
 use crate::parts::{behind, copy, ended, next_name, sign};
 use crate::place::Place;
-use crate::tree::{Constrained, Definition, Sense, Statement};
+use crate::tree::{Constrained, Definition, Forbidden, Sense, Statement};
 use std::alloc::Global;
 
 /// Fuel that no text within its limit uses up.
@@ -67,6 +67,7 @@ fn defined(
         DefinitionWord::SequenceVar => sequence(alloc, place),
         DefinitionWord::TransitionMatrix => matrix(alloc, place),
         DefinitionWord::StateFunction => state_function(alloc, place),
+        DefinitionWord::StepFunction => step_function(alloc, place),
     }
 }
 
@@ -103,7 +104,16 @@ fn constraint(
     }
 }
 
-/// The constraint or objective that this call word begins.
+/// An interval and a step function, behind the word of a calendar's sentence.
+#[tactic(auto, unfolding(crate::specs::code::Statements::forbid_at))]
+fn forbid(alloc: Global, word: Forbidden, place: Place<'_>) -> Result<(Statement, Place<'_>), Fault>
+    ensures { Gives result (forbid_at word (ahead place.entry)) }
+{
+    let ((interval, function), rest) = pair(alloc, place)?;
+    Ok((Statement::Forbid(word, interval, function), rest))
+}
+
+/// The constraint, calendar's sentence or objective that this call word begins.
 #[tactic(auto, unfolding(crate::specs::code::Statements::called_at))]
 fn called<'a>(alloc: Global, word: &[u8], place: Place<'a>) -> Result<(Statement, Place<'a>), Fault>
     ensures { Gives result (called_at enough word.now (ahead place.entry)) }
@@ -112,8 +122,11 @@ fn called<'a>(alloc: Global, word: &[u8], place: Place<'a>) -> Result<(Statement
         let (constraint, rest) = constraint(alloc, word, place)?;
         return Ok((Statement::Constrain(constraint), rest));
     }
-    match sense_of(word) {
-        Some(sense) => aim(alloc, sense, place),
+    if let Some(sense) = sense_of(word) {
+        return aim(alloc, sense, place);
+    }
+    match forbidden_of(word) {
+        Some(word) => forbid(alloc, word, place),
         None => Err(Fault::Outside),
     }
 }

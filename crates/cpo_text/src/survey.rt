@@ -17,13 +17,10 @@ const MOST_OPEN: i64 = 200;
 const MOST_NESTINGS: u32 = 200;
 
 /// The words that the language leaves out.
-const LEFT_OUT: [&[u8]; 22] = [
+const LEFT_OUT: [&[u8]; 19] = [
     b"intensity",
     b"granularity",
     b"forbidEnd",
-    b"forbidStart",
-    b"forbidExtent",
-    b"stepFunction",
     b"heightAtStart",
     b"heightAtEnd",
     b"alwaysConstant",

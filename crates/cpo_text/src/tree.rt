@@ -26,15 +26,24 @@ pub enum Ivarg {
     Size(Range),
 }
 
+/// `"[" int "," int "]"`: a moment of a step function, and the value from that moment on.
+#[derive(Clone, Copy, Debug, PartialEq, Eq)]
+pub struct StepPair {
+    pub moment: Int,
+    pub value: Int,
+}
+
 /// What stands behind `NAME =`. `SequenceVar` has the names of its members and, where they are
 /// written, their types; `TransitionMatrix` its rows; `StateFunction` the name of a matrix, where
-/// one is written. What is none of these calls is a cumulative expression.
+/// one is written; `StepFunction` its pairs, one at least. What is none of these calls is a
+/// cumulative expression.
 #[derive(Drop)]
 pub enum Definition {
     IntervalVar(List<Ivarg>),
     SequenceVar(List<List<u8>>, Option<List<Int>>),
     TransitionMatrix(List<List<Int>>),
     StateFunction(Option<List<u8>>),
+    StepFunction(List<StepPair>),
     Cumulative(Cumul),
 }
 
@@ -129,11 +138,20 @@ pub enum Sense {
     Maximize,
 }
 
-/// A statement as it is written, without its semicolon. Names are the bytes of the text.
+/// What a step function forbids an interval where it is 0: to start, or to last.
+#[derive(Clone, Copy)]
+pub enum Forbidden {
+    Start,
+    Extent,
+}
+
+/// A statement as it is written, without its semicolon. Names are the bytes of the text. `Forbid`
+/// has an interval and a step function.
 #[derive(Drop)]
 pub enum Statement {
     Empty,
     Define(List<u8>, Definition),
     Constrain(Constrained),
+    Forbid(Forbidden, List<u8>, List<u8>),
     Aim(Sense, Logic),
 }

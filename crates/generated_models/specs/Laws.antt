@@ -1,7 +1,7 @@
 -- The law that every generated text deserves the model of its job shop, and the steps to it.
 use Rattle.std.specs.Prelude.{◌≡◌, ◌≤◌, ℕ, true, List, length, map, flat_map, IsTrue}
 use Rattle.std.specs.List.{list_all}
-use Rattle.sched_model.specs.Data.{empty_model}
+use Rattle.cpo_elab.specs.Stages.{empty_stage}
 use Rattle.sched_model.specs.Valid.{IsValid}
 use Rattle.cpo_text.specs.declared.text.Reading.{Reading}
 use Rattle.cpo_text.specs.declared.text.Form.TheVariants.{Tree as Parsed}
@@ -40,4 +40,4 @@ ShopsAreSaid = (seed jobs machines : ℕ) → are_within jobs machines ≡ true 
 abbrev pub ShopsAreJudged : Type 0
 ShopsAreJudged = (seed jobs machines : ℕ) (xs ys : List Reading) → are_within jobs machines ≡ true
     → map (λ x. x.form) xs ≡ map Parsed (shop_statements seed jobs machines) → map (λ y. y.form) ys ≡ map Parsed (canonical_statements (shop_model seed jobs machines))
-    → judged empty_model 1 ys ≡ Accepted (shop_model seed jobs machines) → judged empty_model 1 xs ≡ Accepted (shop_model seed jobs machines)
+    → judged empty_stage 1 ys ≡ Accepted (shop_model seed jobs machines) → judged empty_stage 1 xs ≡ Accepted (shop_model seed jobs machines)

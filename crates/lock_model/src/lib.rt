@@ -3,4 +3,5 @@
 //! lock is not proved any more; and each edit in `must-fail/` puts a wrong answer in the place of a call.
 #![tactic(auto)]
 
+pub mod of_calendar;
 pub mod of_sched_model;

@@ -1,10 +1,11 @@
 //! What texts of models mean.
-ghost use Rattle.std.specs.Prelude.{◌≡◌, true};
-ghost use Rattle.sched_model.specs.Data.{empty_model};
+ghost use Rattle.std.specs.Prelude.{◌≡◌, true, IfOk};
+ghost use Rattle.cpo_elab.specs.Stages.{empty_stage};
 ghost use Rattle.cpo_elab.specs.Answers.{Gives, judged};
+ghost use Rattle.cpo_elab.specs.Asked.{MeansText};
 ghost use Rattle.cpo_elab.specs.Deserves.{GivesDeserved};
 ghost use Rattle.cpo_elab.specs.Shaped.{are_shaped};
-ghost use Rattle.cpo_elab.specs.Laws.{AtMostOneAnswer, OnlyWordsCount, OnlyToldCount, SomeAnswer, TextsAreShaped};
+ghost use Rattle.cpo_elab.specs.Laws.{AtMostOneAnswer, OnlyWordsCount, OnlyToldCount, SomeAnswer, TextsAreShaped, ModelsSayTheirTexts};
 ghost use Rattle.cpo_elab.specs.NamedFirstLaws.{NamedFirstIsValid, SequencesStay, CumulsStay, SequencesLookAlike, PartsLookAlike, NothingMoves};
 ghost use Rattle.cpo_elab.specs.code.ValidLaws.{StatementsKeepValid, WrittenKeepsValid};
 
@@ -14,7 +15,8 @@ use std::alloc::Global;
 
 pub fn elaborate(alloc: Global, tree: &Tree) -> Result<Model, ReadFault>
     requires { are_shaped tree.now.statements ≡ true }
-    ensures { Gives result (judged empty_model 1 tree.now.statements) }
+    ensures answer { Gives result (judged empty_stage 1 tree.now.statements) }
+    ensures meaning { IfOk result (λ m. MeansText tree.now.statements m) }
 {
     cpo_elab::elaborate(alloc, tree)
 }
@@ -31,6 +33,7 @@ pub fn answer_is_determined()
     ensures told { OnlyToldCount }
     ensures some { SomeAnswer }
     ensures shaped { TextsAreShaped }
+    ensures models { ModelsSayTheirTexts }
 {
     cpo_elab::answer_is_determined();
 }

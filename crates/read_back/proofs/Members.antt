@@ -1,5 +1,5 @@
 -- What a sequence of a valid model has: each of its members is an interval of the model.
-use Rattle.std.proofs.Common.{◌≡◌, ℕ, zero, suc, true, ◌&&◌, ◌||◌, List, [], ◌∷◌, length, slice_index_or, None, nat_le, nat_eq, refl, ◌∙◌}
+use Rattle.std.proofs.Common.{◌≡◌, ℕ, zero, suc, true, ◌&&◌, List, [], ◌∷◌, length, slice_index_or, None, nat_le, nat_eq, refl}
 use Rattle.std.specs.List.{list_all}
 use Rattle.std.proofs.lemmas.Bool.{and_parts}
 use Rattle.base_laws.specs.laws.Truth.{three_true}

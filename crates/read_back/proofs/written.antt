@@ -1,3 +1,4 @@
+pub mod Calendars
 pub mod Clear
 pub mod Defined
 pub mod Exprs

@@ -2,7 +2,8 @@
 use Rattle.std.specs.Prelude.{◌≡◌, ◌≤◌, ℕ, pos, Bool, false, not, ◌&&◌, List, length, map, flat_map, IsTrue}
 use Rattle.std.specs.List.{list_all}
 use Rattle.sched_base.specs.declared.ids.Itv.{Itv}
-use Rattle.sched_model.specs.Data.{Data, empty_model}
+use Rattle.sched_model.specs.Data.{Data}
+use Rattle.cpo_elab.specs.Stages.{empty_stage}
 use Rattle.sched_model.specs.Valid.{IsValid, is_expr, is_itv}
 use Rattle.sched_model.specs.declared.types.Expr.{Expr}
 use Rattle.cpo_text.specs.declared.text.Reading.{Reading}
@@ -75,4 +76,4 @@ CanonicalIsSaid = (m : Data) → IsValid m → IsWritten m → Says (canonical_t
 -- ... and these are judged to be the model.
 abbrev pub CanonicalIsJudged : Type 0
 CanonicalIsJudged = (m : Data) (xs : List Reading) → IsValid m → IsWritten m
-    → map (λ x. x.form) xs ≡ map Parsed (canonical_statements m) → judged empty_model 1 xs ≡ Accepted m
+    → map (λ x. x.form) xs ≡ map Parsed (canonical_statements m) → judged empty_stage 1 xs ≡ Accepted m

@@ -15,6 +15,7 @@ use Rattle.sched_model.specs.declared.types.CompareOp.TheVariants as op
 use Rattle.sched_model.specs.declared.types.Expr.{Expr, roll-Expr}
 use Rattle.sched_model.specs.declared.types.Expr.TheOpen.{Expr-F as expr}
 use Rattle.sched_model.specs.declared.types.Expr.TheFolds.{fold-roll-Expr}
+use Rattle.sched_model.specs.laws.Words.{implied, if_implied}
 use Rattle.sched_model.specs.Words.{◌implies◌}
 use Rattle.sched_model.specs.Bounds.{is_moment}
 use Rattle.sched_model.specs.Data.{Data}
@@ -89,14 +90,6 @@ outside s u v h i j = true≢false (sym h ∙ never s u v i j)
   where
     never : (s u v : ℤ) → u ≤ℤ s → s <ℤ v → (int_lt s u || (int_le v s || false)) ≡ false
     never s u v h i = grind (arith, ints)
-
-implied : (p q : Bool) → (p implies q) ≡ true → p ≡ true → q ≡ true
-implied true q h k = h
-implied false q h k = absurd (true≢false (sym k))
-
-if_implied : (p q : Bool) → (p ≡ true → q ≡ true) → (p implies q) ≡ true
-if_implied true q h = h refl
-if_implied false q h = refl
 
 none_inside : (m : Data) (a : Assignment) (x : Itv) (rs : List Pair) → list_all (holds m a) (map (start_rule x) rs) ≡ true → is_present a x ≡ true → Some (λ r. Inside r (start_of a x)) rs → ⊥
 none_inside m a x [] h here some = absurd some

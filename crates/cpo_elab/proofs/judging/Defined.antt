@@ -15,7 +15,7 @@ use Rattle.cpo_text.specs.declared.tree.Int.{Int}
 use Rattle.cpo_text.specs.declared.tree.Ivarg.{Ivarg}
 use Rattle.cpo_text.specs.declared.cumul.Cumul.{Cumul}
 use Rattle.cpo_text.specs.declared.tree.Definition.{Definition}
-use Rattle.cpo_text.specs.declared.tree.Definition.TheVariants.{IntervalVar, SequenceVar, TransitionMatrix, StateFunction, Cumulative}
+use Rattle.cpo_text.specs.declared.tree.Definition.TheVariants.{IntervalVar, SequenceVar, TransitionMatrix, StateFunction, StepFunction, Cumulative}
 use Rattle.cpo_text.specs.declared.tree.Statement.TheVariants.{Define}
 use Rattle.cpo_elab.specs.declared.names.Sort.TheVariants.{Interval}
 use Rattle.cpo_elab.specs.Named.{itv_of, itvs_of}
@@ -211,4 +211,5 @@ define_valid m name (IntervalVar args) before spelt facts = define_interval m na
 define_valid m name (SequenceVar ns types) before spelt facts = define_sequence m name ns types before spelt facts
 define_valid m name (TransitionMatrix rows) before spelt facts = define_matrix m name rows before spelt facts
 define_valid m name (StateFunction x) before spelt facts = define_state m name x before spelt facts
+define_valid m name (StepFunction ps) before spelt facts = before
 define_valid m name (Cumulative c) before spelt facts = define_cumul m name c before spelt facts

@@ -1,6 +1,6 @@
 -- A text deserves one answer, where nothing in its reading is a choice.
 use Rattle.std.proofs.Common.{◌≡◌, inl, inr, ℕ, ◌+◌, ◌<◌, ◌≤◌, List, [], ◌∷◌, length, refl, sym, ap, subst, ◌∙◌, arith}
-use Rattle.sched_model.specs.Data.{empty_model}
+use Rattle.cpo_elab.specs.Stages.{empty_stage}
 use Rattle.cpo_text.specs.Words.{Word}
 use Rattle.cpo_text.specs.Tokens.{Token}
 use Rattle.cpo_text.specs.Runs.{runs, words_of, ended}
@@ -83,4 +83,4 @@ pub at_most_one : ReadingIsDetermined → AtMostOneAnswer
 at_most_one laws text a b (unread r one is) (unread q other also) = is ∙ ap (λ x. Refused x) (same_refusal laws text r q one other) ∙ sym also
 at_most_one laws text a b (unread r one is) (judgement t read also) = absurd (not_read laws text r t one read)
 at_most_one laws text a b (judgement t read is) (unread r other also) = absurd (not_read laws text r t other read)
-at_most_one laws text a b (judgement t read is) (judgement u again also) = is ∙ ap (judged empty_model 1) (same_tree laws text t u read again) ∙ sym also
+at_most_one laws text a b (judgement t read is) (judgement u again also) = is ∙ ap (judged empty_stage 1) (same_tree laws text t u read again) ∙ sym also

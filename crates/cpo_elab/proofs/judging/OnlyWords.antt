@@ -1,7 +1,7 @@
 -- Texts of the same words deserve the same, but for the offset.
-use Rattle.std.proofs.Common.{◌≡◌, ℕ, ◌+◌, ◌≤◌, Bool, List, [], ◌∷◌, map, length, take, Option, Some, None, refl, sym, ap, subst, ◌∙◌}
+use Rattle.std.proofs.Common.{◌≡◌, ℕ, ◌+◌, ◌≤◌, List, [], ◌∷◌, map, length, take, Option, Some, None, refl, sym, ap, subst, ◌∙◌}
 use Rattle.std.proofs.lemmas.List.{take-map}
-use Rattle.sched_model.specs.Data.{Data, empty_model}
+use Rattle.cpo_elab.specs.Stages.{Stage, empty_stage}
 use Rattle.cpo_text.specs.Tokens.{Token, HasTokens}
 use Rattle.cpo_text.specs.Runs.{runs, words_of}
 use Rattle.cpo_text.specs.Reads.{IsRefused, HasForm, AreReadings, text_limit, told_limit, told}
@@ -44,15 +44,15 @@ same_or : (o : Option ℕ) (k i j : ℕ) (a b : Answer) → SameButOffset a b �
 same_or None k i j a b same = same
 same_or (Some n) k i j a b same = (refl, refl)
 
-same_judgement : (m : Data) (k : ℕ) (xs ys : List Reading) → map (λ x. x.form) xs ≡ map (λ x. x.form) ys → SameButOffset (judged m k xs) (judged m k ys)
-same_judgement m k [] [] same = refl
-same_judgement m k [] (y ∷ ys) same = cc
-same_judgement m k (x ∷ xs) [] same = cc
-same_judgement m k (x ∷ xs) (y ∷ ys) same =
+same_judgement : (st : Stage) (k : ℕ) (xs ys : List Reading) → map (λ x. x.form) xs ≡ map (λ x. x.form) ys → SameButOffset (judged st k xs) (judged st k ys)
+same_judgement st k [] [] same = refl
+same_judgement st k [] (y ∷ ys) same = cc
+same_judgement st k (x ∷ xs) [] same = cc
+same_judgement st k (x ∷ xs) (y ∷ ys) same =
     let first : x.form ≡ y.form = cc in
     let rest : map (λ x. x.form) xs ≡ map (λ x. x.form) ys = cc in
-    subst (λ f. SameButOffset (refused_or (number_at m k x.form) k x.at (judged (after_form m x.form) (k + 1) xs)) (refused_or (number_at m k f) k y.at (judged (after_form m f) (k + 1) ys))) first
-    (same_or (number_at m k x.form) k x.at y.at _ _ (same_judgement (after_form m x.form) (k + 1) xs ys rest))
+    subst (λ f. SameButOffset (refused_or (number_at st k x.form) k x.at (judged (after_form st x.form) (k + 1) xs)) (refused_or (number_at st k f) k y.at (judged (after_form st f) (k + 1) ys))) first
+    (same_or (number_at st k x.form) k x.at y.at _ _ (same_judgement (after_form st x.form) (k + 1) xs ys rest))
 
 too_short : (text : List ℕ) (r : Refusal) (ts : List Token) → ReadingIsDetermined → length text ≤ text_limit → HasTokens text ts → IsRefused text r → ⊥
 too_short text r ts laws short has (too_long above is) = clash text_limit (length text) above short
@@ -67,4 +67,4 @@ only_words_count laws text other ts us a b short also_short one two same (judgem
     let runs_same = words_of_runs read.tokens ∙ ap (λ x. word_runs (words_of x)) first ∙ ap word_runs same ∙ sym (ap (λ x. word_runs (words_of x)) second) ∙ sym (words_of_runs again.tokens) in
     let told_same = words_told (runs read.tokens) ∙ ap (take told_limit) runs_same ∙ sym (words_told (runs again.tokens)) in
     let forms = same_forms laws.statements (told (runs read.tokens)) (told (runs again.tokens)) t.statements u.statements told_same read.readings again.readings in
-    subst (λ x. SameButOffset x b) (sym is) (subst (SameButOffset (judged empty_model 1 t.statements)) (sym also) (same_judgement empty_model 1 t.statements u.statements forms))
+    subst (λ x. SameButOffset x b) (sym is) (subst (SameButOffset (judged empty_stage 1 t.statements)) (sym also) (same_judgement empty_stage 1 t.statements u.statements forms))

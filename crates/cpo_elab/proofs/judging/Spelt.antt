@@ -12,7 +12,7 @@ use Rattle.cpo_text.specs.declared.piece.Piece.{Piece}
 use Rattle.cpo_text.specs.declared.piece.Piece.TheVariants as piece
 use Rattle.cpo_text.specs.declared.tree.Constrained.TheVariants.{Between, Parts, NoOverlap, Extreme, Ordered, Bounded, AlwaysIn, AlwaysEqual, AlwaysNoState, Holds}
 use Rattle.cpo_text.specs.declared.tree.Statement.{Statement}
-use Rattle.cpo_text.specs.declared.tree.Statement.TheVariants.{Empty, Define, Constrain, Aim}
+use Rattle.cpo_text.specs.declared.tree.Statement.TheVariants.{Empty, Define, Constrain, Forbid, Aim}
 use Rattle.cpo_text.specs.declared.text.Form.{Form}
 use Rattle.cpo_text.specs.declared.text.Form.TheVariants.{Tree as Parsed, Number}
 use Rattle.cpo_text.specs.declared.text.Reading.{Reading}
@@ -110,6 +110,7 @@ statement_told ws (Constrain (AlwaysIn f w lo hi)) is told = refl
 statement_told ws (Constrain (AlwaysEqual g a v aligned)) is told = refl
 statement_told ws (Constrain (AlwaysNoState g a)) is told = refl
 statement_told ws (Constrain (Holds e)) is told = grammar_operands e 0 is.formed
+statement_told ws (Forbid w a f) is told = refl
 statement_told ws (Aim sense e) is told = grammar_operands e 0 is.formed
 
 form_told : (ws : List Word) (f : Form) → HasForm ws f → list_all is_told ws ≡ true → is_shaped_form f ≡ true

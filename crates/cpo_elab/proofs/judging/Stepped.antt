@@ -14,57 +14,63 @@ use Rattle.cpo_elab.specs.Named.{is_defined}
 use Rattle.cpo_elab.specs.Held.{some_amount, rows_in}
 use Rattle.cpo_elab.specs.Elaborated.{defined, constraint_of, with_written, after}
 use Rattle.cpo_elab.specs.Judged.{is_large, is_negative, is_wide, leaves_room, statement_limit, aims_again, number_in}
+use Rattle.cpo_elab.specs.Stages.{Stage}
+use Rattle.cpo_elab.specs.code.Calendars.{is_of_calendars}
+use Rattle.cpo_elab.specs.code.Judging.{IsClear}
 use Rattle.cpo_elab.specs.Shaped.{is_shaped, is_shaped_form, are_shaped}
 use Rattle.cpo_elab.proofs.judging.Clear.{clear}
-use Rattle.cpo_elab.proofs.judging.Facts.{Facts, facts}
-use Rattle.cpo_elab.proofs.judging.Valid.{valid_after, valid_written}
+use Rattle.cpo_elab.proofs.judging.Facts.{Facts}
+use Rattle.cpo_elab.proofs.judging.Valid.{known, valid_after, valid_written}
 
 below : (n limit : ℕ) → nat_lt limit (n + 1) ≡ false → n < limit
 below n limit h = grind (arith, nat_tests)
 
-pub few : (m : Data) (n : ℕ) (s : Statement) → number_in m (n + 1) s ≡ None → n < statement_limit
-few m n s none = below n statement_limit (or_parts (nat_lt statement_limit (n + 1)) (is_wide s || not (leaves_room m s)) (clear m (n + 1) s none).room).0
-
-known : (m : Data) (k : ℕ) (s : Statement) → number_in m k s ≡ None → Facts m s
-known m k s none = facts m k s (clear m k s none)
+pub few : (st : Stage) (n : ℕ) (s : Statement) → number_in st (n + 1) s ≡ None → n < statement_limit
+few st n s none = below n statement_limit (or_parts (nat_lt statement_limit (n + 1)) (is_wide s || not (leaves_room st s)) (clear st (n + 1) s none).room).0
 
 -- a definition
 
-pub can_define : (m : Data) (k : ℕ) (s : Statement) (name n : List ℕ) (d : Definition) → s ≡ Define name d → n ≡ name → IsValid m → is_shaped s ≡ true → number_in m k s ≡ None → IsValid (defined m n d)
-can_define m k s name n d is n_is before shaped none =
-    subst (λ x. IsValid (defined m x d)) (sym n_is) (valid_after m k (Define name d) before (subst (λ t. is_shaped t ≡ true) is shaped) (subst (λ t. number_in m k t ≡ None) is none))
+define_clear : (m : Data) (s : Statement) (name : List ℕ) (d : Definition) → s ≡ Define name d → IsClear m s → IsClear m (Define name d)
+define_clear m s name d is clear = subst (IsClear m) is clear
 
-facts_of : (m : Data) (k : ℕ) (s : Statement) (name n : List ℕ) (d : Definition) → s ≡ Define name d → n ≡ name → number_in m k s ≡ None → Facts m (Define n d)
-facts_of m k s name n d is n_is none = subst (λ x. Facts m (Define x d)) (sym n_is) (known m k (Define name d) (subst (λ t. number_in m k t ≡ None) is none))
+pub can_define : (m : Data) (s : Statement) (name n : List ℕ) (d : Definition) → s ≡ Define name d → n ≡ name → IsValid m → is_shaped s ≡ true → IsClear m s → IsValid (defined m n d)
+can_define m s name n d is n_is before shaped clear =
+    subst (λ x. IsValid (defined m x d)) (sym n_is) (valid_after m (Define name d) before (subst (λ t. is_shaped t ≡ true) is shaped) (define_clear m s name d is clear))
 
-pub fresh_name : (m : Data) (k : ℕ) (s : Statement) (name n : List ℕ) (d : Definition) → s ≡ Define name d → n ≡ name → number_in m k s ≡ None → is_defined m n ≡ false
-fresh_name m k s name n d is n_is none = let f : Facts m (Define n d) = facts_of m k s name n d is n_is none in f.fresh
+facts_of : (m : Data) (s : Statement) (name n : List ℕ) (d : Definition) → s ≡ Define name d → n ≡ name → IsValid m → IsClear m s → Facts m (Define n d)
+facts_of m s name n d is n_is before clear = subst (λ x. Facts m (Define x d)) (sym n_is) (known m (Define name d) before (define_clear m s name d is clear))
 
-pub small_amounts : (m : Data) (k : ℕ) (s : Statement) (name n : List ℕ) (d : Definition) → s ≡ Define name d → n ≡ name → number_in m k s ≡ None → some_amount is_large (Define n d) ≡ false
-small_amounts m k s name n d is n_is none = let f : Facts m (Define n d) = facts_of m k s name n d is n_is none in f.small
+pub fresh_name : (m : Data) (s : Statement) (name n : List ℕ) (d : Definition) → s ≡ Define name d → n ≡ name → IsValid m → IsClear m s → is_defined m n ≡ false
+fresh_name m s name n d is n_is before clear = let f : Facts m (Define n d) = facts_of m s name n d is n_is before clear in f.fresh
 
-pub no_signs : (m : Data) (k : ℕ) (s : Statement) (name n : List ℕ) (d : Definition) → s ≡ Define name d → n ≡ name → number_in m k s ≡ None → some_amount is_negative (Define n d) ≡ false
-no_signs m k s name n d is n_is none = let f : Facts m (Define n d) = facts_of m k s name n d is n_is none in f.signs
+pub small_amounts : (m : Data) (s : Statement) (name n : List ℕ) (d : Definition) → s ≡ Define name d → n ≡ name → IsValid m → IsClear m s → some_amount is_large (Define n d) ≡ false
+small_amounts m s name n d is n_is before clear = let f : Facts m (Define n d) = facts_of m s name n d is n_is before clear in f.small
+
+pub no_signs : (m : Data) (s : Statement) (name n : List ℕ) (d : Definition) → s ≡ Define name d → n ≡ name → IsValid m → IsClear m s → some_amount is_negative (Define n d) ≡ false
+no_signs m s name n d is n_is before clear = let f : Facts m (Define n d) = facts_of m s name n d is n_is before clear in f.signs
 
 at_most : (n k : ℕ) → nat_lt k n ≡ false → n ≤ k
 at_most n k h = grind (arith, nat_tests)
 
-pub few_rows : (m : Data) (k : ℕ) (s : Statement) (name n : List ℕ) (d : Definition) → s ≡ Define name d → n ≡ name → number_in m k s ≡ None → length (rows_in (Define n d)) ≤ 200
-few_rows m k s name n d is n_is none = let f : Facts m (Define n d) = facts_of m k s name n d is n_is none in at_most (length (rows_in (Define n d))) 200 f.rows
+pub few_rows : (m : Data) (s : Statement) (name n : List ℕ) (d : Definition) → s ≡ Define name d → n ≡ name → IsValid m → IsClear m s → length (rows_in (Define n d)) ≤ 200
+few_rows m s name n d is n_is before clear = let f : Facts m (Define n d) = facts_of m s name n d is n_is before clear in at_most (length (rows_in (Define n d))) 200 f.rows
+
+pub own_name : (s : Statement) (name n : List ℕ) (d : Definition) → s ≡ Define name d → n ≡ name → is_of_calendars s ≡ false → is_of_calendars (Define n d) ≡ false
+own_name s name n d is n_is own = subst (λ x. is_of_calendars (Define x d) ≡ false) (sym n_is) (subst (λ t. is_of_calendars t ≡ false) is own)
 
 -- a constraint that is no expression, and any statement
 
-pub can_constrain : (m : Data) (k : ℕ) (s : Statement) (c : Constrained) → s ≡ Constrain c → IsValid m → is_shaped s ≡ true → number_in m k s ≡ None → IsValid (with_constraint (constraint_of m c) (with_written m c))
-can_constrain m k s c is before shaped none = valid_after m k (Constrain c) before (subst (λ t. is_shaped t ≡ true) is shaped) (subst (λ t. number_in m k t ≡ None) is none)
+pub can_constrain : (m : Data) (s : Statement) (c : Constrained) → s ≡ Constrain c → IsValid m → is_shaped s ≡ true → IsClear m s → IsValid (with_constraint (constraint_of m c) (with_written m c))
+can_constrain m s c is before shaped clear = valid_after m (Constrain c) before (subst (λ t. is_shaped t ≡ true) is shaped) (subst (IsClear m) is clear)
 
-pub can_write : (m : Data) (k : ℕ) (s : Statement) (c : Constrained) → s ≡ Constrain c → IsValid m → number_in m k s ≡ None → IsValid (with_written m c)
-can_write m k s c is before none = valid_written m k c before (subst (λ t. number_in m k t ≡ None) is none)
+pub can_write : (m : Data) (s : Statement) (c : Constrained) → s ≡ Constrain c → IsValid m → IsClear m s → IsValid (with_written m c)
+can_write m s c is before clear = valid_written m c before (subst (IsClear m) is clear)
 
-pub can_step : (m : Data) (k : ℕ) (s : Statement) → IsValid m → is_shaped s ≡ true → number_in m k s ≡ None → IsValid (after m s)
-can_step m k s before shaped none = valid_after m k s before shaped none
+pub can_step : (m : Data) (s : Statement) → IsValid m → is_shaped s ≡ true → IsClear m s → IsValid (after m s)
+can_step m s before shaped clear = valid_after m s before shaped clear
 
-pub first_aim : (m : Data) (k : ℕ) (s : Statement) → number_in m k s ≡ None → aims_again m s ≡ false
-first_aim m k s none = let f = known m k s none in f.single
+pub first_aim : (m : Data) (s : Statement) → IsValid m → IsClear m s → aims_again m s ≡ false
+first_aim m s before clear = let f = known m s before clear in f.single
 
 -- the trees that are left are as the grammar has them
 

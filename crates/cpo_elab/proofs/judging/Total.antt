@@ -1,7 +1,7 @@
 -- Every text deserves an answer, where each can be read or refused.
 use Rattle.std.proofs.Common.{◌≡◌, ◌⊎◌, inl, inr, ℕ, ◌+◌, Bool, true, false, nat_lt, List, [], ◌∷◌, length, Option, Some, None, refl}
 use Rattle.base_laws.specs.laws.Numbers.{below_or_past}
-use Rattle.sched_model.specs.Data.{empty_model}
+use Rattle.cpo_elab.specs.Stages.{empty_stage}
 use Rattle.cpo_text.specs.Words.{Word}
 use Rattle.cpo_text.specs.Tokens.{Token}
 use Rattle.cpo_text.specs.Runs.{runs, words_of, offset, ended, early, has_large}
@@ -54,6 +54,6 @@ read_or_refused bytes grammar text = elim (below_or_past text_limit (length text
 
 pub some_answer : EveryTextHasTokensOrBadByte → GrammarIsDecided → SomeAnswer
 some_answer bytes grammar text = elim (read_or_refused bytes grammar text) [
-  | inl read ↦ (judged empty_model 1 read.0.statements, judgement read.0 read.1 refl)
+  | inl read ↦ (judged empty_stage 1 read.0.statements, judgement read.0 read.1 refl)
   | inr refused ↦ (Refused refused.0, unread refused.0 refused.1 refl)
 ]

@@ -1,6 +1,5 @@
 -- Three tests joined, and tests that pass alike.
-use Rattle.std.proofs.Common.{◌≡◌, Bool, true, false, not, ◌||◌, refl, sym}
-use Rattle.base_laws.specs.laws.Truth.{same_truth}
+use Rattle.std.proofs.Common.{◌≡◌, Bool, true, false, not, ◌||◌, refl}
 
 pub none_of_three : (p q r : Bool) → (p || q || r) ≡ false → (p ≡ false) × (q ≡ false) × (r ≡ false)
 none_of_three true true r h = cc

@@ -1,5 +1,5 @@
 -- A statement that deserves no number leaves a valid model valid.
-use Rattle.std.proofs.Common.{◌≡◌, ℕ, ◌+◌, true, false, ◌&&◌, length, sum_by, Option, Some, None, is_some, nat_le, refl, ap, ◌∙◌, arith}
+use Rattle.std.proofs.Common.{◌≡◌, ℕ, ◌+◌, true, false, ◌&&◌, length, sum_by, Option, Some, None, is_some, nat_le, refl, sym, ap, subst, ◌∙◌, arith}
 use Rattle.std.specs.Option.{option_to_list}
 use Rattle.std.proofs.lemmas.Bool.{and_parts, and_from}
 use Rattle.sched_model.specs.Words.{passes_if_any}
@@ -10,10 +10,10 @@ use Rattle.cpo_text.specs.declared.expression.Logic.{Logic}
 use Rattle.cpo_text.specs.declared.tree.Constrained.{Constrained}
 use Rattle.cpo_text.specs.declared.tree.Sense.{Sense}
 use Rattle.cpo_text.specs.declared.tree.Statement.{Statement}
-use Rattle.cpo_text.specs.declared.tree.Statement.TheVariants.{Empty, Define, Constrain, Aim}
+use Rattle.cpo_text.specs.declared.tree.Statement.TheVariants.{Empty, Define, Constrain, Forbid, Aim}
 use Rattle.cpo_elab.specs.Held.{logic_in}
 use Rattle.cpo_elab.specs.Elaborated.{after, objective_of, with_written}
-use Rattle.cpo_elab.specs.Judged.{number_in}
+use Rattle.cpo_elab.specs.code.Judging.{IsClear}
 use Rattle.cpo_elab.specs.Shaped.{is_shaped, is_spelt, has_operands}
 use Rattle.cpo_elab.proofs.judging.Clear.{clear}
 use Rattle.cpo_elab.proofs.judging.Facts.{Facts, facts}
@@ -49,12 +49,15 @@ aim_valid m s e before shaped facts = record {
   limits = limits_with m (objective_of m s e) facts.single before.limits facts.room;
 }
 
-pub valid_after : (m : Data) (k : ℕ) (s : Statement) → IsValid m → is_shaped s ≡ true → number_in m k s ≡ None → IsValid (after m s)
-valid_after m k Empty before shaped none = before
-valid_after m k (Define n d) before shaped none = define_valid m n d before (and_parts (is_spelt n) true shaped).0 (facts m k (Define n d) (clear m k (Define n d) none))
-valid_after m k (Constrain c) before shaped none =
-    constrain_valid m c before (and_parts true (passes_if_any has_operands (logic_in (Constrain c))) shaped).1 (facts m k (Constrain c) (clear m k (Constrain c) none))
-valid_after m k (Aim s e) before shaped none = aim_valid m s e before (and_parts true (has_operands e) shaped).1 (facts m k (Aim s e) (clear m k (Aim s e) none))
+pub known : (m : Data) (s : Statement) → IsValid m → IsClear m s → Facts m s
+known m s before (st, k, is, none) = subst (λ x. Facts x s) is (facts st k s (subst IsValid (sym is) before) (clear st k s none))
 
-pub valid_written : (m : Data) (k : ℕ) (c : Constrained) → IsValid m → number_in m k (Constrain c) ≡ None → IsValid (with_written m c)
-valid_written m k c before none = written_valid m c before (facts m k (Constrain c) (clear m k (Constrain c) none))
+pub valid_after : (m : Data) (s : Statement) → IsValid m → is_shaped s ≡ true → IsClear m s → IsValid (after m s)
+valid_after m Empty before shaped clear = before
+valid_after m (Define n d) before shaped clear = define_valid m n d before (and_parts (is_spelt n) true shaped).0 (known m (Define n d) before clear)
+valid_after m (Constrain c) before shaped clear = constrain_valid m c before (and_parts true (passes_if_any has_operands (logic_in (Constrain c))) shaped).1 (known m (Constrain c) before clear)
+valid_after m (Forbid w a f) before shaped clear = before
+valid_after m (Aim s e) before shaped clear = aim_valid m s e before (and_parts true (has_operands e) shaped).1 (known m (Aim s e) before clear)
+
+pub valid_written : (m : Data) (c : Constrained) → IsValid m → IsClear m (Constrain c) → IsValid (with_written m c)
+valid_written m c before clear = written_valid m c before (known m (Constrain c) before clear)

@@ -1,5 +1,5 @@
 -- The model of the statements read so far, and what the code keeps beside it.
-use Rattle.std.specs.Prelude.{◌≡◌, ℕ, ◌+◌, ◌-◌, ◌^◌, min, ℤ, Bool, true, false, List, Option, Some, None, if◌then◌else◌}
+use Rattle.std.specs.Prelude.{◌≡◌, ℕ, ◌+◌, ◌-◌, ◌^◌, min, ℤ, Bool, true, false, not, List, Option, Some, None, if◌then◌else◌}
 use Rattle.std.specs.Str.{bytes_eq}
 use Rattle.std.specs.Map.{lookup}
 use Rattle.sched_model.specs.Data.{Data}
@@ -14,6 +14,7 @@ use Rattle.cpo_elab.specs.declared.flaws.PairFlaw.TheVariants.{Reversed, Outside
 use Rattle.cpo_elab.specs.declared.flaws.AmountFlaw.{AmountFlaw}
 use Rattle.cpo_elab.specs.declared.flaws.AmountFlaw.TheVariants.{Negative, Large}
 use Rattle.cpo_elab.specs.Named.{NameTest, number_of}
+use Rattle.cpo_elab.specs.Stages.{Stage, is_known, is_function}
 use Rattle.cpo_elab.specs.Judged.{is_unknown, is_of_other_sort, is_reversed, is_outside, is_negative, is_large, node_limit}
 
 abbrev pub same_sort : Sort → Sort → Bool
@@ -45,9 +46,14 @@ unfoldable pub plus : ℕ → ℕ → ℕ
 plus a b = min (a + b) (2 ^ 64 - 1)
 
 -- what is asked of a name that is used
-abbrev pub fails : Data → Asked → NameTest
-fails m Known = is_unknown m
-fails m OfItsSort = is_of_other_sort m
+abbrev pub fails : Stage → Asked → NameTest
+fails st Known = is_unknown st
+fails st OfItsSort = is_of_other_sort st.model
+
+-- and of that of a step function
+abbrev pub function_fails : Stage → Asked → List ℕ → Bool
+function_fails st Known n = not (is_known st n)
+function_fails st OfItsSort n = not (is_function st n)
 
 -- what may be wrong with a pair, and with an amount
 abbrev pub is_flawed_pair : PairFlaw → ℤ × ℤ → Bool

@@ -1,17 +1,16 @@
 -- The statements of a text one after another.
 use Rattle.std.specs.Prelude.{◌≡◌, ℕ, ◌+◌, ◌≤◌, Option, Some, None, Result, Ok, Err, ⊤}
-use Rattle.sched_model.specs.Data.{Data, empty_model}
+use Rattle.cpo_elab.specs.Stages.{Stage, empty_stage, reached}
 use Rattle.cpo_text.specs.declared.text.Reading.{Reading}
 use Rattle.cpo_text.specs.declared.text.ReadFault.{ReadFault}
 use Rattle.cpo_text.specs.declared.text.ReadFault.TheVariants as fault
 use Rattle.cpo_text.specs.declared.tree.Statement.{Statement}
-use Rattle.cpo_elab.specs.Elaborated.{after}
 use Rattle.cpo_elab.specs.Judged.{statement_limit, number_in}
 use Rattle.cpo_elab.specs.Answers.{number_at, after_form}
 
--- the model of the statements read so far, and how many there are
+-- what stands behind the statements read so far, and how many there are
 pub record State : Type 0 where
-  pub model : Data
+  pub stage : Stage
   pub statements : ℕ
 
 -- there are not too many statements
@@ -19,19 +18,19 @@ pub record IsInStep (e : State) : Type 0 where
   pub few : e.statements ≤ statement_limit
 
 abbrev pub first_state : State
-first_state = record { model = empty_model; statements = 0 }
+first_state = record { stage = empty_stage; statements = 0 }
 
 -- the number that the next statement deserves
 abbrev pub next_number : State → Reading → Option ℕ
-next_number e x = number_at e.model (e.statements + 1) x.form
+next_number e x = number_at e.stage (e.statements + 1) x.form
 
 abbrev pub next_state : State → Reading → State
-next_state e x = record { model = after_form e.model x.form; statements = e.statements + 1 }
+next_state e x = record { stage = after_form e.stage x.form; statements = e.statements + 1 }
 
 -- one statement more whose words alone deserve no number, or its refusal
 abbrev pub TakesStatement : State → Statement → ℕ → Result State ReadFault → Type 0
-TakesStatement e s at (Ok next) = (number_in e.model (e.statements + 1) s ≡ None) × (next ≡ record { model = after e.model s; statements = e.statements + 1 })
-TakesStatement e s at (Err (fault.Refused r)) = (number_in e.model (e.statements + 1) s ≡ Some r.number) × (r ≡ record { number = r.number; statement = e.statements + 1; at = at })
+TakesStatement e s at (Ok next) = (number_in e.stage (e.statements + 1) s ≡ None) × (next ≡ record { stage = reached e.stage s; statements = e.statements + 1 })
+TakesStatement e s at (Err (fault.Refused r)) = (number_in e.stage (e.statements + 1) s ≡ Some r.number) × (r ≡ record { number = r.number; statement = e.statements + 1; at = at })
 TakesStatement e s at (Err fault.NoMemory) = ⊤
 
 -- one statement more, or its refusal

@@ -1,18 +1,25 @@
 -- Laws of what a statement that deserves no refusal does to a valid model.
-use Rattle.std.specs.Prelude.{◌≡◌, ℕ, None, IsTrue}
-use Rattle.sched_model.specs.Data.{Data}
+use Rattle.std.specs.Prelude.{◌≡◌, ℕ, true, None, IsTrue}
 use Rattle.sched_model.specs.Valid.{IsValid}
 use Rattle.cpo_text.specs.declared.tree.Constrained.{Constrained}
 use Rattle.cpo_text.specs.declared.tree.Statement.{Statement}
 use Rattle.cpo_text.specs.declared.tree.Statement.TheVariants.{Constrain}
-use Rattle.cpo_elab.specs.Elaborated.{after, with_written}
+use Rattle.std.specs.List.{list_all}
+use Rattle.calendar.specs.Steps.{are_steps}
+use Rattle.cpo_elab.specs.Elaborated.{with_written}
+use Rattle.cpo_elab.specs.Stages.{Stage, reached}
 use Rattle.cpo_elab.specs.Judged.{number_in}
 use Rattle.cpo_elab.specs.Shaped.{is_shaped}
 
--- the model stays valid with the statement
+-- the model is valid, and the step functions beside it are such
+pub record IsStage (st : Stage) : Type 0 where
+  pub valid : IsValid st.model
+  pub steps : list_all (λ f. are_steps f.1) st.steps ≡ true
+
+-- both stay so with the statement
 abbrev pub StatementsKeepValid : Type 0
-StatementsKeepValid = (m : Data) (k : ℕ) (s : Statement) → IsValid m → IsTrue (is_shaped s) → number_in m k s ≡ None → IsValid (after m s)
+StatementsKeepValid = (st : Stage) (k : ℕ) (s : Statement) → IsStage st → IsTrue (is_shaped s) → number_in st k s ≡ None → IsStage (reached st s)
 
 -- and already with what a constraint writes without a name
 abbrev pub WrittenKeepsValid : Type 0
-WrittenKeepsValid = (m : Data) (k : ℕ) (c : Constrained) → IsValid m → number_in m k (Constrain c) ≡ None → IsValid (with_written m c)
+WrittenKeepsValid = (st : Stage) (k : ℕ) (c : Constrained) → IsValid st.model → number_in st k (Constrain c) ≡ None → IsValid (with_written st.model c)

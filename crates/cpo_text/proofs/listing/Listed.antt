@@ -4,15 +4,17 @@ use Rattle.std.specs.Prelude.{codes, Result, Ok, Err, IfOk}
 use Rattle.cpo_text.specs.Words.{Word, size_word, commas, square}
 use Rattle.cpo_text.specs.Words.Word.{sign}
 use Rattle.cpo_text.specs.Parts.{minus_words, int_words, name_words, names_words, ints_words}
-use Rattle.cpo_text.specs.code.Rules.{Found, bound, behind, if_behind, name_at, int_at}
-use Rattle.cpo_text.specs.code.Lists.{after, items_more, items_at, listed_at, names_at, ints_at, rows_at}
+use Rattle.cpo_text.specs.Spelling.{step_words}
+use Rattle.cpo_text.specs.code.Rules.{Found, bound, behind, if_behind, name_at, int_at, int_before}
+use Rattle.cpo_text.specs.code.Lists.{after, items_more, items_at, listed_at, names_at, ints_at, rows_at, step_at, steps_at}
 use Rattle.cpo_text.specs.code.Gives.{ahead, Gives}
 use Rattle.cpo_text.specs.declared.fault.Fault.{Fault}
 use Rattle.cpo_text.specs.declared.place.Place.{Place}
 use Rattle.cpo_text.specs.declared.tree.Int.{Int}
-use Rattle.cpo_text.proofs.operands.Binds.{bound_parts, need_parts, some_pair, behind_takes, name_takes}
-use Rattle.cpo_text.proofs.operands.Takes.{int_takes}
-use Rattle.cpo_text.proofs.stating.Again.{int_again}
+use Rattle.cpo_text.specs.declared.tree.StepPair.{StepPair}
+use Rattle.cpo_text.proofs.operands.Binds.{both, bound_parts, need_parts, some_pair, behind_takes, name_takes}
+use Rattle.cpo_text.proofs.operands.Takes.{int_takes, int_before_takes}
+use Rattle.cpo_text.proofs.stating.Again.{int_again, int_before_again}
 
 -- what is read is spelled so, and what is spelled so is read, whatever follows; it is no bracket that ends a list
 pub record Spells {X : Type 0} (read : List Word → Found X) (spell : X → List Word) : Type 0 where
@@ -144,3 +146,37 @@ ints_spells = listed_spells int_at int_words int_spells
 pub rows_spells : Spells rows_at (λ rows. square (map ints_words rows))
 unfolding rows_at
 rows_spells = listed_spells ints_at ints_words ints_spells
+
+-- moments and values
+
+two_words : (x y rest : List Word) → sign (codes "[") ∷ (x ++ sign (codes ",") ∷ (y ++ sign (codes "]") ∷ rest)) ≡ square (x ∷ y ∷ []) ++ rest
+two_words x y rest = ap (λ xs. sign (codes "[") ∷ xs)
+    (ap (λ xs. x ++ sign (codes ",") ∷ xs) (sym (append_assoc y (sign (codes "]") ∷ []) rest))
+    ∙ sym (append_assoc x (sign (codes ",") ∷ (y ++ sign (codes "]") ∷ [])) rest)
+    ∙ ap (λ xs. xs ++ rest) (sym (append_assoc x (sign (codes ",") ∷ y) (sign (codes "]") ∷ []))))
+
+step_takes : (ws : List Word) (x : StepPair) (rest : List Word) → step_at ws ≡ Some (x, rest) → ws ≡ step_words x ++ rest
+unfolding step_at
+step_takes ws x rest h =
+    let p = need_parts (behind (codes "[") ws) _ x rest h in
+    let t = bound_parts (int_before (codes ",") p.words) _ x rest p.then in
+    let v = bound_parts (int_before (codes "]") t.words) _ x rest t.then in
+    let made : StepPair = record { moment = t.tree; value = v.tree } in
+    let e = some_pair made x v.words rest v.then in
+    behind_takes (codes "[") ws p.words p.first
+    ∙ ap (λ xs. sign (codes "[") ∷ xs) (int_before_takes (codes ",") p.words t.tree t.words t.first ∙ ap (λ xs. int_words t.tree ++ sign (codes ",") ∷ xs) (int_before_takes (codes "]") t.words v.tree v.words v.first))
+    ∙ two_words (int_words t.tree) (int_words v.tree) v.words
+    ∙ both (λ y xs. step_words y ++ xs) e.0 e.1
+
+step_again : (x : StepPair) (rest : List Word) → step_at (step_words x ++ rest) ≡ Some (x, rest)
+unfolding step_at
+step_again x rest =
+    ap step_at (sym (two_words (int_words x.moment) (int_words x.value) rest))
+    ∙ rw (int_before_again (codes ",") x.moment (int_words x.value ++ sign (codes "]") ∷ rest)) (rw (int_before_again (codes "]") x.value rest) refl)
+
+pub step_spells : Spells step_at step_words
+step_spells = record { takes = step_takes; again = step_again; inner = λ x rest. refl; long = λ x. omega arith }
+
+pub steps_spells : Spells steps_at (λ ps. square (map step_words ps))
+unfolding steps_at
+steps_spells = listed_spells step_at step_words step_spells

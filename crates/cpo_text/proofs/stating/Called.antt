@@ -1,16 +1,17 @@
 -- What is read as a call is spelled so.
-use Rattle.std.proofs.Common.{◌≡◌, ℕ, ◌==◌, Bool, true, false, cond, List, [], ◌∷◌, ◌++◌, map, Option, Some, None, refl, sym, ap, subst, ◌∙◌, append_assoc, append-nil}
+use Rattle.std.proofs.Common.{◌≡◌, ℕ, ◌==◌, Bool, true, false, cond, List, [], ◌∷◌, ◌++◌, map, length, nat_le, Option, Some, None, refl, sym, ap, subst, ◌∙◌, append_assoc, append-nil}
 use Rattle.std.specs.Prelude.{codes, bytes_eq, option_to_list}
 use Rattle.std.proofs.lemmas.Bool.{eqb-true}
 use Rattle.cpo_text.specs.Words.{Word, commas, square, round}
 use Rattle.cpo_text.specs.Words.Word.{name, number, large, sign, quoted}
-use Rattle.cpo_text.specs.Spelling.{int_words, name_words, names_words, ints_words, flag_words, given, types_items, definition_words, hierarchy_word, extreme_word, order_word, over_words, spaced_items, aligned_items, constraint_words, is_formed}
+use Rattle.cpo_text.specs.Spelling.{int_words, name_words, names_words, ints_words, flag_words, given, types_items, step_words, definition_words, hierarchy_word, extreme_word, order_word, over_words, spaced_items, aligned_items, constraint_words, is_formed}
 use Rattle.cpo_text.specs.code.Rules.{Found, bound, behind, if_behind, name_at, int_at}
-use Rattle.cpo_text.specs.code.Lists.{names_at, ints_at, rows_at}
-use Rattle.cpo_text.specs.code.Calls.{maybe_at, flag_at, types_given_at, types_at, sequence_at, matrix_at, state_function_at, parts_at, over_at, direct_at, spaced_at, spacing_at, no_overlap_at, pair_at, extreme_at, ordered_at, flags_at, aligned_at, always_equal_at, always_no_state_at}
+use Rattle.cpo_text.specs.code.Lists.{names_at, ints_at, rows_at, steps_at}
+use Rattle.cpo_text.specs.code.Calls.{maybe_at, flag_at, types_given_at, types_at, sequence_at, matrix_at, state_function_at, step_function_at, parts_at, over_at, direct_at, spaced_at, spacing_at, no_overlap_at, pair_at, extreme_at, ordered_at, flags_at, aligned_at, always_equal_at, always_no_state_at}
 use Rattle.cpo_text.specs.declared.tree.Int.{Int}
+use Rattle.cpo_text.specs.declared.tree.StepPair.{StepPair}
 use Rattle.cpo_text.specs.declared.tree.Definition.{Definition}
-use Rattle.cpo_text.specs.declared.tree.Definition.TheVariants.{SequenceVar, TransitionMatrix, StateFunction}
+use Rattle.cpo_text.specs.declared.tree.Definition.TheVariants.{SequenceVar, TransitionMatrix, StateFunction, StepFunction}
 use Rattle.cpo_text.specs.declared.tree.Hierarchy.{Hierarchy}
 use Rattle.cpo_text.specs.declared.tree.Over.{Over}
 use Rattle.cpo_text.specs.declared.tree.Over.TheVariants.{Named, Listed}
@@ -22,7 +23,7 @@ use Rattle.cpo_text.specs.declared.tree.Constrained.TheVariants as constrained
 use Rattle.cpo_text.specs.declared.tree.Statement.TheVariants.{Define, Constrain}
 use Rattle.cpo_text.proofs.operands.Binds.{both, bound_parts, need_parts, some_pair, bytes_same, behind_takes, name_takes}
 use Rattle.cpo_text.proofs.operands.Takes.{int_takes}
-use Rattle.cpo_text.proofs.listing.Listed.{names_spells, ints_spells, rows_spells}
+use Rattle.cpo_text.proofs.listing.Listed.{names_spells, ints_spells, rows_spells, steps_spells}
 
 -- words in a row
 
@@ -163,6 +164,22 @@ state_function_takes ws d rest h =
         let words : ws ≡ round (name_words m.tree) ++ rest = closed_words ws r (name_words m.tree) m.words q.words rest begun (name_takes r m.tree m.words m.first) (behind_takes (codes ")") m.words q.words q.first) e.1 in
         subst (λ x. IsDefinition (codes "stateFunction") ws x rest) e.0 (λ n. refl, ap (λ xs. name (codes "stateFunction") ∷ xs) words)
 
+pub step_function_takes : (ws : List Word) (d : Definition) (rest : List Word) → step_function_at ws ≡ Some (d, rest) → IsDefinition (codes "stepFunction") ws d rest
+unfolding step_function_at
+step_function_takes ws d rest h =
+    let p = need_parts (behind (codes "(") ws) _ d rest h in
+    let m = bound_parts (steps_at p.words) _ d rest p.then in
+    by_count p.words m.tree m.words (behind_takes (codes "(") ws p.words p.first) (steps_spells.takes p.words m.tree m.words m.first) (nat_le 1 (length m.tree)) refl m.then
+  where
+    by_count : (r : List Word) (ps : List StepPair) (r2 : List Word) → ws ≡ sign (codes "(") ∷ r → r ≡ square (map step_words ps) ++ r2 → (t : Bool) → nat_le 1 (length ps) ≡ t
+        → cond t (if_behind (behind (codes ")") r2) (λ r3. Some (StepFunction ps, r3)) None) None ≡ Some (d, rest) → IsDefinition (codes "stepFunction") ws d rest
+    by_count r ps r2 begun pairs false some h = cc
+    by_count r ps r2 begun pairs true some h =
+        let q = need_parts (behind (codes ")") r2) _ d rest h in
+        let e = some_pair (StepFunction ps) d q.words rest q.then in
+        let words : ws ≡ round (square (map step_words ps)) ++ rest = closed_words ws r (square (map step_words ps)) r2 q.words rest begun pairs (behind_takes (codes ")") r2 q.words q.first) e.1 in
+        subst (λ x. IsDefinition (codes "stepFunction") ws x rest) e.0 (λ n. some, ap (λ xs. name (codes "stepFunction") ∷ xs) words)
+
 -- constraints
 
 -- a name and a comma
@@ -239,7 +256,7 @@ no_overlap_takes ws c rest h =
     (inner ∙ ap (λ xs. xs ++ s.words) (sym (no_overlap_words n.tree s.tree))) (behind_takes (codes ")") s.words r.words r.first) e.1 in
     subst (λ x. IsConstraint (codes "noOverlap") ws x rest) e.0 (refl, ap (λ xs. name (codes "noOverlap") ∷ xs) words)
 
-pair_takes : (ws : List Word) (x : List ℕ × List ℕ) (rest : List Word) → pair_at ws ≡ Some (x, rest) → ws ≡ round (commas (name_words x.0 ∷ name_words x.1 ∷ [])) ++ rest
+pub pair_takes : (ws : List Word) (x : List ℕ × List ℕ) (rest : List Word) → pair_at ws ≡ Some (x, rest) → ws ≡ round (commas (name_words x.0 ∷ name_words x.1 ∷ [])) ++ rest
 unfolding pair_at
 pair_takes ws x rest h =
     let p = need_parts (behind (codes "(") ws) _ x rest h in

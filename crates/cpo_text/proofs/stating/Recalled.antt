@@ -1,13 +1,14 @@
 -- What is spelled as a call is read as that call, whatever follows.
-use Rattle.std.proofs.Common.{◌≡◌, ℕ, Bool, true, false, List, [], ◌∷◌, ◌++◌, map, Option, Some, None, refl, ap, ◌∙◌, append_assoc}
+use Rattle.std.proofs.Common.{◌≡◌, ℕ, Bool, true, false, List, [], ◌∷◌, ◌++◌, map, length, nat_le, Option, Some, None, refl, ap, ◌∙◌, append_assoc}
 use Rattle.std.specs.Prelude.{codes, option_to_list}
 use Rattle.cpo_text.specs.Words.{Word, commas, square, round}
 use Rattle.cpo_text.specs.Words.Word.{name, sign}
-use Rattle.cpo_text.specs.Spelling.{int_words, name_words, names_words, ints_words, flag_words, types_items, over_words, spaced_items, aligned_items}
+use Rattle.cpo_text.specs.Spelling.{int_words, name_words, names_words, ints_words, flag_words, types_items, step_words, over_words, spaced_items, aligned_items}
 use Rattle.cpo_text.specs.code.Rules.{Found, behind}
-use Rattle.cpo_text.specs.code.Calls.{maybe_at, flag_at, types_given_at, types_at, sequence_at, matrix_at, state_function_at, parts_at, over_at, direct_at, spaced_at, spacing_at, no_overlap_at, pair_at, extreme_at, ordered_at, flags_at, aligned_at, always_equal_at, always_no_state_at}
+use Rattle.cpo_text.specs.code.Calls.{maybe_at, flag_at, types_given_at, types_at, sequence_at, matrix_at, state_function_at, step_function_at, parts_at, over_at, direct_at, spaced_at, spacing_at, no_overlap_at, pair_at, extreme_at, ordered_at, flags_at, aligned_at, always_equal_at, always_no_state_at}
 use Rattle.cpo_text.specs.declared.tree.Int.{Int}
-use Rattle.cpo_text.specs.declared.tree.Definition.TheVariants.{SequenceVar, TransitionMatrix, StateFunction}
+use Rattle.cpo_text.specs.declared.tree.StepPair.{StepPair}
+use Rattle.cpo_text.specs.declared.tree.Definition.TheVariants.{SequenceVar, TransitionMatrix, StateFunction, StepFunction}
 use Rattle.cpo_text.specs.declared.tree.Hierarchy.{Hierarchy}
 use Rattle.cpo_text.specs.declared.tree.Over.{Over}
 use Rattle.cpo_text.specs.declared.tree.Over.TheVariants.{Named, Listed}
@@ -16,7 +17,7 @@ use Rattle.cpo_text.specs.declared.tree.Extreme.{Extreme}
 use Rattle.cpo_text.specs.declared.tree.Order.{Order}
 use Rattle.cpo_text.specs.declared.tree.Constrained.TheVariants as constrained
 use Rattle.cpo_text.proofs.stating.Again.{int_again}
-use Rattle.cpo_text.proofs.listing.Listed.{names_spells, ints_spells, rows_spells}
+use Rattle.cpo_text.proofs.listing.Listed.{names_spells, ints_spells, rows_spells, steps_spells}
 use Rattle.cpo_text.proofs.stating.Called.{maybe_words, flags_words, types_words, spaced_words, sequence_words, no_overlap_words, state_words}
 
 -- the closing bracket and what follows
@@ -73,6 +74,10 @@ unfolding state_function_at
 state_function_again None rest = refl
 state_function_again (Some m) rest = refl
 
+pub step_function_again : (ps : List StepPair) (rest : List Word) → nat_le 1 (length ps) ≡ true → step_function_at (round (commas (square (map step_words ps) ∷ [])) ++ rest) ≡ Some (StepFunction ps, rest)
+unfolding step_function_at
+step_function_again ps rest some = ap step_function_at (opened (square (map step_words ps)) rest) ∙ rw (steps_spells.again ps (close rest)) (rw some refl)
+
 -- constraints
 
 pub parts_again : (t : Hierarchy) (a : List ℕ) (ns : List (List ℕ)) (rest : List Word) → parts_at t (round (commas (name_words a ∷ names_words ns ∷ [])) ++ rest) ≡ Some (constrained.Parts t a ns, rest)
@@ -98,7 +103,7 @@ no_overlap_again p o rest =
     ap no_overlap_at (opened_two (commas (over_words p ∷ spaced_items o)) (over_words p) (maybe_words spaced_words o) rest (no_overlap_words p o))
     ∙ rw (over_again p (maybe_words spaced_words o ++ close rest)) (rw (spacing_again o rest) refl)
 
-pair_again : (a b : List ℕ) (rest : List Word) → pair_at (round (commas (name_words a ∷ name_words b ∷ [])) ++ rest) ≡ Some ((a, b), rest)
+pub pair_again : (a b : List ℕ) (rest : List Word) → pair_at (round (commas (name_words a ∷ name_words b ∷ [])) ++ rest) ≡ Some ((a, b), rest)
 unfolding pair_at
 pair_again a b rest = refl
 

@@ -5,10 +5,10 @@ use Rattle.cpo_text.specs.Words.{Word, is_sign, between, commas, round}
 use Rattle.cpo_text.specs.Words.Word.{name, number, large, sign, quoted}
 use Rattle.cpo_text.specs.Expressions.{measure_word, gather_word, link_sign, link_level, sum_words, logic_step, logic_words, level_step, level, at_least, all_at_least, are_many, is_logic}
 use Rattle.cpo_text.specs.Cumulative.{cumul_words}
-use Rattle.cpo_text.specs.Spelling.{int_words, int_items, name_words, names_words, over_words, spaced_items, moments_items, aligned_items, bound_sign, definition_words, constraint_words, sense_word, statement_body, spelling, is_formed}
+use Rattle.cpo_text.specs.Spelling.{int_words, int_items, name_words, names_words, over_words, spaced_items, moments_items, aligned_items, bound_sign, definition_words, constraint_words, forbidden_word, sense_word, statement_body, spelling, is_formed}
 use Rattle.cpo_text.specs.code.Rules.{behind, if_found, name_at, name_before}
 use Rattle.cpo_text.specs.code.CallWords.{is_call, definition_word_at, behind_minus, begins_part, begins_cumul}
-use Rattle.cpo_text.specs.code.Statements.{one_of, logic_at, holds_at, aim_at, defined_at, definition_at, constraint_at, called_at, named_at, clause_at, body_at, statement_at}
+use Rattle.cpo_text.specs.code.Statements.{one_of, logic_at, holds_at, aim_at, defined_at, definition_at, constraint_at, forbid_at, called_at, named_at, clause_at, body_at, statement_at}
 use Rattle.cpo_text.specs.declared.expression.Measure.{Measure}
 use Rattle.cpo_text.specs.declared.expression.Measure.TheVariants.{StartOf, EndOf, SizeOf, LengthOf}
 use Rattle.cpo_text.specs.declared.expression.Gather.{Gather}
@@ -22,19 +22,20 @@ use Rattle.cpo_text.specs.declared.call_words.DefinitionWord.TheVariants as word
 use Rattle.cpo_text.specs.declared.call_words.ConstraintWord.{ConstraintWord}
 use Rattle.cpo_text.specs.declared.call_words.ConstraintWord.TheVariants as words
 use Rattle.cpo_text.specs.declared.tree.Definition.{Definition}
-use Rattle.cpo_text.specs.declared.tree.Definition.TheVariants.{IntervalVar, SequenceVar, TransitionMatrix, StateFunction, Cumulative}
+use Rattle.cpo_text.specs.declared.tree.Definition.TheVariants.{IntervalVar, SequenceVar, TransitionMatrix, StateFunction, StepFunction, Cumulative}
 use Rattle.cpo_text.specs.declared.tree.Moments.{Moments}
 use Rattle.cpo_text.specs.declared.tree.Moments.TheVariants.{From, During}
 use Rattle.cpo_text.specs.declared.tree.Constrained.{Constrained}
 use Rattle.cpo_text.specs.declared.tree.Constrained.TheVariants as constrained
+use Rattle.cpo_text.specs.declared.tree.Forbidden.{Forbidden}
 use Rattle.cpo_text.specs.declared.tree.Sense.{Sense}
 use Rattle.cpo_text.specs.declared.tree.Statement.{Statement}
-use Rattle.cpo_text.specs.declared.tree.Statement.TheVariants.{Empty, Define, Constrain, Aim}
+use Rattle.cpo_text.specs.declared.tree.Statement.TheVariants.{Empty, Define, Constrain, Forbid, Aim}
 use Rattle.cpo_text.proofs.operands.Binds.{sign_same}
 use Rattle.cpo_text.proofs.stating.Again.{interval_again, between_again}
-use Rattle.cpo_text.proofs.stating.Tables.{definition_name, definition_found, part_no_call, constraint_name, IsOther, constraint_other, constraint_found, sense_other, sense_found}
+use Rattle.cpo_text.proofs.stating.Tables.{definition_name, definition_found, part_no_call, constraint_name, IsOther, constraint_other, constraint_found, sense_other, sense_found, forbidden_other, forbidden_found}
 use Rattle.cpo_text.proofs.levelled.PartsAgain.{cumul_again, cumul_long, cumul_sign, cumul_begins, cumul_undefined, cumul_no_definition, bound_after, bound_no_equals, bounded_again, always_in_again}
-use Rattle.cpo_text.proofs.stating.Recalled.{sequence_again, matrix_again, state_function_again, parts_again, no_overlap_again, extreme_again, ordered_again, always_equal_again, always_no_state_again}
+use Rattle.cpo_text.proofs.stating.Recalled.{sequence_again, matrix_again, state_function_again, step_function_again, parts_again, no_overlap_again, pair_again, extreme_again, ordered_again, always_equal_again, always_no_state_again}
 use Rattle.cpo_text.proofs.operands.Nodes.{and_first, and_second, is_so}
 use Rattle.cpo_text.proofs.operands.Openings.{front_between, front_sum}
 use Rattle.cpo_text.proofs.operands.Ends.{signs, ends}
@@ -219,6 +220,7 @@ definition_again f n (IntervalVar args) rest formed big = rw (definition_word_ag
 definition_again f n (SequenceVar ns types) rest formed big = rw (definition_word_again word.SequenceVar _) (sequence_again ns types (sign (codes ";") ∷ rest))
 definition_again f n (TransitionMatrix rows) rest formed big = rw (definition_word_again word.TransitionMatrix _) (matrix_again rows (sign (codes ";") ∷ rest))
 definition_again f n (StateFunction m) rest formed big = rw (definition_word_again word.StateFunction _) (state_function_again m (sign (codes ";") ∷ rest))
+definition_again f n (StepFunction ps) rest formed big = rw (definition_word_again word.StepFunction _) (step_function_again ps (sign (codes ";") ∷ rest) formed)
 definition_again f n (Cumulative c) rest formed big =
     let got = cumul_again f c (sign (codes ";") ∷ rest) (let long = cumul_long c in omega arith) (record { joint = refl; bracket = refl }) in
     rw (cumul_no_definition c (sign (codes ";") ∷ rest) refl) (rw got refl)
@@ -246,6 +248,14 @@ call_again f w c inner rest got =
 aim_called : (f : ℕ) (s : Sense) (e : Logic) (rest : List Word) → is_logic e ≡ true → 20 * length (logic_words e) + 11 ≤ f → called_at f (sense_word s) (round (logic_words e) ++ rest) ≡ Some (Aim s e, rest)
 unfolding called_at
 aim_called f s e rest tight big = let found = sense_found s in rw (found.0, found.1) (aim_again f s e rest tight big)
+
+forbid_again : (w : Forbidden) (a s : List ℕ) (rest : List Word) → forbid_at w (round (commas (name_words a ∷ name_words s ∷ [])) ++ rest) ≡ Some (Forbid w a s, rest)
+unfolding forbid_at
+forbid_again w a s rest = rw (pair_again a s rest) refl
+
+forbid_called : (f : ℕ) (w : Forbidden) (a s : List ℕ) (rest : List Word) → called_at f (forbidden_word w) (round (commas (name_words a ∷ name_words s ∷ [])) ++ rest) ≡ Some (Forbid w a s, rest)
+unfolding called_at
+forbid_called f w a s rest = let found = forbidden_found w in rw (found.constraint, found.sense, found.found) (forbid_again w a s rest)
 
 first_long : (x y : List Word) (ys : List (List Word)) → length x ≤ length (commas (x ∷ y ∷ ys))
 first_long x y ys = omega (arith, length-append x (sign (codes ",") ∷ commas (y ∷ ys)))
@@ -290,6 +300,9 @@ unfolding body_at name_before
 body_again f Empty rest formed big some = absurd (some refl)
 body_again f (Define n d) rest formed big some = let got = definition_again f n d rest formed (omega arith) in rw got refl
 body_again f (Constrain c) rest formed big some = constraint_again f c rest formed big
+body_again f (Forbid w a s) rest formed big some =
+    let r : List Word = (commas (name_words a ∷ name_words s ∷ []) ++ sign (codes ")") ∷ []) ++ sign (codes ";") ∷ rest in
+    call_body f (forbidden_word w) r ∙ call_clause f (forbidden_word w) r (forbidden_other w) ∙ forbid_called f w a s (sign (codes ";") ∷ rest)
 body_again f (Aim s e) rest formed big some =
     let size = length-append (logic_words e) (sign (codes ")") ∷ []) in
     let r : List Word = (logic_words e ++ sign (codes ")") ∷ []) ++ sign (codes ";") ∷ rest in
@@ -313,6 +326,7 @@ body_open : (s : Statement) (rest : List Word) → is_formed s ≡ true → (s �
 body_open Empty rest formed some = absurd (some refl)
 body_open (Define n d) rest formed some = refl
 body_open (Constrain c) rest formed some = constraint_open c rest formed
+body_open (Forbid w a s) rest formed some = refl
 body_open (Aim s e) rest formed some = refl
 
 some_again : (f : ℕ) (s : Statement) (rest : List Word) → is_formed s ≡ true → 20 * length (statement_body s) + 11 ≤ f → (s ≡ Empty → ⊥) → statement_at f (spelling s ++ rest) ≡ Some (s, rest)
@@ -328,4 +342,5 @@ unfolding statement_at
 statement_again f Empty rest formed big = refl
 statement_again f (Define n d) rest formed big = some_again f (Define n d) rest formed (let size = length-append (statement_body (Define n d)) (sign (codes ";") ∷ []) in omega arith) (λ e. cc e)
 statement_again f (Constrain c) rest formed big = some_again f (Constrain c) rest formed (let size = length-append (statement_body (Constrain c)) (sign (codes ";") ∷ []) in omega arith) (λ e. cc e)
+statement_again f (Forbid w a x) rest formed big = some_again f (Forbid w a x) rest formed (let size = length-append (statement_body (Forbid w a x)) (sign (codes ";") ∷ []) in omega arith) (λ e. cc e)
 statement_again f (Aim s x) rest formed big = some_again f (Aim s x) rest formed (let size = length-append (statement_body (Aim s x)) (sign (codes ";") ∷ []) in omega arith) (λ e. cc e)

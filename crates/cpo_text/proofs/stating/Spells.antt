@@ -1,17 +1,18 @@
 -- What is read as a statement is the spelling of that statement.
 use Rattle.std.proofs.Common.{◌≡◌, ℕ, Bool, true, false, cond, List, [], ◌∷◌, ◌++◌, Option, Some, None, refl, sym, ap, subst, ◌∙◌, append_assoc}
 use Rattle.std.specs.Prelude.{codes}
-use Rattle.cpo_text.specs.Words.{Word, round}
+use Rattle.cpo_text.specs.Words.{Word, commas, round}
 use Rattle.cpo_text.specs.Words.Word.{name, sign}
 use Rattle.cpo_text.specs.Expressions.{logic_words, is_logic}
 use Rattle.cpo_text.specs.Cumulative.{cumul_words}
-use Rattle.cpo_text.specs.Spelling.{definition_words, constraint_words, sense_word, statement_body, spelling, is_formed}
+use Rattle.cpo_text.specs.Spelling.{name_words, definition_words, constraint_words, forbidden_word, sense_word, statement_body, spelling, is_formed}
 use Rattle.cpo_text.specs.code.Rules.{Found, bound, behind, if_behind, if_found, with_rest, find_word, name_at, name_before, int_behind, between_at}
 use Rattle.cpo_text.specs.code.Levels.{Trees, read}
 use Rattle.cpo_text.specs.code.Levels.Task.{logic}
-use Rattle.cpo_text.specs.code.CallWords.{definitions, senses, constraint_of, is_call, definition_word_at, begins_cumul}
+use Rattle.cpo_text.specs.code.CallWords.{definitions, senses, prohibitions, constraint_of, is_call, definition_word_at, begins_cumul}
+use Rattle.cpo_text.specs.code.Calls.{pair_at}
 use Rattle.cpo_text.specs.code.Contributions.{cumul_at, bounded_at}
-use Rattle.cpo_text.specs.code.Statements.{one_of, logic_at, holds_at, aim_at, defined_at, definition_at, constraint_at, by_constraint, called_at, named_at, clause_at, body_at, statement_at}
+use Rattle.cpo_text.specs.code.Statements.{one_of, logic_at, holds_at, aim_at, defined_at, definition_at, constraint_at, forbid_at, by_constraint, called_at, named_at, clause_at, body_at, statement_at}
 use Rattle.cpo_text.specs.declared.expression.Logic.{Logic}
 use Rattle.cpo_text.specs.declared.call_words.DefinitionWord.{DefinitionWord}
 use Rattle.cpo_text.specs.declared.call_words.DefinitionWord.TheVariants as definition
@@ -22,16 +23,17 @@ use Rattle.cpo_text.specs.declared.tree.Definition.{Definition}
 use Rattle.cpo_text.specs.declared.tree.Definition.TheVariants.{Cumulative}
 use Rattle.cpo_text.specs.declared.tree.Constrained.{Constrained}
 use Rattle.cpo_text.specs.declared.tree.Constrained.TheVariants.{Between, Holds}
+use Rattle.cpo_text.specs.declared.tree.Forbidden.{Forbidden}
 use Rattle.cpo_text.specs.declared.tree.Sense.{Sense}
 use Rattle.cpo_text.specs.declared.tree.Statement.{Statement}
-use Rattle.cpo_text.specs.declared.tree.Statement.TheVariants.{Empty, Define, Constrain, Aim}
+use Rattle.cpo_text.specs.declared.tree.Statement.TheVariants.{Empty, Define, Constrain, Forbid, Aim}
 use Rattle.cpo_text.proofs.operands.Binds.{both, bound_parts, need_parts, some_pair, behind_takes, name_takes}
 use Rattle.cpo_text.proofs.operands.Takes.{name_before_takes}
 use Rattle.cpo_text.proofs.stating.Spelt.{interval_defined, IsSpelt, between_takes}
 use Rattle.cpo_text.proofs.operands.Takings.{takes}
-use Rattle.cpo_text.proofs.stating.Tables.{found_is, definition_name, definition_table, constraint_name, constraint_is, sense_table}
+use Rattle.cpo_text.proofs.stating.Tables.{found_is, definition_name, definition_table, constraint_name, constraint_is, sense_table, prohibition_table}
 use Rattle.cpo_text.proofs.levelled.PartsTaken.{cumul_takes, bounded_takes, always_in_takes}
-use Rattle.cpo_text.proofs.stating.Called.{IsDefinition, IsConstraint, sequence_takes, matrix_takes, state_function_takes, parts_takes, no_overlap_takes, extreme_takes, ordered_takes, always_equal_takes, always_no_state_takes}
+use Rattle.cpo_text.proofs.stating.Called.{IsDefinition, IsConstraint, sequence_takes, matrix_takes, state_function_takes, step_function_takes, parts_takes, no_overlap_takes, pair_takes, extreme_takes, ordered_takes, always_equal_takes, always_no_state_takes}
 
 pub logic_takes : (f : ℕ) (ws : List Word) (e : Logic) (rest : List Word) → logic_at f ws ≡ Some (e, rest) → (is_logic e ≡ true) × (ws ≡ logic_words e ++ rest)
 unfolding logic_at
@@ -101,6 +103,7 @@ defined_takes definition.IntervalVar ws d rest h = interval_defined ws d rest h
 defined_takes definition.SequenceVar ws d rest h = sequence_takes ws d rest h
 defined_takes definition.TransitionMatrix ws d rest h = matrix_takes ws d rest h
 defined_takes definition.StateFunction ws d rest h = state_function_takes ws d rest h
+defined_takes definition.StepFunction ws d rest h = step_function_takes ws d rest h
 
 abbrev Defines : Definition → List Word → List Word → Type 0
 Defines d ws rest = ((n : List ℕ) → is_formed (Define n d) ≡ true) × (ws ≡ definition_words d ++ rest)
@@ -129,18 +132,27 @@ constraint_takes f word.AlwaysIn ws c rest h = always_in_takes f ws c rest h
 constraint_takes f word.AlwaysEqual ws c rest h = always_equal_takes ws c rest h
 constraint_takes f word.AlwaysNoState ws c rest h = always_no_state_takes ws c rest h
 
+forbid_takes : (w : Forbidden) (ws : List Word) (x : Statement) (rest : List Word) → forbid_at w ws ≡ Some (x, rest) → IsSpelt x (name (forbidden_word w) ∷ ws) rest
+unfolding forbid_at
+forbid_takes w ws x rest h =
+    let p = bound_parts (pair_at ws) _ x rest h in
+    let e = some_pair (Forbid w p.tree.0 p.tree.1) x p.words rest p.then in
+    subst (λ y. IsSpelt y (name (forbidden_word w) ∷ ws) rest) e.0
+    (refl, ap (λ xs. name (forbidden_word w) ∷ xs) (pair_takes ws p.tree p.words p.first ∙ ap (λ xs. round (commas (name_words p.tree.0 ∷ name_words p.tree.1 ∷ [])) ++ xs) e.1))
+
 called_takes : (f : ℕ) (n : List ℕ) (ws : List Word) (x : Statement) (rest : List Word) → called_at f n ws ≡ Some (x, rest) → IsSpelt x (name n ∷ ws) rest
 unfolding called_at
-called_takes f n ws x rest h = by_word (constraint_of n) refl (find_word senses n) refl h
+called_takes f n ws x rest h = by_word (constraint_of n) refl (find_word senses n) refl (find_word prohibitions n) refl h
   where
-    by_word : (w : Option ConstraintWord) → constraint_of n ≡ w → (s : Option Sense) → find_word senses n ≡ s → by_constraint f w s ws ≡ Some (x, rest) → IsSpelt x (name n ∷ ws) rest
-    by_word (Some w) is s e h =
+    by_word : (w : Option ConstraintWord) → constraint_of n ≡ w → (s : Option Sense) → find_word senses n ≡ s → (o : Option Forbidden) → find_word prohibitions n ≡ o → by_constraint f w s o ws ≡ Some (x, rest) → IsSpelt x (name n ∷ ws) rest
+    by_word (Some w) is s e o i h =
         let p = bound_parts (constraint_at f w ws) _ x rest h in
         let same = some_pair (Constrain p.tree) x p.words rest p.then in
         let t = constraint_takes f w ws p.tree p.words p.first in
         subst (λ y. IsSpelt y (name n ∷ ws) rest) same.0 (t.0, ap (λ y. name y ∷ ws) (constraint_is n w is) ∙ t.1 ∙ ap (λ xs. constraint_words p.tree ++ xs) same.1)
-    by_word None is (Some s) e h = subst (λ y. IsSpelt x (name y ∷ ws) rest) (sym (found_is sense_word senses sense_table n s e)) (aim_takes f s ws x rest h)
-    by_word None is None e h = cc
+    by_word None is (Some s) e o i h = subst (λ y. IsSpelt x (name y ∷ ws) rest) (sym (found_is sense_word senses sense_table n s e)) (aim_takes f s ws x rest h)
+    by_word None is None e (Some o) i h = subst (λ y. IsSpelt x (name y ∷ ws) rest) (sym (found_is forbidden_word prohibitions prohibition_table n o i)) (forbid_takes o ws x rest h)
+    by_word None is None e None i h = cc
 
 clause_takes : (f : ℕ) (ws : List Word) (x : Statement) (rest : List Word) → clause_at f ws ≡ Some (x, rest) → IsSpelt x ws rest
 unfolding clause_at named_at

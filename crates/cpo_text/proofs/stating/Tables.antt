@@ -4,9 +4,9 @@ use Rattle.std.specs.Prelude.{codes, bytes_eq, if◌then◌else◌, is_some, ⊤
 use Rattle.std.proofs.lemmas.Option.{same_Some}
 use Rattle.cpo_text.specs.Words.{Word}
 use Rattle.cpo_text.specs.Words.Word.{name, number, large, sign, quoted}
-use Rattle.cpo_text.specs.Spelling.{temporal_word, hierarchy_word, extreme_word, order_word, bound_sign, sense_word}
+use Rattle.cpo_text.specs.Spelling.{temporal_word, hierarchy_word, extreme_word, order_word, bound_sign, forbidden_word, sense_word}
 use Rattle.cpo_text.specs.code.Rules.{with_rest, find_word, sign_in}
-use Rattle.cpo_text.specs.code.CallWords.{contributions, definitions, precedences, gatherings, always, senses, or_else, constraint_of, is_call}
+use Rattle.cpo_text.specs.code.CallWords.{contributions, definitions, precedences, gatherings, always, senses, prohibitions, or_else, constraint_of, is_call}
 use Rattle.cpo_text.specs.code.Contributions.{joints, bounds}
 use Rattle.cpo_text.specs.declared.call_words.PartWord.{PartWord}
 use Rattle.cpo_text.specs.declared.call_words.PartWord.TheVariants as part
@@ -20,6 +20,8 @@ use Rattle.cpo_text.specs.declared.tree.Extreme.TheVariants.{First, Last}
 use Rattle.cpo_text.specs.declared.tree.Order.TheVariants.{Before, Prev}
 use Rattle.cpo_text.specs.declared.tree.Bound.{Bound}
 use Rattle.cpo_text.specs.declared.tree.Bound.TheVariants.{AtMost, AtLeast}
+use Rattle.cpo_text.specs.declared.tree.Forbidden.{Forbidden}
+use Rattle.cpo_text.specs.declared.tree.Forbidden.TheVariants as forbidden
 use Rattle.cpo_text.specs.declared.tree.Sense.{Sense}
 use Rattle.cpo_text.specs.declared.tree.Sense.TheVariants.{Minimize, Maximize}
 use Rattle.cpo_text.proofs.operands.Binds.{both, some_pair, bytes_same}
@@ -83,15 +85,17 @@ definition_name definition.IntervalVar = codes "intervalVar"
 definition_name definition.SequenceVar = codes "sequenceVar"
 definition_name definition.TransitionMatrix = codes "transitionMatrix"
 definition_name definition.StateFunction = codes "stateFunction"
+definition_name definition.StepFunction = codes "stepFunction"
 
 pub definition_table : IsTable definition_name definitions
-definition_table = (refl, (refl, (refl, (refl, tt))))
+definition_table = (refl, (refl, (refl, (refl, (refl, tt)))))
 
 pub definition_found : (d : DefinitionWord) → find_word definitions (definition_name d) ≡ Some d
 definition_found definition.IntervalVar = refl
 definition_found definition.SequenceVar = refl
 definition_found definition.TransitionMatrix = refl
 definition_found definition.StateFunction = refl
+definition_found definition.StepFunction = refl
 
 -- a part's word begins no call of an expression
 pub part_no_call : (n : List ℕ) → is_call n ≡ true → is_some (find_word contributions n) ≡ false
@@ -199,3 +203,23 @@ pub sense_found : (s : Sense) → (constraint_of (sense_word s) ≡ None) × (fi
 unfolding constraint_of
 sense_found Minimize = (refl, refl)
 sense_found Maximize = (refl, refl)
+
+-- words of calendars' sentences
+
+pub prohibition_table : IsTable forbidden_word prohibitions
+prohibition_table = (refl, (refl, tt))
+
+pub forbidden_other : (w : Forbidden) → IsOther (forbidden_word w)
+forbidden_other forbidden.Start = other _ refl refl
+forbidden_other forbidden.Extent = other _ refl refl
+
+-- in no table but their own
+pub record IsFoundLast (w : Forbidden) : Type 0 where
+  pub constraint : constraint_of (forbidden_word w) ≡ None
+  pub sense : find_word senses (forbidden_word w) ≡ None
+  pub found : find_word prohibitions (forbidden_word w) ≡ Some w
+
+pub forbidden_found : (w : Forbidden) → IsFoundLast w
+unfolding constraint_of
+forbidden_found forbidden.Start = record { constraint = refl; sense = refl; found = refl }
+forbidden_found forbidden.Extent = record { constraint = refl; sense = refl; found = refl }

@@ -7,6 +7,8 @@ use Rattle.cpo_text.specs.declared.tree.Temporal.TheVariants.{StartBeforeStart, 
 use Rattle.cpo_text.specs.declared.tree.Hierarchy.TheVariants.{Span, Alternative, Synchronize}
 use Rattle.cpo_text.specs.declared.tree.Extreme.TheVariants.{First, Last}
 use Rattle.cpo_text.specs.declared.tree.Order.TheVariants.{Before, Prev}
+use Rattle.cpo_text.specs.declared.tree.Forbidden.{Forbidden}
+use Rattle.cpo_text.specs.declared.tree.Forbidden.TheVariants as forbidden
 use Rattle.cpo_text.specs.declared.tree.Sense.{Sense}
 use Rattle.cpo_text.specs.declared.tree.Sense.TheVariants.{Minimize, Maximize}
 use Rattle.cpo_text.specs.declared.call_words.PartWord.{PartWord}
@@ -22,7 +24,7 @@ contributions = (codes "pulse", part.Pulse) ∷ (codes "step", part.Step) ∷ (c
 
 abbrev pub definitions : List (List ℕ × DefinitionWord)
 definitions = (codes "intervalVar", definition.IntervalVar) ∷ (codes "sequenceVar", definition.SequenceVar) ∷ (codes "transitionMatrix", definition.TransitionMatrix)
-    ∷ (codes "stateFunction", definition.StateFunction) ∷ []
+    ∷ (codes "stateFunction", definition.StateFunction) ∷ (codes "stepFunction", definition.StepFunction) ∷ []
 
 abbrev pub precedences : List (List ℕ × ConstraintWord)
 precedences = (codes "startBeforeStart", Between StartBeforeStart) ∷ (codes "startBeforeEnd", Between StartBeforeEnd) ∷ (codes "endBeforeStart", Between EndBeforeStart)
@@ -40,6 +42,10 @@ always = (codes "alwaysIn", AlwaysIn) ∷ (codes "alwaysEqual", AlwaysEqual) ∷
 
 abbrev pub senses : List (List ℕ × Sense)
 senses = (codes "minimize", Minimize) ∷ (codes "maximize", Maximize) ∷ []
+
+-- on calendars
+abbrev pub prohibitions : List (List ℕ × Forbidden)
+prohibitions = (codes "forbidStart", forbidden.Start) ∷ (codes "forbidExtent", forbidden.Extent) ∷ []
 
 abbrev pub or_else : {X : Type 0} → Option X → Option X → Option X
 or_else None b = b

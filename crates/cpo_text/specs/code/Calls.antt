@@ -1,11 +1,11 @@
 -- Definitions and constraints that are calls, read from left to right from behind the call's word.
-use Rattle.std.specs.Prelude.{ℕ, ◌==◌, Bool, true, false, if◌then◌else◌, List, codes, bytes_eq, Option, Some, None}
+use Rattle.std.specs.Prelude.{ℕ, ◌==◌, Bool, true, false, if◌then◌else◌, nat_le, List, length, codes, bytes_eq, Option, Some, None}
 use Rattle.cpo_text.specs.Words.{Word}
 use Rattle.cpo_text.specs.code.Rules.{Found, bound, behind, if_behind, name_at, size_at, int_at}
-use Rattle.cpo_text.specs.code.Lists.{names_at, ints_at, rows_at}
+use Rattle.cpo_text.specs.code.Lists.{names_at, ints_at, rows_at, steps_at}
 use Rattle.cpo_text.specs.declared.tree.Int.{Int}
 use Rattle.cpo_text.specs.declared.tree.Definition.{Definition}
-use Rattle.cpo_text.specs.declared.tree.Definition.TheVariants.{SequenceVar, TransitionMatrix, StateFunction}
+use Rattle.cpo_text.specs.declared.tree.Definition.TheVariants.{SequenceVar, TransitionMatrix, StateFunction, StepFunction}
 use Rattle.cpo_text.specs.declared.tree.Hierarchy.{Hierarchy}
 use Rattle.cpo_text.specs.declared.tree.Over.{Over}
 use Rattle.cpo_text.specs.declared.tree.Over.TheVariants.{Named, Listed}
@@ -44,6 +44,11 @@ matrix_at ws = if_behind (behind (codes "(") ws) (λ r. bound (rows_at r) (λ ro
 unfoldable pub state_function_at : List Word → Found Definition
 state_function_at ws = if_behind (behind (codes "(") ws) (λ r. if_behind (behind (codes ")") r) (λ r2. Some (StateFunction None, r2))
     (bound (name_at r) (λ m r2. if_behind (behind (codes ")") r2) (λ r3. Some (StateFunction (Some m), r3)) None))) None
+
+-- one pair at least
+unfoldable pub step_function_at : List Word → Found Definition
+step_function_at ws = if_behind (behind (codes "(") ws) (λ r. bound (steps_at r) (λ ps r2. if nat_le 1 (length ps)
+    then if_behind (behind (codes ")") r2) (λ r3. Some (StepFunction ps, r3)) None else None)) None
 
 -- constraints
 

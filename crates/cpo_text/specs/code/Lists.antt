@@ -1,8 +1,9 @@
 -- Lists in square brackets, read from left to right by a reader of their items.
 use Rattle.std.specs.Prelude.{ℕ, zero, suc, List, [], ◌∷◌, ◌++◌, length, codes, Some, None}
 use Rattle.cpo_text.specs.Words.{Word}
-use Rattle.cpo_text.specs.code.Rules.{Found, bound, behind, if_behind, name_at, int_at}
+use Rattle.cpo_text.specs.code.Rules.{Found, bound, behind, if_behind, name_at, int_at, int_before}
 use Rattle.cpo_text.specs.declared.tree.Int.{Int}
+use Rattle.cpo_text.specs.declared.tree.StepPair.{StepPair}
 
 -- with these in front
 abbrev pub after : {X : Type 0} → List X → Found (List X) → Found (List X)
@@ -28,3 +29,10 @@ ints_at = listed_at int_at
 
 unfoldable pub rows_at : List Word → Found (List (List Int))
 rows_at = listed_at ints_at
+
+-- a moment and a value
+unfoldable pub step_at : List Word → Found StepPair
+step_at ws = if_behind (behind (codes "[") ws) (λ r. bound (int_before (codes ",") r) (λ t r2. bound (int_before (codes "]") r2) (λ v r3. Some (record { moment = t; value = v }, r3)))) None
+
+unfoldable pub steps_at : List Word → Found (List StepPair)
+steps_at = listed_at step_at

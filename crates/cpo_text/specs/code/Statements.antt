@@ -2,8 +2,8 @@
 use Rattle.std.specs.Prelude.{ℕ, if◌then◌else◌, List, [], ◌∷◌, codes, Option, Some, None}
 use Rattle.cpo_text.specs.Words.{Word}
 use Rattle.cpo_text.specs.code.Rules.{Found, bound, behind, if_behind, if_found, find_word, name_at, name_before, interval_at, between_at}
-use Rattle.cpo_text.specs.code.Calls.{sequence_at, matrix_at, state_function_at, parts_at, no_overlap_at, extreme_at, ordered_at, always_equal_at, always_no_state_at}
-use Rattle.cpo_text.specs.code.CallWords.{senses, constraint_of, is_call, definition_word_at, begins_cumul}
+use Rattle.cpo_text.specs.code.Calls.{sequence_at, matrix_at, state_function_at, step_function_at, parts_at, no_overlap_at, pair_at, extreme_at, ordered_at, always_equal_at, always_no_state_at}
+use Rattle.cpo_text.specs.code.CallWords.{senses, prohibitions, constraint_of, is_call, definition_word_at, begins_cumul}
 use Rattle.cpo_text.specs.code.Contributions.{cumul_at, bounded_at, always_in_at}
 use Rattle.cpo_text.specs.code.Levels.{read}
 use Rattle.cpo_text.specs.code.Levels.Task.{logic}
@@ -16,9 +16,10 @@ use Rattle.cpo_text.specs.declared.tree.Definition.{Definition}
 use Rattle.cpo_text.specs.declared.tree.Definition.TheVariants.{Cumulative}
 use Rattle.cpo_text.specs.declared.tree.Constrained.{Constrained}
 use Rattle.cpo_text.specs.declared.tree.Constrained.TheVariants.{Holds}
+use Rattle.cpo_text.specs.declared.tree.Forbidden.{Forbidden}
 use Rattle.cpo_text.specs.declared.tree.Sense.{Sense}
 use Rattle.cpo_text.specs.declared.tree.Statement.{Statement}
-use Rattle.cpo_text.specs.declared.tree.Statement.TheVariants.{Empty, Define, Constrain, Aim}
+use Rattle.cpo_text.specs.declared.tree.Statement.TheVariants.{Empty, Define, Constrain, Forbid, Aim}
 
 -- enough for the words of any text within its limit
 unfoldable pub enough : ℕ
@@ -50,6 +51,7 @@ defined_at definition.IntervalVar ws = interval_at ws
 defined_at definition.SequenceVar ws = sequence_at ws
 defined_at definition.TransitionMatrix ws = matrix_at ws
 defined_at definition.StateFunction ws = state_function_at ws
+defined_at definition.StepFunction ws = step_function_at ws
 
 -- a call, or else a cumulative expression
 unfoldable pub definition_at : ℕ → List Word → Found Definition
@@ -68,17 +70,25 @@ constraint_at f AlwaysIn ws = always_in_at f ws
 constraint_at f AlwaysEqual ws = always_equal_at ws
 constraint_at f AlwaysNoState ws = always_no_state_at ws
 
-abbrev pub by_sense : ℕ → Option Sense → List Word → Found Statement
-by_sense f None ws = None
-by_sense f (Some s) ws = aim_at f s ws
+-- an interval and a step function
+unfoldable pub forbid_at : Forbidden → List Word → Found Statement
+forbid_at w ws = bound (pair_at ws) (λ p r. Some (Forbid w p.0 p.1, r))
 
-abbrev pub by_constraint : ℕ → Option ConstraintWord → Option Sense → List Word → Found Statement
-by_constraint f (Some w) s ws = bound (constraint_at f w ws) (λ c r. Some (Constrain c, r))
-by_constraint f None s ws = by_sense f s ws
+abbrev pub by_forbidden : Option Forbidden → List Word → Found Statement
+by_forbidden None ws = None
+by_forbidden (Some w) ws = forbid_at w ws
 
--- what begins with the call word of a constraint or an objective
+abbrev pub by_sense : ℕ → Option Sense → Option Forbidden → List Word → Found Statement
+by_sense f None w ws = by_forbidden w ws
+by_sense f (Some s) w ws = aim_at f s ws
+
+abbrev pub by_constraint : ℕ → Option ConstraintWord → Option Sense → Option Forbidden → List Word → Found Statement
+by_constraint f (Some c) s w ws = bound (constraint_at f c ws) (λ c r. Some (Constrain c, r))
+by_constraint f None s w ws = by_sense f s w ws
+
+-- what begins with the call word of a constraint, of a calendar's sentence or of an objective
 unfoldable pub called_at : ℕ → List ℕ → List Word → Found Statement
-called_at f n ws = by_constraint f (constraint_of n) (find_word senses n) ws
+called_at f n ws = by_constraint f (constraint_of n) (find_word senses n) (find_word prohibitions n) ws
 
 -- what begins with a call word, before the words behind it
 unfoldable pub named_at : ℕ → List Word → List ℕ → List Word → Found Statement

@@ -4,15 +4,16 @@ use Rattle.std.specs.Prelude.{codes, option_to_list, if◌then◌else◌}
 use Rattle.cpo_text.specs.Words.{Word, is_sign}
 use Rattle.cpo_text.specs.Words.Word.{sign}
 use Rattle.cpo_text.specs.Parts.{minus_words, int_words, name_words, names_words, ints_words, flag_words, int_items}
-use Rattle.cpo_text.specs.Spelling.{to_words, range_words, ivarg_words, types_items, definition_words, temporal_word, hierarchy_word, extreme_word, order_word, bound_sign, over_words, spaced_items, moments_items, aligned_items, constraint_words, sense_word, statement_body}
+use Rattle.cpo_text.specs.Spelling.{to_words, range_words, ivarg_words, types_items, step_words, definition_words, temporal_word, hierarchy_word, extreme_word, order_word, bound_sign, over_words, spaced_items, moments_items, aligned_items, constraint_words, sense_word, statement_body}
 use Rattle.cpo_text.specs.Expressions.{measure_word, gather_word, link_sign, comparison_sign, joined, all_joined, sum_words, logic_step, logic_words, square}
 use Rattle.cpo_text.specs.Cumulative.{cpart_words, more_words, cumul_words}
 use Rattle.cpo_text.specs.declared.tree.Int.{Int}
 use Rattle.cpo_text.specs.declared.tree.Range.{Range}
 use Rattle.cpo_text.specs.declared.tree.Ivarg.{Ivarg}
 use Rattle.cpo_text.specs.declared.tree.Ivarg.TheVariants.{Optional, Start, End, Size}
+use Rattle.cpo_text.specs.declared.tree.StepPair.{StepPair}
 use Rattle.cpo_text.specs.declared.tree.Definition.{Definition}
-use Rattle.cpo_text.specs.declared.tree.Definition.TheVariants.{IntervalVar, SequenceVar, TransitionMatrix, StateFunction, Cumulative}
+use Rattle.cpo_text.specs.declared.tree.Definition.TheVariants.{IntervalVar, SequenceVar, TransitionMatrix, StateFunction, StepFunction, Cumulative}
 use Rattle.cpo_text.specs.declared.tree.Over.{Over}
 use Rattle.cpo_text.specs.declared.tree.Over.TheVariants.{Named as ByName, Listed}
 use Rattle.cpo_text.specs.declared.tree.Spaced.{Spaced}
@@ -35,7 +36,7 @@ use Rattle.cpo_text.specs.declared.expression.Logic.TheOpen.{Logic-F}
 use Rattle.cpo_text.specs.declared.expression.Logic.TheOpen.Logic-F.{Lit, Group, PresenceOf, Measured, Gathered, Linked, Neg, Sum, Compare, Not, Implies}
 use Rattle.cpo_text.specs.declared.expression.Logic.TheFolds.{fold-roll-Logic, ind-Logic, map-Logic}
 use Rattle.cpo_text.specs.declared.tree.Statement.{Statement}
-use Rattle.cpo_text.specs.declared.tree.Statement.TheVariants.{Empty, Define, Constrain, Aim}
+use Rattle.cpo_text.specs.declared.tree.Statement.TheVariants.{Empty, Define, Constrain, Forbid, Aim}
 use Rattle.cpo_text.specs.lemmas.Free.{ends, IsFree, AreFree, both_free, with_free, all_free, more_free, between_free, round_free, square_free, call_free, size_free, minus_free, int_free, ints_free, int_items_free, names_free, flag_free}
 use Rattle.cpo_text.specs.lemmas.Folds.{composed}
 
@@ -142,11 +143,15 @@ types_free : (o : Option (List Int)) → AreFree (types_items o)
 types_free None = tt
 types_free (Some is) = (ints_free is, tt)
 
+step_free_words : (p : StepPair) → IsFree (step_words p)
+step_free_words p = square_free (int_words p.moment ∷ int_words p.value ∷ []) (int_free p.moment, (int_free p.value, tt))
+
 definition_free : (d : Definition) → IsFree (definition_words d)
 definition_free (IntervalVar args) = call_free (codes "intervalVar") (map ivarg_words args) (all_free ivarg_words ivarg_free args)
 definition_free (SequenceVar ns types) = call_free (codes "sequenceVar") (names_words ns ∷ types_items types) (names_free ns, types_free types)
 definition_free (TransitionMatrix rows) = call_free (codes "transitionMatrix") (square (map ints_words rows) ∷ []) (square_free (map ints_words rows) (all_free ints_words ints_free rows), tt)
 definition_free (StateFunction m) = call_free (codes "stateFunction") (map name_words (option_to_list m)) (all_free name_words (λ n. refl) (option_to_list m))
+definition_free (StepFunction ps) = call_free (codes "stepFunction") (square (map step_words ps) ∷ []) (square_free (map step_words ps) (all_free step_words step_free_words ps), tt)
 definition_free (Cumulative c) = cumul_free c
 
 -- constraints
@@ -190,4 +195,5 @@ pub body_free : (s : Statement) → IsFree (statement_body s)
 body_free Empty = refl
 body_free (Define n d) = definition_free d
 body_free (Constrain c) = constraint_free c
+body_free (Forbid w a f) = refl
 body_free (Aim s e) = call_free (sense_word s) (logic_words e ∷ []) (logic_free e, tt)

@@ -6,47 +6,47 @@ use Rattle.cpo_text.specs.declared.tree.Statement.{Statement}
 use Rattle.cpo_text.specs.declared.text.Form.TheVariants.{Tree as Parsed}
 use Rattle.cpo_text.specs.declared.text.Reading.{Reading}
 use Rattle.cpo_elab.specs.Judged.{number_in}
-use Rattle.cpo_elab.specs.Elaborated.{after}
+use Rattle.cpo_elab.specs.Stages.{Stage, reached}
 use Rattle.cpo_elab.specs.NamedFirst.{named_first}
 use Rattle.cpo_elab.specs.Answers.{Answer, judged, refused_or, number_at, after_form}
 use Rattle.cpo_elab.specs.Answers.Answer.{Accepted}
 
 -- no statement deserves a number, and with them all the model is this one
-abbrev Makes : Data → ℕ → List Statement → Data → Type 0
-Makes m k [] r = named_first m ≡ r
-Makes m k (s ∷ ss) r = (number_in m k s ≡ None) × Makes (after m s) (k + 1) ss r
+abbrev Makes : Stage → ℕ → List Statement → Data → Type 0
+Makes st k [] r = named_first st.model ≡ r
+Makes st k (s ∷ ss) r = (number_in st k s ≡ None) × Makes (reached st s) (k + 1) ss r
 
 unrefused : (o : Option ℕ) (k at : ℕ) (a : Answer) (r : Data) → refused_or o k at a ≡ Accepted r → o ≡ None
 unrefused None k at a r is = refl
 unrefused (Some n) k at a r is = cc
 
-makes : (m : Data) (k : ℕ) (ss : List Statement) (xs : List Reading) (r : Data) → map (λ x. x.form) xs ≡ map Parsed ss → judged m k xs ≡ Accepted r → Makes m k ss r
-makes m k [] [] r are is = cc
-makes m k [] (x ∷ xs) r are is = cc
-makes m k (s ∷ ss) [] r are is = let no : ⊥ = cc in absurd no
-makes m k (s ∷ ss) (x ∷ xs) r are is =
+makes : (st : Stage) (k : ℕ) (ss : List Statement) (xs : List Reading) (r : Data) → map (λ x. x.form) xs ≡ map Parsed ss → judged st k xs ≡ Accepted r → Makes st k ss r
+makes st k [] [] r are is = cc
+makes st k [] (x ∷ xs) r are is = cc
+makes st k (s ∷ ss) [] r are is = let no : ⊥ = cc in absurd no
+makes st k (s ∷ ss) (x ∷ xs) r are is =
     let same : x.form ≡ Parsed s = cc are in
     let rest : map (λ x. x.form) xs ≡ map Parsed ss = cc are in
-    let rests = judged (after m s) (k + 1) xs in
-    let here = ap (λ f. refused_or (number_at m k f) k x.at (judged (after_form m f) (k + 1) xs)) (sym same) ∙ is in
-    let none = unrefused (number_in m k s) k x.at rests r here in
-    (none, makes (after m s) (k + 1) ss xs r rest (ap (λ o. refused_or o k x.at rests) (sym none) ∙ here))
+    let rests = judged (reached st s) (k + 1) xs in
+    let here = ap (λ f. refused_or (number_at st k f) k x.at (judged (after_form st f) (k + 1) xs)) (sym same) ∙ is in
+    let none = unrefused (number_in st k s) k x.at rests r here in
+    (none, makes (reached st s) (k + 1) ss xs r rest (ap (λ o. refused_or o k x.at rests) (sym none) ∙ here))
 
-accepted : (m : Data) (k : ℕ) (ss : List Statement) (xs : List Reading) (r : Data) → map (λ x. x.form) xs ≡ map Parsed ss → Makes m k ss r → judged m k xs ≡ Accepted r
-accepted m k [] [] r are is = ap Accepted is
-accepted m k [] (x ∷ xs) r are is = cc
-accepted m k (s ∷ ss) [] r are is = cc
-accepted m k (s ∷ ss) (x ∷ xs) r are is =
+accepted : (st : Stage) (k : ℕ) (ss : List Statement) (xs : List Reading) (r : Data) → map (λ x. x.form) xs ≡ map Parsed ss → Makes st k ss r → judged st k xs ≡ Accepted r
+accepted st k [] [] r are is = ap Accepted is
+accepted st k [] (x ∷ xs) r are is = cc
+accepted st k (s ∷ ss) [] r are is = cc
+accepted st k (s ∷ ss) (x ∷ xs) r are is =
     let same : x.form ≡ Parsed s = cc are in
     let rest : map (λ x. x.form) xs ≡ map Parsed ss = cc are in
-    ap (λ f. refused_or (number_at m k f) k x.at (judged (after_form m f) (k + 1) xs)) same
-    ∙ ap (λ o. refused_or o k x.at (judged (after m s) (k + 1) xs)) is.0
-    ∙ accepted (after m s) (k + 1) ss xs r rest is.1
+    ap (λ f. refused_or (number_at st k f) k x.at (judged (after_form st f) (k + 1) xs)) same
+    ∙ ap (λ o. refused_or o k x.at (judged (reached st s) (k + 1) xs)) is.0
+    ∙ accepted (reached st s) (k + 1) ss xs r rest is.1
 
--- the same number is deserved, and the same model made, whatever stands before
+-- the same number is deserved, and the same stage reached, whatever stands before
 pub record Alike (s t : Statement) : Type 0 where
-  pub number : (m : Data) (k : ℕ) → number_in m k s ≡ number_in m k t
-  pub model : (m : Data) → after m s ≡ after m t
+  pub number : (st : Stage) (k : ℕ) → number_in st k s ≡ number_in st k t
+  pub stage : (st : Stage) → reached st s ≡ reached st t
 
 abbrev pub AllAlike : List Statement → List Statement → Type 0
 AllAlike [] [] = Unit {0}
@@ -54,17 +54,17 @@ AllAlike [] (t ∷ ts) = ⊥
 AllAlike (s ∷ ss) [] = ⊥
 AllAlike (s ∷ ss) (t ∷ ts) = Alike s t × AllAlike ss ts
 
-makes_alike : (m : Data) (k : ℕ) (ss ts : List Statement) (r : Data) → AllAlike ss ts → Makes m k ts r → Makes m k ss r
-makes_alike m k [] [] r alike is = is
-makes_alike m k [] (t ∷ ts) r alike is = absurd alike
-makes_alike m k (s ∷ ss) [] r alike is = absurd alike
-makes_alike m k (s ∷ ss) (t ∷ ts) r alike is =
-    let same = alike.0.model m in
-    (alike.0.number m k ∙ is.0, makes_alike (after m s) (k + 1) ss ts r alike.1 (subst (λ n. Makes n (k + 1) ts r) (sym same) is.1))
+makes_alike : (st : Stage) (k : ℕ) (ss ts : List Statement) (r : Data) → AllAlike ss ts → Makes st k ts r → Makes st k ss r
+makes_alike st k [] [] r alike is = is
+makes_alike st k [] (t ∷ ts) r alike is = absurd alike
+makes_alike st k (s ∷ ss) [] r alike is = absurd alike
+makes_alike st k (s ∷ ss) (t ∷ ts) r alike is =
+    let same = alike.0.stage st in
+    (alike.0.number st k ∙ is.0, makes_alike (reached st s) (k + 1) ss ts r alike.1 (subst (λ n. Makes n (k + 1) ts r) (sym same) is.1))
 
-pub judged_alike : (m : Data) (k : ℕ) (ss ts : List Statement) (xs ys : List Reading) (r : Data) → AllAlike ss ts → map (λ x. x.form) xs ≡ map Parsed ss → map (λ y. y.form) ys ≡ map Parsed ts
-    → judged m k ys ≡ Accepted r → judged m k xs ≡ Accepted r
-judged_alike m k ss ts xs ys r alike are those is = accepted m k ss xs r are (makes_alike m k ss ts r alike (makes m k ts ys r those is))
+pub judged_alike : (st : Stage) (k : ℕ) (ss ts : List Statement) (xs ys : List Reading) (r : Data) → AllAlike ss ts → map (λ x. x.form) xs ≡ map Parsed ss → map (λ y. y.form) ys ≡ map Parsed ts
+    → judged st k ys ≡ Accepted r → judged st k xs ≡ Accepted r
+judged_alike st k ss ts xs ys r alike are those is = accepted st k ss xs r are (makes_alike st k ss ts r alike (makes st k ts ys r those is))
 
 pub alike_both : (ss ts us vs : List Statement) → AllAlike ss ts → AllAlike us vs → AllAlike (ss ++ us) (ts ++ vs)
 alike_both [] [] us vs first second = second

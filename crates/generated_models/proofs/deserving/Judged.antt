@@ -3,7 +3,8 @@ use Rattle.std.proofs.Common.{◌≡◌, ℕ, ◌+◌, ◌-◌, ◌%◌, ◌^◌
 use Rattle.std.specs.List.{range_with_len}
 use Rattle.base_laws.specs.laws.Numbers.{at_most}
 use Rattle.base_laws.specs.laws.Truth.{five_true}
-use Rattle.sched_model.specs.Data.{Data, empty_model}
+use Rattle.sched_model.specs.Data.{Data}
+use Rattle.cpo_elab.specs.Stages.{Stage, empty_stage}
 use Rattle.sched_model.specs.Hull.{hull_of}
 use Rattle.sched_model.specs.Valid.{node_count, node_total}
 use Rattle.cpo_text.specs.declared.expression.Measure.TheVariants as measure
@@ -28,14 +29,14 @@ use Rattle.generated_models.proofs.shop.Looked.{order_spelt, end_spelt, objectiv
 
 interval_alike : (x machines j k : ℕ) → Alike (interval_statement x machines j k) (interval_tree (interval x machines j k))
 unfolding number_in
-interval_alike x machines j k = record { number = λ m n. refl; model = λ m. refl }
+interval_alike x machines j k = record { number = λ st n. refl; stage = λ st. refl }
 
 order_alike : (j k : ℕ) → Alike (order_statement j k) (order_spelt j k)
 unfolding number_in
-order_alike j k = record { number = λ m n. refl; model = λ m. refl }
+order_alike j k = record { number = λ st n. refl; stage = λ st. refl }
 
 itself : (s : Statement) → Alike s s
-itself s = record { number = λ m n. refl; model = λ m. refl }
+itself s = record { number = λ st n. refl; stage = λ st. refl }
 
 -- a fold to which a distance of 0 is as none
 
@@ -53,14 +54,15 @@ module _ {A : Type 0} (step : Logic-F A → A) (same : (n : List ℕ) → step (
       ∙ ap (λ (xs : List A). step (logic.Gathered gather.Max xs)) (ends_same machines js)
       ∙ sym (fold-roll-Logic A step (logic.Gathered gather.Max (map (end_spelt machines) js)))
 
-objective_number : (m : Data) (k : ℕ) (e f : Logic) → ((test : NameTest) → some_in_logic test e ≡ some_in_logic test f) → expr_of m e ≡ expr_of m f → factor_of e ≡ factor_of f
-    → number_in m k (Aim sense.Minimize e) ≡ number_in m k (Aim sense.Minimize f)
+objective_number : (st : Stage) (k : ℕ) (e f : Logic) → ((test : NameTest) → some_in_logic test e ≡ some_in_logic test f) → expr_of st.model e ≡ expr_of st.model f → factor_of e ≡ factor_of f
+    → number_in st k (Aim sense.Minimize e) ≡ number_in st k (Aim sense.Minimize f)
 unfolding number_in
-objective_number m k e f names expr factor =
-    let unknown = names (is_unknown m) in
+objective_number st k e f names expr factor =
+    let m = st.model in
+    let unknown = names (is_unknown st) in
     let other = names (is_of_other_sort m) in
     λ i. first_of
-    ((defines_again m (Aim sense.Minimize e), 4) ∷ (unknown i, 5) ∷ (other i || false, 6) ∷ (has_reversed (Aim sense.Minimize e), 7) ∷ (has_negative (Aim sense.Minimize e), 8) ∷ (misfits m (Aim sense.Minimize e), 9)
+    ((defines_again st (Aim sense.Minimize e), 4) ∷ (unknown i, 5) ∷ (other i || false, 6) ∷ (has_reversed (Aim sense.Minimize e), 7) ∷ (has_negative (Aim sense.Minimize e), 8) ∷ (misfits m (Aim sense.Minimize e), 9)
     ∷ (has_twice m (Aim sense.Minimize e), 10) ∷ (nat_lt statement_limit k || (is_wide (Aim sense.Minimize e) || not (nat_le 0 500 && nat_le (node_total m + node_count (expr i)) node_limit)), 11)
     ∷ (aims_again m (Aim sense.Minimize e), 12) ∷ (is_none (hull_of m (expr i)), 13) ∷ (is_crowded (factor i), 14) ∷ [])
 
@@ -73,8 +75,8 @@ objective_alike jobs machines =
     let expr = λ (m : Data). greatest_same (expr_step m) (λ n. refl) machines js in
     let factor = greatest_same factor_step (λ n. refl) machines js in
     record {
-      number = λ m k. objective_number m k e f names (expr m) factor;
-      model = λ m. ap (λ x. record m { objective = Some (record { sense = (objective_of m sense.Minimize e).sense; expr = x }) }) (expr m);
+      number = λ st k. objective_number st k e f names (expr st.model) factor;
+      stage = λ st. ap (λ x. record st { model = record st.model { objective = Some (record { sense = (objective_of st.model sense.Minimize e).sense; expr = x }) } }) (expr st.model);
     }
 
 all_alike : (seed jobs machines : ℕ) → AllAlike (shop_statements seed jobs machines) (shop_spelt seed jobs machines)
@@ -90,5 +92,5 @@ all_alike seed jobs machines =
 pub shops_are_judged : ShopsAreJudged
 shops_are_judged seed jobs machines xs ys within are those is =
     let some = at_most 1 machines (five_true (nat_le 1 jobs) (nat_le jobs 500) (nat_le 1 machines) _ _ within).2 in
-    judged_alike empty_model 1 (shop_statements seed jobs machines) (canonical_statements (shop_model seed jobs machines)) xs ys (shop_model seed jobs machines)
+    judged_alike empty_stage 1 (shop_statements seed jobs machines) (canonical_statements (shop_model seed jobs machines)) xs ys (shop_model seed jobs machines)
     (subst (AllAlike (shop_statements seed jobs machines)) (sym (spelt_out seed jobs machines some)) (all_alike seed jobs machines)) are those is

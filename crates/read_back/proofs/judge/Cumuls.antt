@@ -76,6 +76,7 @@ cumul_made m v seqs cums some front back d (Some name) is named =
         single = refl;
         hull = refl;
         sparse = refl;
+        own = refl;
       },
       made_it,
     )

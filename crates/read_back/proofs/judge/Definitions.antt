@@ -105,6 +105,7 @@ interval_step m v front back d is =
         single = refl;
         hull = refl;
         sparse = refl;
+        own = refl;
       },
       made_it,
     )
@@ -167,6 +168,7 @@ matrix_step m v front back d is =
         single = refl;
         hull = refl;
         sparse = refl;
+        own = refl;
       },
       made_it,
     )

@@ -116,6 +116,7 @@ clean_tests n t tests room = record {
   single = refl;
   hull = tests.hull;
   sparse = tests.sparse;
+  own = refl;
 }
 
 -- what a constraint's statement makes of the model

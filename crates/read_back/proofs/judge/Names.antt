@@ -1,5 +1,5 @@
 -- A test of names that fails where a name has a number fails on all names of a model; a name that is none of them is not defined.
-use Rattle.std.proofs.Common.{◌≡◌, ℕ, ◌+◌, Bool, true, false, ◌||◌, List, [], ◌∷◌, ◌++◌, map, filter_map, position, Option, Some, None, is_some, is_none, refl, ap, ◌∙◌}
+use Rattle.std.proofs.Common.{◌≡◌, ℕ, Bool, true, false, ◌||◌, List, [], ◌∷◌, ◌++◌, map, filter_map, position, Option, Some, None, is_some, is_none, refl, ap, ◌∙◌}
 use Rattle.std.specs.List.{list_all, list_any, cons_option}
 use Rattle.std.specs.Str.{bytes_eq}
 use Rattle.std.proofs.lemmas.Cmp.{nat_list_eq_equiv}
@@ -12,6 +12,7 @@ use Rattle.sched_model.specs.Valid.{all_names, IsValid, is_itv}
 use Rattle.cpo_elab.specs.declared.names.Sort.{Sort}
 use Rattle.cpo_elab.specs.declared.names.Sort.TheVariants.{Interval, Matrix, Sequence, Cumulated, State}
 use Rattle.cpo_elab.specs.Named.{number_of, sorts, is_defined, NameTest}
+use Rattle.cpo_elab.specs.Stages.{plain}
 use Rattle.cpo_elab.specs.Judged.{is_unknown, is_of_other_sort}
 use Rattle.sched_base.specs.declared.ids.Itv.{Itv}
 use Rattle.sched_text.specs.Pieces.{interval_name, interval_names}
@@ -38,7 +39,7 @@ any_of p Sequence is = or_right (p Interval) _ (or_right (p Matrix) _ (or_left (
 any_of p Cumulated is = or_right (p Interval) _ (or_right (p Matrix) _ (or_right (p Sequence) _ (or_left (p Cumulated) _ is)))
 any_of p State is = or_right (p Interval) _ (or_right (p Matrix) _ (or_right (p Sequence) _ (or_right (p Cumulated) _ (or_left (p State) _ is))))
 
-pub blind_unknown : (n : Data) → Blind n (is_unknown n)
+pub blind_unknown : (n : Data) → Blind n (is_unknown (plain n))
 unfolding is_defined
 blind_unknown n sort name i is = not_from_true _ (any_of (λ s. is_some (number_of n s name)) sort (ap is_some is))
 

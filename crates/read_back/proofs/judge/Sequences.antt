@@ -98,6 +98,7 @@ sequence_made m v parts front back d (Some name) is named =
         single = refl;
         hull = refl;
         sparse = refl;
+        own = refl;
       },
       made_it,
     )

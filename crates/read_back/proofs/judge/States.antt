@@ -72,6 +72,7 @@ state_step m v s c heads front back d is =
         single = refl;
         hull = refl;
         sparse = refl;
+        own = refl;
       },
       made_it,
     )

@@ -72,6 +72,7 @@ aim return factors name m w (Some o) is =
       single = refl;
       hull = hull_there return m m.sequences m.cumuls m.constraints v e it written;
       sparse = sparse_there factors m e written;
+      own = refl;
     }) made_it refl
 
 -- the phases

@@ -1,5 +1,5 @@
 -- A text that says the words of some statements is read as these.
-use Rattle.std.proofs.Common.{◌≡◌, ◌≤◌, false, List, length, sym, subst, arith}
+use Rattle.std.proofs.Common.{◌≡◌, ◌≤◌, List, length, sym, subst, arith}
 use Rattle.std.specs.Prelude.{flat_map}
 use Rattle.std.proofs.lemmas.List.{take_all}
 use Rattle.cpo_text.specs.declared.text.Tree.{Tree}

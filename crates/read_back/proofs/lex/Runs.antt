@@ -1,6 +1,6 @@
 -- Tokens whose words are those of some statements fall into runs, one for each statement.
 use Rattle.std.proofs.Common.{◌≡◌, List, [], ◌∷◌, ◌++◌, map, refl, ap, ◌∙◌, append_assoc}
-use Rattle.std.specs.Prelude.{codes, flat_map, if◌then◌else◌}
+use Rattle.std.specs.Prelude.{codes, flat_map}
 use Rattle.std.specs.List.{list_any}
 use Rattle.std.proofs.lemmas.Bool.{or_parts}
 use Rattle.cpo_text.specs.declared.tree.Statement.{Statement}

@@ -17,7 +17,7 @@ use Rattle.cpo_text.specs.declared.cumul.Cpart.{Cpart}
 use Rattle.cpo_text.specs.declared.cumul.Cpart.TheVariants as cpart
 use Rattle.cpo_text.specs.declared.cumul.Cumul.{Cumul}
 use Rattle.cpo_text.specs.declared.tree.Definition.{Definition}
-use Rattle.cpo_text.specs.declared.tree.Definition.TheVariants.{IntervalVar, SequenceVar, TransitionMatrix, StateFunction, Cumulative}
+use Rattle.cpo_text.specs.declared.tree.Definition.TheVariants.{IntervalVar, SequenceVar, TransitionMatrix, StateFunction, StepFunction, Cumulative}
 use Rattle.cpo_text.specs.declared.tree.Sense.{Sense}
 use Rattle.cpo_text.specs.declared.tree.Statement.TheVariants.{Define, Aim}
 use Rattle.cpo_elab.specs.Named.{some_in_cpart, some_in_cumul, cum_of}
@@ -135,6 +135,7 @@ defined_fine m n (IntervalVar args) valid before told clear = interval_more m (i
 defined_fine m n (SequenceVar ns types) valid before told clear = sequence_more m (sequence_named m (Some n) ns types) valid before refl (and_from (is_kept n) true told.kept refl)
 defined_fine m n (TransitionMatrix rows) valid before told clear = matrix_more m (matrix_named n rows) before told.kept
 defined_fine m n (StateFunction x) valid before told clear = state_more m (state_named m n x) before told.kept
+defined_fine m n (StepFunction ps) valid before told clear = before
 defined_fine m n (Cumulative c) valid before told clear =
     cumul_more m (cumul_named m (Some n) c) valid before refl (and_from (is_kept n) (not (is_empty (parts_in m c))) told.kept (parts_some m c before clear.uses))
 

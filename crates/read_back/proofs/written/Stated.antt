@@ -14,7 +14,6 @@ use Rattle.sched_model.specs.Words.{passes}
 use Rattle.sched_model.specs.Data.{Data, with_sequence, with_cumul, with_constraint}
 use Rattle.sched_model.specs.Valid.{IsValid}
 use Rattle.cpo_text.specs.declared.tree.Int.{Int}
-use Rattle.cpo_text.specs.declared.cumul.Cpart.TheVariants as cpart
 use Rattle.cpo_text.specs.declared.cumul.Cumul.{Cumul}
 use Rattle.cpo_text.specs.declared.tree.Hierarchy.{Hierarchy}
 use Rattle.cpo_text.specs.declared.tree.Hierarchy.TheVariants.{Span, Alternative, Synchronize}
@@ -51,7 +50,7 @@ use Rattle.read_back.proofs.written.Defined.{parts_some, expr_written}
 abbrev AllNamed : Data → Constraint → Type 0
 AllNamed m k = (list_all (λ i. passes is_named_sequence (slice_get m.sequences i)) (sequences_in k) ≡ true) × (list_all (λ i. passes is_named_cumul (slice_get m.cumuls i)) (cumuls_in k) ≡ true)
 
-constraint_more : (m : Data) (k : Constraint) → Fine m → is_written m k ≡ true → AllNamed m k → Fine (with_constraint k m)
+pub constraint_more : (m : Data) (k : Constraint) → Fine m → is_written m k ≡ true → AllNamed m k → Fine (with_constraint k m)
 constraint_more m k before here named =
     let n = with_constraint k m in
     record {

@@ -5,14 +5,14 @@ use Rattle.cpo_elab.specs.Judged.{number_in}
 use Rattle.cpo_elab.proofs.judging.Stepped.{few}
 use Rattle.cpo_elab.proofs.elaborator.Elaborator.with.Goals as goal
 
-pub with_statement-requires-clause-written : goal.with_statement-requires-clause-written
-with_statement-requires-clause-written c = subst (λ e. c.args.written ≡ option_map (expr_of e.model) (logic_in c.args.s.now)) (sym c.self.view_is) c.requires.written
+pub with-requires-clause-written : goal.with-requires-clause-written
+with-requires-clause-written c = subst (λ e. c.args.written ≡ option_map (expr_of e.stage.model) (logic_in c.args.s.now)) (sym c.self.view_is) c.requires.written
 
-pub with_statement-requires-clause-clear : goal.with_statement-requires-clause-clear
-with_statement-requires-clause-clear c = (c.self.inside.statements + 1, subst (λ e. number_in e.model (e.statements + 1) c.args.s.now ≡ None) (sym c.self.view_is) c.requires.clear)
+pub with-requires-clause-clear : goal.with-requires-clause-clear
+with-requires-clause-clear c = (c.self.inside.statements + 1, subst (λ e. number_in e.stage (e.statements + 1) c.args.s.now ≡ None) (sym c.self.view_is) c.requires.clear)
 
 pub invariant_of-result : goal.invariant_of-result
 invariant_of-result c =
-    let clear = subst (λ e. number_in e.model (e.statements + 1) c.args.s.now ≡ None) (sym c.self.view_is) c.requires.clear in
-    let room = few c.self.inside.draft c.self.inside.statements c.args.s.now clear in
+    let clear = subst (λ e. number_in e.stage (e.statements + 1) c.args.s.now ≡ None) (sym c.self.view_is) c.requires.clear in
+    let room = few c.self.inside.stage c.self.inside.statements c.args.s.now clear in
     record { few = omega (arith, room) }

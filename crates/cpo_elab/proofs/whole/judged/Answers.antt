@@ -3,12 +3,12 @@ use Rattle.std.proofs.lemmas.List.{at_drop_all}
 use Rattle.cpo_elab.specs.NamedFirst.{named_first}
 use Rattle.cpo_elab.specs.Answers.{judged}
 use Rattle.cpo_elab.specs.Answers.Answer.{Accepted}
-use Rattle.cpo_elab.proofs.whole.elaborate.Goals as goal
+use Rattle.cpo_elab.proofs.whole.judged.Goals as goal
 
 pub returns : goal.returns
 returns c =
     let done = rw c.as_slice-reading-items.ensures at c.loop-reading-test.false in
     sym c.loop-reading.invariant.same
-    ∙ at_drop_all (judged c.loop-reading.so_far.model (c.loop-reading.so_far.statements + 1)) c.args.tree.now.statements c.loop-reading.reading-index done
+    ∙ at_drop_all (judged c.loop-reading.so_far.stage (c.loop-reading.so_far.statements + 1)) c.args.tree.now.statements c.loop-reading.reading-index done
     ∙ ap (λ m. Accepted (named_first m)) (sym c.into_model.ensures)
     ∙ ap (λ m. Accepted m) (sym c.in_ok-named_first.ensures)
