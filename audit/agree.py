@@ -168,6 +168,24 @@ class Models:
 
         return f"{word}({x}, {y}{more});", holds
 
+    def calendar(self, names, k):
+        """The statements of the k-th step function and of what it forbids an interval."""
+        moments = sorted(self.draw.sample(range(-3, 6), self.draw.randint(1, 4)))
+        pairs = [(t, self.draw.choice((0, 0, 1, 5))) for t in moments]
+        word, x = self.draw.choice(("forbidStart", "forbidExtent")), self.draw.choice(names)
+
+        def value(t):
+            return next((v for u, v in reversed(pairs) if u <= t), 0)
+
+        def holds(a):
+            if a[x] is None:
+                return True
+            s, e = a[x]
+            return all(value(t) != 0 for t in ([s] if word == "forbidStart" else range(s, e)))
+
+        written = ", ".join(f"[{t}, {v}]" for t, v in pairs)
+        return f"F{k} = stepFunction([{written}]); {word}({x}, F{k});", holds
+
     def model(self):
         """The text, the places of each interval, the constraints, and the objective or None."""
         names = [f"x{i}" for i in range(self.draw.randint(1, 3))]
@@ -175,8 +193,10 @@ class Models:
         for name in names:
             line, places[name] = self.interval(name)
             lines.append(line)
-        for _ in range(self.draw.randint(0, 3)):
-            if self.draw.random() < 0.5:
+        for k in range(self.draw.randint(0, 3)):
+            if self.draw.random() < 0.2:
+                line, holds = self.calendar(names, k)
+            elif self.draw.random() < 0.5:
                 line, holds = self.precedence(names)
             else:
                 x = self.expr(names, 3)
