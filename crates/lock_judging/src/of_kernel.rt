@@ -1,5 +1,5 @@
 //! The steps of a log, its verdict, and the regions that wait.
-ghost use Rattle.std.specs.Prelude.{◌≡◌, IfOk, ◌<◌, ◌^◌, Err, false, IfSome, option_map, option_copied, [], length, ◌≤◌, ◌∷◌, ◌++◌, IsTrue, OnOk, OnErr, IfNone, List};
+ghost use Rattle.std.specs.Prelude.{◌≡◌, IfOk, ◌<◌, ◌^◌, Err, false, IfSome, option_map, option_copied, [], length, ◌≤◌, ◌∷◌, ◌++◌, IsTrue, OnOk, OnErr, IfNone, List, None, is_some};
 ghost use Rattle.sched_model.specs.Data.{Data};
 ghost use Rattle.sched_model.specs.Valid.{IsValid};
 ghost use Rattle.region.specs.Looks.{IsRegionOf};
@@ -12,6 +12,7 @@ ghost use Rattle.kernel.specs.Promises.{Ready, Means, LosesNothing};
 ghost use Rattle.kernel.specs.Refuting.{refutes_with};
 ghost use Rattle.kernel.specs.declared.types.StepFault.TheVariants.{NoMemory as Memory};
 ghost use Rattle.kernel.specs.Agenda.{first_in};
+ghost use Rattle.kernel.specs.code.Open.{AreOpenOf, advanced, in_front};
 ghost use Rattle.kernel.specs.code.Pending.{ArePending, after_saved, Takes};
 ghost use Rattle.kernel.specs.declared.types.Line.{Line};
 ghost use Rattle.sched_base.specs.declared.ids.Con.{Con};
@@ -21,8 +22,8 @@ ghost use Rattle.sched_model.specs.Solution.{Meets};
 ghost use Rattle.kernel.specs.Named.{named_with};
 ghost use Rattle.kernel.specs.Used.{IsUsed, used_in};
 
-use kernel::{Found, Kernel, Line, Pending, StepFault, Verdict};
-use region::{CellName, Guess, Refuter, Region};
+use kernel::{Found, Kernel, Line, Open, Pending, StepFault, Verdict};
+use region::{CellName, Guess, Look, Refuter, Region};
 use sched_base::NoMemory;
 use sched_model::Model;
 use std::alloc::Global;
@@ -85,6 +86,27 @@ pub fn into_found<X: Refuter>(kernel: Kernel<X>) -> Option<Found>
     ensures { result ≡ kernel.found }
 {
     kernel.into_found()
+}
+
+pub fn into_open<X: Refuter>(kernel: Kernel<X>) -> Open
+    ensures value { result ≡ record { front = None; behind = open_regions kernel; best = best_of kernel.found } }
+    ensures of { (m : Data) → Ready m kernel → AreOpenOf m result }
+{
+    kernel.into_open()
+}
+
+pub fn advance_open(regions: &mut Open) -> bool
+    ensures next { regions.new ≡ advanced regions.old }
+    ensures left { result ≡ is_some regions.new.front }
+{
+    regions.advance()
+}
+
+pub fn look_at_open(regions: &Open) -> Option<Look<'_>>
+    ensures shows { result ≡ in_front regions.now }
+    ensures of { (m : Data) → AreOpenOf m regions.now → IfSome result (λ l. IsRegionOf m l.region) }
+{
+    regions.look()
 }
 
 pub fn new_pending(alloc: Global) -> Pending
