@@ -4,4 +4,5 @@
 #![tactic(auto)]
 
 pub mod of_calendar;
+pub mod of_model_copy;
 pub mod of_sched_model;
