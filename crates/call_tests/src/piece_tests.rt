@@ -170,7 +170,7 @@ fn first_different(alloc: Global) -> Result<Option<usize>, NoMemory> {
 fn reads_pieces_as_a_whole(rt: HostRuntime) -> Result<(), Fail> {
     let alloc = rt.alloc();
     assert_eq!(rt; first_different(alloc)?, None);
-    assert!(rt; is_read_by(alloc, b"schedlog 1\nend\nend", 2, "Head\nFinish\n")?);
+    assert!(rt; is_read_by(alloc, b"schedlog 1\nend\nend", 2, "Head(One)\nFinish\n")?);
     Ok(())
 }
 

@@ -51,8 +51,10 @@ fn are_refused(alloc: Global, texts: &[&[u8]]) -> bool {
     true
 }
 
-const LINES: [&[u8]; 12] = [
+const LINES: [&[u8]; 14] = [
     b"schedlog 1\n",
+    b"schedlog 2\n",
+    b"restart\n",
     b"d P 0 LEAF 1 4294967295\n",
     b"f EXTRA 3 5 0 7\n",
     b"f ARC 4294967295 7\n",
@@ -94,10 +96,11 @@ fn reads_lines(rt: HostRuntime) {
     assert!(rt; read(rt.alloc(), b"end") == Seen::Open);
 }
 
-const OTHERS: [&[u8]; 25] = [
+const OTHERS: [&[u8]; 26] = [
     b"\n",
     b"schedlog 01\n",
-    b"schedlog 2\n",
+    b"schedlog 3\n",
+    b"restart 1\n",
     b"end \n",
     b"end\r\n",
     b"end of it\n",
