@@ -1,7 +1,8 @@
 //! The texts of answers and of models.
 use crate::lines::assignment;
 use crate::models::{Rows, first_wrong, unless};
-use sched_base::{Failed, List, MemDesk, NoMemory};
+use model_copy::reduce;
+use sched_base::{Con, Failed, List, MemDesk, NoMemory};
 use sched_model::{Answer, Assignment, Model, Solved};
 use sched_text::{print_model, write_answer};
 use std::alloc::Global;
@@ -45,6 +46,26 @@ impl Rows for Prints<'_> {
     fn wrong(&self, alloc: Global, model: &Model) -> Option<usize> {
         match print(alloc, model, self.failing) {
             Ok(printed) => unless(is_told(&printed, self.told, self.out)),
+            Err(_) => Some(usize::MAX),
+        }
+    }
+}
+
+/// The text of a model with its first two constraints alone.
+fn print_first(alloc: Global, model: &Model) -> Result<Printed, NoMemory> {
+    let keep = List::from_vec(Vec::from_slice(alloc, &[Con(0), Con(1)])?);
+    let reduced = reduce(alloc, model, &keep)?;
+    print(alloc, &reduced, &[])
+}
+
+/// The text that is printed of a model with its first two constraints alone.
+#[derive(Clone, Copy)]
+struct FirstTwo<'a>(&'a [u8]);
+
+impl Rows for FirstTwo<'_> {
+    fn wrong(&self, alloc: Global, model: &Model) -> Option<usize> {
+        match print_first(alloc, model) {
+            Ok(printed) => unless(is_told(&printed, Ok(()), self.0)),
             Err(_) => Some(usize::MAX),
         }
     }
@@ -177,4 +198,16 @@ fn answers_line(alloc: Global, line: &str, out: &[u8]) -> bool {
 fn writes_an_answer(rt: HostRuntime) {
     let out = b"optimal -7\nnodes 12\na 0 1\nend\n";
     assert!(rt; answers_line(rt.alloc(), "v p 0 1\n", out));
+}
+
+/// Each has to end before the other starts, and they start together.
+const CLASHES: &str =
+    "a = intervalVar(size=1,end=0..20); b = intervalVar(size=1,end=0..20); endBeforeStart(a,b); endBeforeStart(b,a); startAtStart(a,b); minimize(endOf(a));";
+
+#[test]
+fn prints_a_part(rt: HostRuntime) {
+    let text = FirstTwo(
+        b"a = intervalVar(start=0..1000000000,end=0..20,size=1..1);\nb = intervalVar(start=0..1000000000,end=0..20,size=1..1);\nendBeforeStart(a,b,0);\nendBeforeStart(b,a,0);\n",
+    );
+    assert_eq!(rt; first_wrong(rt.alloc(), CLASHES, &text), None);
 }
