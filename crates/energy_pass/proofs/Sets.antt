@@ -11,7 +11,7 @@ use Rattle.envelope.specs.code.Bars.{Bars, bar_in, has, IsOnce, least_est, energ
 use Rattle.task_sets.specs.Times.{Times, IsSized, size_at, sum_of, rises_from}
 use Rattle.task_sets.specs.laws.Sums.{load as load_by, pick, has_cases, has_first, has_later, Once, sum_once, load_mono, same_number}
 use Rattle.task_sets.specs.laws.Ects.{up_from, up_has, kept, keep, keep_has, keep_passes, keep_sum, keep_rises_all, rises_all, some_list}
-use Rattle.task_sets.specs.laws.EdgeCuts.{once_rises}
+use Rattle.task_sets.specs.laws.EdgeCuts.{keep_within, once_rises}
 use Rattle.energy_pass.specs.declared.rows.Row.{Row}
 use Rattle.energy_pass.specs.code.Rows.{row_at, AreRows, counts, energy_in, load, IsOver}
 use Rattle.energy_pass.specs.code.Trees.{bar_of}
@@ -195,17 +195,6 @@ up_below a (suc n) y here = elim (has_cases (nat_eq a y) (up_from (suc a) n) y h
   | inr later ↦ let rest = up_below (suc a) n y later in omega (arith, rest)
 ]
 
-kept_in : (t : ℕ → Bool) (xs : List ℕ) (y : ℕ) → has (keep t xs) y ≡ true → has xs y ≡ true
-kept_in t [] y here = cc
-kept_in t (x ∷ xs) y here = step (t x) (kept_in t xs y) here
-  where
-    step : (b : Bool) → (has (keep t xs) y ≡ true → has xs y ≡ true) → has (kept b x (keep t xs)) y ≡ true → has (x ∷ xs) y ≡ true
-    step true rest h = elim (has_cases (nat_eq x y) (keep t xs) y h) [
-      | inl same ↦ subst (λ z. has (x ∷ xs) z ≡ true) (same_number x y same) (has_first x xs)
-      | inr later ↦ has_later x y xs (rest later)
-    ]
-    step false rest h = has_later x y xs (rest h)
-
 pub over_set : (rows : List Row) (c start end : ℤ) → pos 0 ≤ℤ c → IsOver rows c start end → FullSet rows c end
 over_set rows c start end from over =
     let t : ℕ → Bool = λ k. counts start end (row_at rows k) in
@@ -248,7 +237,7 @@ over_set rows c start end from over =
 
     within : (rows : List Row) (start end : ℤ) (y : ℕ) {k : ℕ} {rest : List ℕ} → has (k ∷ rest) y ≡ true → keep (λ j. counts start end (row_at rows j)) (up_from 0 (length rows)) ≡ k ∷ rest → y < length rows
     within rows start end y here is =
-        let low = up_below 0 (length rows) y (kept_in (λ j. counts start end (row_at rows j)) (up_from 0 (length rows)) y (subst (λ xs. has xs y ≡ true) (sym is) here)) in
+        let low = up_below 0 (length rows) y (keep_within (λ j. counts start end (row_at rows j)) (up_from 0 (length rows)) y (subst (λ xs. has xs y ≡ true) (sym is) here)) in
         omega (arith, low)
 
     all_tested : (rows : List Row) (start end : ℤ) (xs : List ℕ) → load_by (size_at (times rows start end)) (λ k. counts start end (row_at rows k)) xs ≡ load_by (size_at (times rows start end)) (λ y. true) xs

@@ -5,49 +5,9 @@ use Rattle.std.specs.Int.{int_min}
 use Rattle.std.proofs.lemmas.Bool.{cases_eq, cases_lt}
 use Rattle.std.proofs.lemmas.Int.{ints, int_min_is}
 use Rattle.envelope.specs.code.Bars.{Bars, bar_at, has, IsOnce, least_est, energy_of}
-use Rattle.envelope.proofs.Parts.{sum_below}
-use Rattle.envelope.proofs.Weights.{eq_true, eq_from, replaced, replaced_same, replaced_other, replaced_low, replaced_high, rises}
-
-pub has_cases : (b : Bool) (ks : List ℕ) (y : ℕ) → (b || has ks y) ≡ true → (b ≡ true) ⊎ (has ks y ≡ true)
-has_cases true ks y is = inl refl
-has_cases false ks y is = inr is
-
-pub has_first : (k : ℕ) (ks : List ℕ) → has (k ∷ ks) k ≡ true
-has_first k ks = rw (eq_true k k refl) refl
-
-pub has_later : (k : ℕ) (ks : List ℕ) (y : ℕ) → has ks y ≡ true → has (k ∷ ks) y ≡ true
-has_later k ks y is = later (nat_eq k y)
-  where
-    later : (b : Bool) → (b || has ks y) ≡ true
-    later true = refl
-    later false = is
-
-pub has_same : (k : ℕ) (ks : List ℕ) (y : ℕ) → k ≡ y → has (k ∷ ks) y ≡ true
-has_same k ks y is = subst (λ i. has (k ∷ ks) i ≡ true) is (has_first k ks)
-
--- the first place
-pub first_of : (k : ℕ) (ks : List ℕ) → (j : ℕ) × (has (k ∷ ks) j ≡ true) × ((y : ℕ) → has (k ∷ ks) y ≡ true → j ≤ y)
-first_of k [] = (k, has_first k [], λ y here. elim (has_cases (nat_eq k y) [] y here) [ inl same ↦ omega (arith, eq_from k y same) | inr none ↦ cc ])
-first_of k (i ∷ ks) =
-    let rest = first_of i ks in
-    elim (cases_lt k rest.0) [
-      | inl less ↦ (
-        k,
-        has_first k (i ∷ ks),
-        λ y here. elim (has_cases (nat_eq k y) (i ∷ ks) y here) [
-          | inl same ↦ omega (arith, eq_from k y same)
-          | inr later ↦ omega (arith, less, rest.2 y later)
-        ],
-      )
-      | inr more ↦ (
-        rest.0,
-        has_later k (i ∷ ks) rest.0 rest.1,
-        λ y here. elim (has_cases (nat_eq k y) (i ∷ ks) y here) [
-          | inl same ↦ omega (arith, eq_from k y same, more)
-          | inr later ↦ rest.2 y later
-        ],
-      )
-    ]
+use Rattle.thetatree.proofs.Members.{has_cases, has_first, has_later, has_same, first_of}
+use Rattle.thetatree.proofs.Parts.{sum_below}
+use Rattle.thetatree.proofs.Weights.{eq_true, eq_from, replaced, replaced_same, replaced_other, replaced_low, replaced_high, rises}
 
 -- the least earliest start is at most that of each member, and is one
 pub least_below : (t : Bars) (k : ℕ) (ks : List ℕ) (y : ℕ) → has (k ∷ ks) y ≡ true → least_est t k ks ≤ℤ (bar_at t y).est

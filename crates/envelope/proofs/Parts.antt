@@ -3,6 +3,7 @@
 use Rattle.std.proofs.Common.{◌≡◌, ℕ, zero, suc, ◌<◌, ◌≤◌, ℤ, pos, ◌+ℤ◌, ◌-ℤ◌, ◌*ℤ◌, ◌≤ℤ◌, Bool, true, false, Option, None, Some, IfSome}
 use Rattle.envelope.specs.declared.node.Node.{Node}
 use Rattle.envelope.specs.code.Bars.{Bars, bar_at, is_on}
+use Rattle.thetatree.proofs.Parts.{sum_below}
 
 abbrev pub IsAtMost : ℤ → Option ℤ → Type 0
 IsAtMost z None = ⊥
@@ -11,11 +12,6 @@ IsAtMost z (Some a) = z ≤ℤ a
 abbrev pub weight : Bool → ℤ → ℤ
 weight false p = pos 0
 weight true p = p
-
--- the sum of the first numbers of a row
-abbrev pub sum_below : (ℕ → ℤ) → ℕ → ℤ
-sum_below w zero = pos 0
-sum_below w (suc k) = sum_below w k +ℤ w k
 
 abbrev pub energy_at : Bars → ℕ → ℤ
 energy_at t k = weight (is_on t k) (bar_at t k).energy

@@ -7,8 +7,10 @@ use Rattle.std.proofs.lemmas.Int.{ints}
 use Rattle.envelope.specs.code.Bars.{Bars, bar_at, is_on, AreBars, IsCapacity, has, IsOnce, least_est, energy_of, reach_of, IsChosen}
 use Rattle.envelope.proofs.Products.{product_rises}
 use Rattle.envelope.proofs.Parts.{weight, energy_at, row_sum, start_at, reach_from, Reaches}
-use Rattle.envelope.proofs.Weights.{eq_from}
-use Rattle.envelope.proofs.Members.{has_cases, first_of, least_below, least_is, covered}
+use Rattle.thetatree.proofs.Members.{has_cases, first_of}
+use Rattle.thetatree.proofs.Sets.{absent}
+use Rattle.thetatree.proofs.Weights.{eq_from}
+use Rattle.envelope.proofs.Members.{least_below, least_is, covered}
 
 -- what the proofs ask of a tree: its bars, and that its width has all places
 pub record IsWide (t : Bars) (width : ℕ) : Type 0 where
@@ -82,13 +84,6 @@ ons_has t lo (suc n) y here = split (is_on t lo) refl here (λ later. let is = o
     ]
 
 -- a place that isn't in a list
-absent : (ks : List ℕ) (k : ℕ) → (has ks k ≡ true → ⊥) → has ks k ≡ false
-absent ks k none = decided (has ks k) refl
-  where
-    decided : (b : Bool) → has ks k ≡ b → has ks k ≡ false
-    decided true is = absurd (none is)
-    decided false is = is
-
 ons_once : (t : Bars) (lo n : ℕ) → IsOnce (ons t lo n)
 ons_once t lo zero = tt
 ons_once t lo (suc n) = split (is_on t lo) (ons_once t (suc lo) n)
