@@ -130,6 +130,14 @@ fn bounded_parts(model: &Model, c: u32) -> &[Part] {
     }
 }
 
+/// The interval of the pulse at a place.
+fn pulsing(parts: &[Part], k: u32) -> Option<Itv> {
+    match at(parts, k as usize)?.shape {
+        Shape::PulseOf { a, .. } => Some(a),
+        _ => None,
+    }
+}
+
 impl Weights {
     /// The same for each interval of the model.
     pub fn new(alloc: Global, model: &Model) -> Result<Weights, NoMemory> {
@@ -195,6 +203,18 @@ impl Weights {
             SeqWitness::Pair { .. } => {}
             SeqWitness::Triple { .. } => {}
         }
+    }
+
+    /// Counts the intervals of an overload of energy: of the pulses at these places among the parts of the
+    /// function that a constraint bounds.
+    pub fn count_overload(&mut self, model: &Model, c: u32, places: &[u32]) {
+        let parts = bounded_parts(model, c);
+        for k in places {
+            if let Some(x) = pulsing(parts, *k) {
+                self.raise(x);
+            }
+        }
+        self.grow();
     }
 
     /// Counts the intervals that a witness names which refuted a region.

@@ -1,18 +1,19 @@
-ghost use Rattle.std.specs.Prelude.{◌≡◌, ◌⊎◌, IfOk, IfErr, IfSome, Some, None, Err, false, codes, map, option_map, string_bytes};
+ghost use Rattle.std.specs.Prelude.{◌≡◌, ◌⊎◌, IfOk, IfErr, IfSome, Some, None, Err, codes, map, option_map, string_bytes};
 ghost use Rattle.clap.specs.Words.{found_of, kind_of};
 ghost use Rattle.command_line.specs.Commands.{command_by, command_for, parts_of};
 ghost use Rattle.command_line.specs.code.Found.{HasLimits, parts_found, seen_of};
 
 use crate::commands::{Command as Line, Verb, WordsFault};
 use crate::limit::limit;
+use crate::restarts::restarts;
 use crate::shop::read_shop;
 use clap::error::ErrorKind;
 use clap::{Arg, ArgMatches, Command, Error};
 use std::alloc::Global;
 
-/// What `clap` makes of the words behind the verb: at most four arguments, and `--nodes`.
+/// What `clap` makes of the words behind the verb: at most four arguments, `--nodes` and `--restarts`.
 fn matched<'a>(alloc: Global, words: &'a [String]) -> Result<ArgMatches<'a>, Error>
-    ensures ok { IfOk result (λ m. parts_of false (map string_bytes words.entry.now) ≡ Some (parts_found (found_of m))) }
+    ensures ok { IfOk result (λ m. parts_of None (map string_bytes words.entry.now) ≡ Some (parts_found (found_of m))) }
     ensures err { IfErr result (λ e. (kind_of e ≡ ErrorKind.OutOfMemory)
         ⊎ ((v : Verb) → command_by v (map string_bytes words.entry.now) ≡ None)) }
 {
@@ -23,7 +24,8 @@ fn matched<'a>(alloc: Global, words: &'a [String]) -> Result<ArgMatches<'a>, Err
         .arg(Arg::new(alloc, "second"))?
         .arg(Arg::new(alloc, "third"))?
         .arg(Arg::new(alloc, "fourth"))?
-        .arg(Arg::new(alloc, "nodes").long("nodes"))?;
+        .arg(Arg::new(alloc, "nodes").long("nodes"))?
+        .arg(Arg::new(alloc, "restarts").long("restarts"))?;
     command.try_get_matches_from(words)
 }
 
@@ -38,7 +40,13 @@ fn solve<'a>(matches: &ArgMatches<'a>) -> Option<Line<'a>>
         return None;
     }
     let nodes = limit(matches.get_str("nodes"))?;
-    Some(Line::Solve { model, log, nodes })
+    let restarts = restarts(matches.get_str("restarts"))?;
+    Some(Line::Solve {
+        model,
+        log,
+        nodes,
+        restarts,
+    })
 }
 
 /// `check`, by its arguments.
@@ -48,7 +56,10 @@ fn check<'a>(matches: &ArgMatches<'a>) -> Option<Line<'a>>
 {
     let model = matches.get_str("first")?;
     let log = matches.get_str("second")?;
-    if matches.get_str("third").is_some() || matches.get_str("nodes").is_some() {
+    if matches.get_str("third").is_some()
+        || matches.get_str("nodes").is_some()
+        || matches.get_str("restarts").is_some()
+    {
         return None;
     }
     Some(Line::Check { model, log })
@@ -61,7 +72,10 @@ fn verify<'a>(matches: &ArgMatches<'a>) -> Option<Line<'a>>
 {
     let model = matches.get_str("first")?;
     let schedule = matches.get_str("second")?;
-    if matches.get_str("third").is_some() || matches.get_str("nodes").is_some() {
+    if matches.get_str("third").is_some()
+        || matches.get_str("nodes").is_some()
+        || matches.get_str("restarts").is_some()
+    {
         return None;
     }
     Some(Line::Verify { model, schedule })
@@ -73,7 +87,10 @@ fn show<'a>(matches: &ArgMatches<'a>) -> Option<Line<'a>>
     ensures within { IfSome result (λ c. HasLimits (seen_of c)) }
 {
     let model = matches.get_str("first")?;
-    if matches.get_str("second").is_some() || matches.get_str("nodes").is_some() {
+    if matches.get_str("second").is_some()
+        || matches.get_str("nodes").is_some()
+        || matches.get_str("restarts").is_some()
+    {
         return None;
     }
     Some(Line::Show { model })
@@ -87,7 +104,10 @@ fn generate<'a>(matches: &ArgMatches<'a>) -> Option<Line<'a>>
     let seed = matches.get_str("first")?;
     let jobs = matches.get_str("second")?;
     let machines = matches.get_str("third")?;
-    if matches.get_str("fourth").is_some() || matches.get_str("nodes").is_some() {
+    if matches.get_str("fourth").is_some()
+        || matches.get_str("nodes").is_some()
+        || matches.get_str("restarts").is_some()
+    {
         return None;
     }
     let shop = read_shop(seed, jobs, machines)?;
@@ -104,8 +124,14 @@ fn trial<'a>(matches: &ArgMatches<'a>) -> Option<Line<'a>>
     let machines = matches.get_str("third")?;
     let log = matches.get_str("fourth")?;
     let nodes = limit(matches.get_str("nodes"))?;
+    let restarts = restarts(matches.get_str("restarts"))?;
     let shop = read_shop(seed, jobs, machines)?;
-    Some(Line::Trial { shop, log, nodes })
+    Some(Line::Trial {
+        shop,
+        log,
+        nodes,
+        restarts,
+    })
 }
 
 /// `bound`, by its arguments.
@@ -115,7 +141,10 @@ fn bound<'a>(matches: &ArgMatches<'a>) -> Option<Line<'a>>
 {
     let model = matches.get_str("first")?;
     let log = matches.get_str("second")?;
-    if matches.get_str("third").is_some() || matches.get_str("nodes").is_some() {
+    if matches.get_str("third").is_some()
+        || matches.get_str("nodes").is_some()
+        || matches.get_str("restarts").is_some()
+    {
         return None;
     }
     Some(Line::Bound { model, log })
@@ -128,7 +157,10 @@ fn core<'a>(matches: &ArgMatches<'a>) -> Option<Line<'a>>
 {
     let model = matches.get_str("first")?;
     let log = matches.get_str("second")?;
-    if matches.get_str("third").is_some() || matches.get_str("nodes").is_some() {
+    if matches.get_str("third").is_some()
+        || matches.get_str("nodes").is_some()
+        || matches.get_str("restarts").is_some()
+    {
         return None;
     }
     Some(Line::Core { model, log })

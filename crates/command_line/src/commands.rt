@@ -32,11 +32,12 @@ pub enum Verb {
 /// What the program is asked to do. `model`, `log` and `schedule` name files.
 #[derive(Clone, Copy, Debug)]
 pub enum Command<'a> {
-    /// Solve the model, open at most this many nodes, and write the log.
+    /// Solve the model, open at most this many nodes, begin anew at most so often, and write the log.
     Solve {
         model: &'a str,
         log: &'a str,
         nodes: u32,
+        restarts: u32,
     },
     /// Check the log against the model.
     Check {
@@ -56,11 +57,13 @@ pub enum Command<'a> {
     Gen {
         shop: Shop,
     },
-    /// Solve the model of this job shop, open at most this many nodes, and write the log.
+    /// Solve the model of this job shop, open at most this many nodes, begin anew at most so often,
+    /// and write the log.
     Trial {
         shop: Shop,
         log: &'a str,
         nodes: u32,
+        restarts: u32,
     },
     /// Read the log as a check does, and tell what it shows of the best value.
     Bound {
@@ -106,8 +109,9 @@ fn verb_named(name: &str) -> Option<Verb>
     None
 }
 
-/// The command of the words after the program's name. A limit on nodes is from 1 to 10,000,000; a job
-/// shop has at most 500 jobs, 200 machines and 2,000 operations, and one of each at least.
+/// The command of the words after the program's name. A limit on nodes is from 1 to 10,000,000, a
+/// search begins anew at most 1,000 times, and a job shop has at most 500 jobs, 200 machines and 2,000
+/// operations, and one of each at least.
 pub fn read_command<'a>(alloc: Global, words: &'a [String]) -> Result<Command<'a>, WordsFault>
     ensures ok { IfOk result (λ c. command_of (map string_bytes words.entry.now) ≡ Some (seen_of c)) }
     ensures within { IfOk result (λ c. HasLimits (seen_of c)) }

@@ -7,6 +7,7 @@ use Rattle.sched_model.specs.declared.types.Answer.{Answer}
 use Rattle.sched_model.specs.declared.types.Answer.TheVariants as answer
 use Rattle.cpo_text.specs.declared.text.Refusal.{Refusal}
 use Rattle.command_line.specs.declared.shop.Shop.{Shop}
+use Rattle.restart_rules.specs.Restarts.{Limits}
 use Rattle.command_line.specs.Commands.{Command, Solve, Check, Verify, Show, Gen, Trial, Bound, Core}
 use Rattle.textline.specs.Lines.{Bytes}
 use Rattle.logtext.specs.Judgement.{log_limit}
@@ -143,14 +144,14 @@ refused_only : (text : Bytes) (old s new : State) → OnlyReads old s → Report
 refused_only text old s new reads reports =
     subst (OnlyRefuses old) (sym (reports.only ∙ ap (λ (x : State). record x { err = new.err; faults = new.faults }) reads.only)) refl
 
-cut_told : (model : Source) (log : Bytes) (limit : ℕ) (text : Bytes) (old s new : State) → CutShort model log limit old s → Reports text s new → CutShort model log limit old new
-cut_told model log limit text old s new (before_log only) reports =
+cut_told : (model : Source) (log : Bytes) (limits : Limits) (text : Bytes) (old s new : State) → CutShort model log limits old s → Reports text s new → CutShort model log limits old new
+cut_told model log limits text old s new (before_log only) reports =
     before_log (subst (OnlyRefuses old) (sym (reports.only ∙ ap (λ (x : State). record x { err = new.err; faults = new.faults }) only)) refl)
-cut_told model log limit text old s new (in_log m deserved created holds out) reports =
-    in_log m deserved (ap (λ (x : State). x.created) reports.only ∙ created.0, ap (λ (x : State). x.logs) reports.only ∙ created.1) (subst (λ b. HoldsBegunLog m limit old.logged b) (sym (ap (λ (x : State). x.logged) reports.only)) holds)
+cut_told model log limits text old s new (in_log m deserved created holds out) reports =
+    in_log m deserved (ap (λ (x : State). x.created) reports.only ∙ created.0, ap (λ (x : State). x.logs) reports.only ∙ created.1) (subst (λ b. HoldsBegunLog m limits old.logged b) (sym (ap (λ (x : State). x.logged) reports.only)) holds)
     (ap (λ (x : State). x.out) reports.only ∙ out)
-cut_told model log limit text old s new (in_answer m solved deserved answer created written part) reports =
-    in_answer m solved deserved answer (ap (λ (x : State). x.created) reports.only ∙ created.0, ap (λ (x : State). x.logs) reports.only ∙ created.1) (subst (λ b. LogPromise m limit solved old.logged b) (sym (ap (λ (x : State). x.logged) reports.only)) written)
+cut_told model log limits text old s new (in_answer m solved deserved answer created written part) reports =
+    in_answer m solved deserved answer (ap (λ (x : State). x.created) reports.only ∙ created.0, ap (λ (x : State). x.logs) reports.only ∙ created.1) (subst (λ b. LogPromise m limits solved old.logged b) (sym (ap (λ (x : State). x.logged) reports.only)) written)
     (subst (λ b. AppendedFrom (told_text model m solved) old.out b) (sym (ap (λ (x : State). x.out) reports.only)) part)
 
 -- how far the files were read, after the line too
@@ -171,13 +172,13 @@ refuses model old s new reads r due reports = record {
 -- `solve` and `trial`.
 
 -- the command that solves a model from there
-abbrev pub solving : Source → Bytes → ℕ → Command
-solving (file model) log limit = Solve model log limit
-solving (generated shop) log limit = Trial shop log limit
+abbrev pub solving : Source → Bytes → Limits → Command
+solving (file model) log limits = Solve model log limits.nodes limits.restarts
+solving (generated shop) log limits = Trial shop log limits.nodes limits.restarts
 
-source_there : (model : Source) (log : Bytes) (limit : ℕ) (old : State) → HasFiles (Some (solving model log limit)) old → HasSource old model
-source_there (file name) log limit old there = there
-source_there (generated shop) log limit old there = tt
+source_there : (model : Source) (log : Bytes) (limits : Limits) (old : State) → HasFiles (Some (solving model log limits)) old → HasSource old model
+source_there (file name) log limits old there = there
+source_there (generated shop) log limits old there = tt
 
 -- a generated text isn't refused
 abbrev pub IsTaken : Source → Ended → Type 0
@@ -200,10 +201,10 @@ success_taken model end.LogRefused won = cc
 success_taken model end.ScheduleRefused won = cc
 success_taken model end.NoMemory won = absurd cc
 
-as_run : (model : Source) (log : Bytes) (limit : ℕ) (e : Ended) (old new : State) → EveryRun (Some (solving model log limit)) e old new → SolvePromise model log limit e old new → IsTaken model e
-    → ((e ≡ end.Fault → ⊥) → (e ≡ end.NoMemory → ⊥) → ReadsSource model old new) → RunPromise (Some (solving model log limit)) e old new
-as_run (file name) log limit e old new every promise is reads = record { every = every; its_own = promise; reads = reads }
-as_run (generated shop) log limit e old new every promise never reads = record { every = every; its_own = (promise, never); reads = λ no_fault enough. tt }
+as_run : (model : Source) (log : Bytes) (limits : Limits) (e : Ended) (old new : State) → EveryRun (Some (solving model log limits)) e old new → SolvePromise model log limits e old new → IsTaken model e
+    → ((e ≡ end.Fault → ⊥) → (e ≡ end.NoMemory → ⊥) → ReadsSource model old new) → RunPromise (Some (solving model log limits)) e old new
+as_run (file name) log limits e old new every promise is reads = record { every = every; its_own = promise; reads = reads }
+as_run (generated shop) log limits e old new every promise never reads = record { every = every; its_own = (promise, never); reads = λ no_fault enough. tt }
 
 source_read : (model : Source) (text : Bytes) (old s new : State) → ReadsSource model old s → Reports text s new → ReadsSource model old new
 source_read (file name) text old s new far reports = model_read name text old s new far reports
@@ -218,59 +219,59 @@ never_accepted (answer.Feasible a) is = cc
 never_accepted answer.Infeasible is = cc
 never_accepted (answer.Unfinished found) is = cc
 
-solve_ends : (model : Source) (log : Bytes) (limit : ℕ) (e : Ended) (old new : State) → is_success e ≡ true → AnswerPromise model log limit e old new → SolveEnds model log limit e old new
-solve_ends model log limit end.Done old new won promise = promise
-solve_ends model log limit end.Infeasible old new won promise = promise
-solve_ends model log limit end.Unfinished old new won promise = promise
-solve_ends model log limit end.Accepted old new won promise = never_accepted promise.solved.answer promise.ending
-solve_ends model log limit end.Usage old new won promise = cc
-solve_ends model log limit end.ModelRefused old new won promise = absurd cc
-solve_ends model log limit end.Fault old new won promise = absurd cc
-solve_ends model log limit end.LogRefused old new won promise = cc
-solve_ends model log limit end.ScheduleRefused old new won promise = cc
-solve_ends model log limit end.NoMemory old new won promise = absurd cc
+solve_ends : (model : Source) (log : Bytes) (limits : Limits) (e : Ended) (old new : State) → is_success e ≡ true → AnswerPromise model log limits e old new → SolveEnds model log limits e old new
+solve_ends model log limits end.Done old new won promise = promise
+solve_ends model log limits end.Infeasible old new won promise = promise
+solve_ends model log limits end.Unfinished old new won promise = promise
+solve_ends model log limits end.Accepted old new won promise = never_accepted promise.solved.answer promise.ending
+solve_ends model log limits end.Usage old new won promise = cc
+solve_ends model log limits end.ModelRefused old new won promise = absurd cc
+solve_ends model log limits end.Fault old new won promise = absurd cc
+solve_ends model log limits end.LogRefused old new won promise = cc
+solve_ends model log limits end.ScheduleRefused old new won promise = cc
+solve_ends model log limits end.NoMemory old new won promise = absurd cc
 
-pub solved : (model : Source) (log : Bytes) (limit : ℕ) (e : Ended) (old new : State) → TriesSolve model log limit (Ok e) old new → RunPromise (Some (solving model log limit)) e old new
-solved model log limit e old new tries = as_run model log limit e old new (succeeded (solving model log limit) e old new tries.tried.1 tries.tried.0 (ap (λ (x : State). x.err) tries.only)) (record {
+pub solved : (model : Source) (log : Bytes) (limits : Limits) (e : Ended) (old new : State) → TriesSolve model log limits (Ok e) old new → RunPromise (Some (solving model log limits)) e old new
+solved model log limits e old new tries = as_run model log limits e old new (succeeded (solving model log limits) e old new tries.tried.1 tries.tried.0 (ap (λ (x : State). x.err) tries.only)) (record {
   only = subst (OnlySolves old) (sym tries.only) refl;
   unread = tries.unread;
-  ends = solve_ends model log limit e old new tries.tried.1 tries.tried.2;
+  ends = solve_ends model log limits e old new tries.tried.1 tries.tried.2;
 }) (success_taken model e tries.tried.1) (λ no_fault enough. tries.tried.3)
 
-solve_no_memory : (model : Source) (log : Bytes) (limit : ℕ) (old s new : State) → s ≡ record old { model = s.model; out = s.out; logged = s.logged; created = s.created; logs = s.logs; faults = s.faults } → IsUnread model old s → old.faults ≤ s.faults → s.out ≡ old.out → CutShort model log limit old s
-    → Reports memory_line s new → RunPromise (Some (solving model log limit)) end.NoMemory old new
-solve_no_memory model log limit old s new only unread later out cut reports = as_run model log limit end.NoMemory old new (no_memory (solving model log limit) old s new (ap (λ (x : State). x.err) only) out later reports) (record {
+solve_no_memory : (model : Source) (log : Bytes) (limits : Limits) (old s new : State) → s ≡ record old { model = s.model; out = s.out; logged = s.logged; created = s.created; logs = s.logs; faults = s.faults } → IsUnread model old s → old.faults ≤ s.faults → s.out ≡ old.out → CutShort model log limits old s
+    → Reports memory_line s new → RunPromise (Some (solving model log limits)) end.NoMemory old new
+solve_no_memory model log limits old s new only unread later out cut reports = as_run model log limits end.NoMemory old new (no_memory (solving model log limits) old s new (ap (λ (x : State). x.err) only) out later reports) (record {
   only = solve_only memory_line old s new only reports;
   unread = unread_told model memory_line old s new unread reports;
-  ends = cut_told model log limit memory_line old s new cut reports;
+  ends = cut_told model log limits memory_line old s new cut reports;
 }) (taken model end.NoMemory (λ is. cc)) (λ no_fault enough. absurd (enough refl))
 
-pub solve_stopped : (model : Source) (log : Bytes) (limit : ℕ) (e : Stop) (ended : Ended) (old s new : State) → ((r : Refusal) → SourceDeserves old model (Refused r) → IsTaken model end.ModelRefused) → TriesSolve model log limit (Err e) old s → EndsStopped e ended s new → RunPromise (Some (solving model log limit)) ended old new
-solve_stopped model log limit (stop.Given given.Fault) ended old s new due tries ends = subst (λ x. RunPromise (Some (solving model log limit)) x old new) (sym ends.0)
-    (as_run model log limit end.Fault old new
-    (faulted (solving model log limit) old s new (ap (λ (x : State). x.err) tries.only) tries.later tries.tried.0 (λ calm there. tries.tried.1 calm (source_there model log limit old there)) ends.1) (record {
+pub solve_stopped : (model : Source) (log : Bytes) (limits : Limits) (e : Stop) (ended : Ended) (old s new : State) → ((r : Refusal) → SourceDeserves old model (Refused r) → IsTaken model end.ModelRefused) → TriesSolve model log limits (Err e) old s → EndsStopped e ended s new → RunPromise (Some (solving model log limits)) ended old new
+solve_stopped model log limits (stop.Given given.Fault) ended old s new due tries ends = subst (λ x. RunPromise (Some (solving model log limits)) x old new) (sym ends.0)
+    (as_run model log limits end.Fault old new
+    (faulted (solving model log limits) old s new (ap (λ (x : State). x.err) tries.only) tries.later tries.tried.0 (λ calm there. tries.tried.1 calm (source_there model log limits old there)) ends.1) (record {
       only = solve_only fault_line old s new tries.only ends.1;
       unread = unread_told model fault_line old s new tries.unread ends.1;
-      ends = cut_told model log limit fault_line old s new tries.tried.2 ends.1;
+      ends = cut_told model log limits fault_line old s new tries.tried.2 ends.1;
     }) (taken model end.Fault (λ is. cc)) (λ no_fault enough. absurd (no_fault refl)))
-solve_stopped model log limit (stop.Given given.NoMemory) ended old s new due tries ends = subst (λ x. RunPromise (Some (solving model log limit)) x old new) (sym ends.0)
-    (solve_no_memory model log limit old s new tries.only tries.unread tries.later tries.tried.0 tries.tried.1 ends.1)
-solve_stopped model log limit (stop.Given (given.ModelRefused r)) ended old s new due tries (inl ends) =
+solve_stopped model log limits (stop.Given given.NoMemory) ended old s new due tries ends = subst (λ x. RunPromise (Some (solving model log limits)) x old new) (sym ends.0)
+    (solve_no_memory model log limits old s new tries.only tries.unread tries.later tries.tried.0 tries.tried.1 ends.1)
+solve_stopped model log limits (stop.Given (given.ModelRefused r)) ended old s new due tries (inl ends) =
     let reads = tries.tried.0 in
-    subst (λ x. RunPromise (Some (solving model log limit)) x old new) (sym ends.0)
-    (as_run model log limit end.ModelRefused old new
-    (model_refused (solving model log limit) (refusal_line r) old s new (ap (λ (x : State). x.out) reads.only) reads.later ends.1) (record {
+    subst (λ x. RunPromise (Some (solving model log limits)) x old new) (sym ends.0)
+    (as_run model log limits end.ModelRefused old new
+    (model_refused (solving model log limits) (refusal_line r) old s new (ap (λ (x : State). x.out) reads.only) reads.later ends.1) (record {
       only = solve_only (refusal_line r) old s new tries.only ends.1;
       unread = unread_told model (refusal_line r) old s new tries.unread ends.1;
       ends = refuses model old s new reads r tries.tried.2 ends.1;
     }) (due r tries.tried.2) (λ no_fault enough. source_read model (refusal_line r) old s new tries.tried.3 ends.1))
-solve_stopped model log limit (stop.Given (given.ModelRefused r)) ended old s new due tries (inr ends) =
+solve_stopped model log limits (stop.Given (given.ModelRefused r)) ended old s new due tries (inr ends) =
     let reads = tries.tried.0 in
-    subst (λ x. RunPromise (Some (solving model log limit)) x old new) (sym ends.0)
-    (solve_no_memory model log limit old s new tries.only tries.unread tries.later (ap (λ (x : State). x.out) reads.only) (before_log (subst (OnlyRefuses old) (sym reads.only) refl)) ends.1)
-solve_stopped model log limit (stop.LogRefused k) ended old s new due tries ends = absurd tries.tried
-solve_stopped model log limit stop.LogTooLong ended old s new due tries ends = absurd tries.tried
-solve_stopped model log limit (stop.Given (given.ScheduleRefused r)) ended old s new due tries ends = absurd tries.tried
+    subst (λ x. RunPromise (Some (solving model log limits)) x old new) (sym ends.0)
+    (solve_no_memory model log limits old s new tries.only tries.unread tries.later (ap (λ (x : State). x.out) reads.only) (before_log (subst (OnlyRefuses old) (sym reads.only) refl)) ends.1)
+solve_stopped model log limits (stop.LogRefused k) ended old s new due tries ends = absurd tries.tried
+solve_stopped model log limits stop.LogTooLong ended old s new due tries ends = absurd tries.tried
+solve_stopped model log limits (stop.Given (given.ScheduleRefused r)) ended old s new due tries ends = absurd tries.tried
 
 -- `check`, `bound` and `core`.
 
@@ -532,7 +533,7 @@ unreported r success model log old new reports = record {
 
 unread_own : (command : Option Command) (old new : State) → Reports memory_line old new → CommandPromise command end.NoMemory old new
 unread_own None old new reports = reports
-unread_own (Some (Solve model log limit)) old new reports = record {
+unread_own (Some (Solve model log nodes restarts)) old new reports = record {
   only = subst (OnlySolves old) (sym reports.only) refl;
   unread = tt;
   ends = before_log (subst (OnlyRefuses old) (sym reports.only) refl);
@@ -550,7 +551,7 @@ unread_own (Some (Gen shop)) old new reports = record {
   only = subst (OnlyPrints old) (sym reports.only) refl;
   ends = ap (λ (x : State). x.out) reports.only;
 }
-unread_own (Some (Trial shop log limit)) old new reports = (
+unread_own (Some (Trial shop log nodes restarts)) old new reports = (
   record {
     only = subst (OnlySolves old) (sym reports.only) refl;
     unread = ap (λ (x : State). x.model) reports.only;

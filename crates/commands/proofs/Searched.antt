@@ -9,9 +9,10 @@ use Rattle.kernel.specs.Refuting.{refutes_with}
 use Rattle.kernel.specs.Steps.{LogState, opening}
 use Rattle.textline.specs.Lines.{Bytes}
 use Rattle.logtext.specs.Extra.{log_refutes}
-use Rattle.logtext.specs.declared.version.Version.TheVariants.{One}
 use Rattle.logtext.specs.Logs.{PlainLine, plain_log}
-use Rattle.solver.specs.laws.Plain.{written_plain}
+use Rattle.restart_rules.specs.Restarts.{Limits}
+use Rattle.solver.specs.Versions.{version_of}
+use Rattle.solver.specs.laws.Versions.{written_held}
 use Rattle.solver.specs.code.Solving.{IsSolved, Solves}
 use Rattle.commands.specs.Runs.{LogPromise}
 use Rattle.commands.specs.code.Tries.{Searches}
@@ -21,13 +22,13 @@ created_empty : (text : Bytes) (before : Option Bytes) → appended text (option
 created_empty text None = refl
 created_empty text (Some bs) = refl
 
-log_promise : (m : Data) (limit : ℕ) (solved : Solved) (lines : List PlainLine) (state : LogState) (before : Option Bytes) → IsSolved m limit lines state solved → LogPromise m limit solved before (option_map (λ bs. plain_log One lines) before)
-log_promise m limit solved lines state before is = record {
+log_promise : (m : Data) (limits : Limits) (solved : Solved) (lines : List PlainLine) (state : LogState) (before : Option Bytes) → IsSolved m limits lines state solved → LogPromise m limits solved before (option_map (λ bs. plain_log (version_of limits.restarts) lines) before)
+log_promise m limits solved lines state before is = record {
   lines = lines;
   state = state;
   written = is.written;
   bytes = refl;
-  accepted = record { version = One; lines = lines; state = state; suits = written_plain m limit lines state is.written; log = is.written.log; text = refl; verdict = sym is.verdict; nodes = is.nodes };
+  accepted = record { version = version_of limits.restarts; lines = lines; state = state; suits = written_held m limits lines state is.written; log = is.written.log; text = refl; verdict = sym is.verdict; nodes = is.nodes };
   schedule = last_shown (refutes_with log_refutes) m lines (opening m) state _ is.written.log.steps refl is.shown;
   enough = is.enough;
   limited = λ open_one. (
@@ -37,11 +38,11 @@ log_promise m limit solved lines state before is = record {
   );
 }
 
-pub searched : (m : Data) (log : Bytes) (limit : ℕ) (solved : Solved) (s c t : State) (u : Unit {0}) → Creates log (Ok u) s c → Solves m limit solved c t → Searches m log limit (Ok solved) s t
-searched m log limit solved s c t u creates solves =
-    let text : Bytes = plain_log One solves.lines in
+pub searched : (m : Data) (log : Bytes) (limits : Limits) (solved : Solved) (s c t : State) (u : Unit {0}) → Creates log (Ok u) s c → Solves m limits solved c t → Searches m log limits (Ok solved) s t
+searched m log limits solved s c t u creates solves =
+    let text : Bytes = plain_log (version_of limits.restarts) solves.lines in
     let is : t ≡ record s { logged = option_map (λ bs. text) s.logged; created = true; logs = with_log log s.logs } =
     solves.logged
     ∙ ap (λ (x : State). record x { logged = appended text x.logged }) creates.created
     ∙ ap (λ l. record s { logged = l; created = true; logs = with_log log s.logs }) (created_empty text s.logged) in
-    subst (Searches m log limit (Ok solved) s) (sym is) (log_promise m limit solved solves.lines solves.state s.logged solves.is, solves.is.answer, refl)
+    subst (Searches m log limits (Ok solved) s) (sym is) (log_promise m limits solved solves.lines solves.state s.logged solves.is, solves.is.answer, refl)

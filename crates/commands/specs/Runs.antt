@@ -1,5 +1,5 @@
 -- What a run promises: which ending it has, and what it has done to the desk by then.
-use Rattle.std.specs.Prelude.{◌≡◌, ◌↔◌, ◌⊎◌, ℕ, ◌≤◌, true, false, List, [], Option, Some, None, option_map, ⊤}
+use Rattle.std.specs.Prelude.{◌≡◌, ◌↔◌, ◌⊎◌, ℕ, ◌+◌, ◌*◌, ◌≤◌, true, false, List, [], Option, Some, None, option_map, ⊤}
 use Rattle.sched_base.specs.State.{State, with_log}
 use Rattle.sched_base.specs.Calls.{Rose, appended, AppendedFrom}
 use Rattle.region.specs.Points.{budget_of}
@@ -22,8 +22,9 @@ use Rattle.textline.specs.Lines.{Bytes}
 use Rattle.sched_text.specs.Answers.{answer_text, summary_text}
 use Rattle.sched_text.specs.Canonical.{canonical_text}
 use Rattle.logtext.specs.Logs.{PlainLine, plain_log}
-use Rattle.logtext.specs.declared.version.Version.TheVariants.{One}
 use Rattle.checker.specs.Judgement.{IsAccepted}
+use Rattle.restart_rules.specs.Restarts.{Limits, limits_of}
+use Rattle.solver.specs.Versions.{version_of}
 use Rattle.solver.specs.Written.{IsWritten}
 use Rattle.sched_model.specs.Answers.{verdict_in}
 use Rattle.solver.specs.Answers.{IsAnswer, shown_in, is_unfinished}
@@ -44,12 +45,12 @@ use Rattle.commands.specs.VerifyText.{verify_text}
 -- the desk tells its files, and each that the command reads is there
 abbrev pub HasFiles : Option Command → State → Type 0
 HasFiles None s = ⊤
-HasFiles (Some (Solve model log limit)) s = HasFile s model
+HasFiles (Some (Solve model log nodes restarts)) s = HasFile s model
 HasFiles (Some (Check model log)) s = HasFile s model × HasFile s log
 HasFiles (Some (Verify model schedule)) s = HasFile s model × HasFile s schedule
 HasFiles (Some (Show model)) s = HasFile s model
 HasFiles (Some (Gen shop)) s = ⊤
-HasFiles (Some (Trial shop log limit)) s = ⊤
+HasFiles (Some (Trial shop log nodes restarts)) s = ⊤
 HasFiles (Some (Bound model log)) s = HasFile s model × HasFile s log
 HasFiles (Some (Core model log)) s = HasFile s model × HasFile s log
 
@@ -121,25 +122,27 @@ pub record RefusesModel (model : Source) (old new : State) : Type 0 where
 abbrev pub CreatesLog : Bytes → State → State → Type 0
 CreatesLog log old new = (new.created ≡ true) × (new.logs ≡ with_log log old.logs)
 
--- The log behind an answer, by the command's limit on nodes, from what stood on the port of the log before to what stands
--- there after.
-pub record LogPromise (m : Data) (limit : ℕ) (solved : Solved) (before after : Option Bytes) : Type 0 where
+-- The log behind an answer, by the command's limits on nodes and restarts, from what stood on the port of the log before to
+-- what stands there after.
+pub record LogPromise (m : Data) (limits : Limits) (solved : Solved) (before after : Option Bytes) : Type 0 where
   pub lines : List PlainLine
   pub state : LogState
-  -- a search may have written these lines by this limit: they step one after another from the opening state of the model to
+  -- a search may have written these lines by these limits: they step one after another from the opening state of the model to
   -- this one, no more nodes were opened than the limit, no node has more lines that derive than may, each split on a bound cuts
-  -- at the middle of what is open of it, and comes where nothing is left to derive, or where as many lines derived as may
-  pub written : IsWritten m limit lines state
-  -- the log was created empty, and its bytes are exactly the text of these lines
-  pub bytes : after ≡ option_map (λ bytes. plain_log One lines) before
+  -- at the middle of what is open of it, and comes where nothing is left to derive, or where as many lines derived as may; and
+  -- they begin anew exactly where the restart rule says
+  pub written : IsWritten m limits lines state
+  -- the log was created empty, and its bytes are exactly the text of these lines, of version 1 where there are no restarts
+  pub bytes : after ≡ option_map (λ bytes. plain_log (version_of limits.restarts) lines) before
   -- the judgement of those bytes is that they are accepted, with the printed verdict and the printed count of nodes
-  pub accepted : IsAccepted m (plain_log One lines) (verdict_in solved.answer) solved.nodes
+  pub accepted : IsAccepted m (plain_log (version_of limits.restarts) lines) (verdict_in solved.answer) solved.nodes
   -- the printed schedule is that of the last solution in the log
   pub schedule : last_schedule lines ≡ shown_in solved.answer
   -- unfinished comes only once exactly as many nodes were opened as the limit says, where no region is current and one waits
-  pub limited : is_unfinished solved.answer ≡ true → (solved.nodes ≡ limit) × (state.current ≡ None) × (is_empty state.waiting ≡ false)
-  -- and it never comes where the limit is the budget or more: twice the number of points of the root
-  pub enough : budget_of m ≤ limit → is_unfinished solved.answer ≡ false
+  pub limited : is_unfinished solved.answer ≡ true → (solved.nodes ≡ limits.nodes) × (state.current ≡ None) × (is_empty state.waiting ≡ false)
+  -- and it never comes where the limit is the budget or more: twice the number of points of the root, as often as the search
+  -- may begin
+  pub enough : (limits.restarts + 1) * budget_of m ≤ limits.nodes → is_unfinished solved.answer ≡ false
 
 abbrev pub ending_of : Printed → Ended
 ending_of (answer.Optimal v a) = end.Done
@@ -148,7 +151,7 @@ ending_of answer.Infeasible = end.Infeasible
 ending_of (answer.Unfinished found) = end.Unfinished
 
 -- The main promise.
-pub record AnswerPromise (model : Source) (log : Bytes) (limit : ℕ) (result : Ended) (old new : State) : Type 0 where
+pub record AnswerPromise (model : Source) (log : Bytes) (limits : Limits) (result : Ended) (old new : State) : Type 0 where
   pub m : Data
   pub solved : Solved
   -- the text of the model's file, or the generated text, deserves this model
@@ -159,45 +162,45 @@ pub record AnswerPromise (model : Source) (log : Bytes) (limit : ℕ) (result : 
   -- the ending is that of the answer, whose whole text was printed
   pub ending : result ≡ ending_of solved.answer
   -- with the budget or more as the limit the run is done, or there is no solution
-  pub enough : budget_of m ≤ limit → result ≡ end.Unfinished → ⊥
+  pub enough : (limits.restarts + 1) * budget_of m ≤ limits.nodes → result ≡ end.Unfinished → ⊥
   pub printed : new.out ≡ appended (told_text model m solved) old.out
   -- the whole log was written under the name that the words give, and it is accepted
   pub created : CreatesLog log old new
-  pub written : LogPromise m limit solved old.logged new.logged
+  pub written : LogPromise m limits solved old.logged new.logged
 
--- The log holds a front part of the text of lines that a search may have written by this limit.
-pub record HoldsBegunLog (m : Data) (limit : ℕ) (before after : Option Bytes) : Type 0 where
+-- The log holds a front part of the text of lines that a search may have written by these limits.
+pub record HoldsBegunLog (m : Data) (limits : Limits) (before after : Option Bytes) : Type 0 where
   pub lines : List PlainLine
   pub state : LogState
-  pub written : IsWritten m limit lines state
-  pub part : AppendedFrom (plain_log One lines) (option_map (λ bytes. []) before) after
+  pub written : IsWritten m limits lines state
+  pub part : AppendedFrom (plain_log (version_of limits.restarts) lines) (option_map (λ bytes. []) before) after
 
 -- How far it came where it was cut short by a fault or for want of memory.
-pub data CutShort (model : Source) (log : Bytes) (limit : ℕ) (old new : State) : Type 0 where
+pub data CutShort (model : Source) (log : Bytes) (limits : Limits) (old new : State) : Type 0 where
   -- no log was created, and nothing was printed
-  before_log : new ≡ record old { model = new.model; err = new.err; faults = new.faults } → CutShort model log limit old new
+  before_log : new ≡ record old { model = new.model; err = new.err; faults = new.faults } → CutShort model log limits old new
   -- the log of the model that the text deserves was begun, and nothing was printed
-  in_log : (m : Data) → SourceDeserves old model (Accepted m) → CreatesLog log old new → HoldsBegunLog m limit old.logged new.logged → new.out ≡ old.out → CutShort model log limit old new
+  in_log : (m : Data) → SourceDeserves old model (Accepted m) → CreatesLog log old new → HoldsBegunLog m limits old.logged new.logged → new.out ≡ old.out → CutShort model log limits old new
   -- the log is whole, and a front part of the answer's text was printed
-  in_answer : (m : Data) (solved : Solved) → SourceDeserves old model (Accepted m) → IsAnswer m solved.answer → CreatesLog log old new → LogPromise m limit solved old.logged new.logged
-      → AppendedFrom (told_text model m solved) old.out new.out → CutShort model log limit old new
+  in_answer : (m : Data) (solved : Solved) → SourceDeserves old model (Accepted m) → IsAnswer m solved.answer → CreatesLog log old new → LogPromise m limits solved old.logged new.logged
+      → AppendedFrom (told_text model m solved) old.out new.out → CutShort model log limits old new
 
 -- by its ending; no other comes
-abbrev pub SolveEnds : Source → Bytes → ℕ → Ended → State → State → Type 0
-SolveEnds model log limit end.Done old new = AnswerPromise model log limit end.Done old new
-SolveEnds model log limit end.Infeasible old new = AnswerPromise model log limit end.Infeasible old new
-SolveEnds model log limit end.Unfinished old new = AnswerPromise model log limit end.Unfinished old new
-SolveEnds model log limit end.ModelRefused old new = RefusesModel model old new
-SolveEnds model log limit end.Fault old new = CutShort model log limit old new
-SolveEnds model log limit end.NoMemory old new = CutShort model log limit old new
-SolveEnds model log limit _ old new = ⊥
+abbrev pub SolveEnds : Source → Bytes → Limits → Ended → State → State → Type 0
+SolveEnds model log limits end.Done old new = AnswerPromise model log limits end.Done old new
+SolveEnds model log limits end.Infeasible old new = AnswerPromise model log limits end.Infeasible old new
+SolveEnds model log limits end.Unfinished old new = AnswerPromise model log limits end.Unfinished old new
+SolveEnds model log limits end.ModelRefused old new = RefusesModel model old new
+SolveEnds model log limits end.Fault old new = CutShort model log limits old new
+SolveEnds model log limits end.NoMemory old new = CutShort model log limits old new
+SolveEnds model log limits _ old new = ⊥
 
-pub record SolvePromise (model : Source) (log : Bytes) (limit : ℕ) (result : Ended) (old new : State) : Type 0 where
+pub record SolvePromise (model : Source) (log : Bytes) (limits : Limits) (result : Ended) (old new : State) : Type 0 where
   -- nothing but these has changed
   pub only : new ≡ record old { model = new.model; out = new.out; err = new.err; logged = new.logged; created = new.created; logs = new.logs; faults = new.faults }
   -- and for a generated model not the slot of the model either
   pub unread : IsUnread model old new
-  pub ends : SolveEnds model log limit result old new
+  pub ends : SolveEnds model log limits result old new
 
 -- What `check`, `bound` and `core` promise.
 
@@ -307,12 +310,12 @@ NeverRefused result = result ≡ end.ModelRefused → ⊥
 
 abbrev pub CommandPromise : Option Command → Ended → State → State → Type 0
 CommandPromise None result old new = NoCommandEnds result old new
-CommandPromise (Some (Solve model log limit)) result old new = SolvePromise (file model) log limit result old new
+CommandPromise (Some (Solve model log nodes restarts)) result old new = SolvePromise (file model) log (limits_of nodes restarts) result old new
 CommandPromise (Some (Check model log)) result old new = ReportPromise check_report end.Accepted model log result old new
 CommandPromise (Some (Verify model schedule)) result old new = VerifyPromise model schedule result old new
 CommandPromise (Some (Show model)) result old new = ShowPromise model result old new
 CommandPromise (Some (Gen shop)) result old new = GenPromise shop result old new
-CommandPromise (Some (Trial shop log limit)) result old new = SolvePromise (generated shop) log limit result old new × NeverRefused result
+CommandPromise (Some (Trial shop log nodes restarts)) result old new = SolvePromise (generated shop) log (limits_of nodes restarts) result old new × NeverRefused result
 CommandPromise (Some (Bound model log)) result old new = ReportPromise bound_report end.Done model log result old new
 CommandPromise (Some (Core model log)) result old new = ReportPromise core_report end.Done model log result old new
 
@@ -322,12 +325,12 @@ ReadsBoth model log result old new = ReadsModel model old new × ((result ≡ en
 
 abbrev pub ReadsFiles : Option Command → Ended → State → State → Type 0
 ReadsFiles None result old new = ⊤
-ReadsFiles (Some (Solve model log limit)) result old new = ReadsModel model old new
+ReadsFiles (Some (Solve model log nodes restarts)) result old new = ReadsModel model old new
 ReadsFiles (Some (Check model log)) result old new = ReadsBoth model log result old new
 ReadsFiles (Some (Verify model schedule)) result old new = ReadsModel model old new × ((result ≡ end.ModelRefused → ⊥) → ReadsSchedule schedule old new)
 ReadsFiles (Some (Show model)) result old new = ReadsModel model old new
 ReadsFiles (Some (Gen shop)) result old new = ⊤
-ReadsFiles (Some (Trial shop log limit)) result old new = ⊤
+ReadsFiles (Some (Trial shop log nodes restarts)) result old new = ⊤
 ReadsFiles (Some (Bound model log)) result old new = ReadsBoth model log result old new
 ReadsFiles (Some (Core model log)) result old new = ReadsBoth model log result old new
 

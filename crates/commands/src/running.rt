@@ -32,12 +32,26 @@ fn run_words<D: Desk>(alloc: Global, words: &[String], desk: &mut D) -> Ended
     ensures { Runs (map string_bytes words.now) result (D.state desk.old) (D.state desk.new) }
 {
     match read_command(alloc, words) {
-        Ok(Command::Solve { model, log, nodes }) => run_solve(alloc, desk, model, log, nodes),
+        Ok(
+            Command::Solve {
+                model,
+                log,
+                nodes,
+                restarts,
+            },
+        ) => run_solve(alloc, desk, model, log, nodes, restarts),
         Ok(Command::Check { model, log }) => run_check(alloc, desk, model, log),
         Ok(Command::Verify { model, schedule }) => run_verify(alloc, desk, model, schedule),
         Ok(Command::Show { model }) => run_show(alloc, desk, model),
         Ok(Command::Gen { shop }) => run_gen(alloc, desk, shop),
-        Ok(Command::Trial { shop, log, nodes }) => run_trial(alloc, desk, shop, log, nodes),
+        Ok(
+            Command::Trial {
+                shop,
+                log,
+                nodes,
+                restarts,
+            },
+        ) => run_trial(alloc, desk, shop, log, nodes, restarts),
         Ok(Command::Bound { model, log }) => run_bound(alloc, desk, model, log),
         Ok(Command::Core { model, log }) => run_core(alloc, desk, model, log),
         Err(WordsFault::Usage) => end_usage(desk),

@@ -1,6 +1,7 @@
 ghost use Rattle.std.specs.Prelude.{◌≡◌, true, Some};
 ghost use Rattle.command_line.specs.Commands.{Solve};
 ghost use Rattle.command_line.specs.code.Found.{IsLimit};
+ghost use Rattle.restart_rules.specs.Restarts.{limits_of};
 ghost use Rattle.commands.specs.Ended.{is_success};
 ghost use Rattle.commands.specs.Runs.{RunPromise, ending_of, file};
 ghost use Rattle.commands.specs.code.Tries.{Searches, TriesSolve};
@@ -28,19 +29,21 @@ pub fn ending(answer: &Answer) -> Ended
     }
 }
 
-/// Solves the model, and writes the log of the search to a new file. It opens at most `nodes` nodes.
+/// Solves the model, and writes the log of the search to a new file. It opens at most `nodes` nodes, and
+/// begins anew at most `restarts` times.
 pub fn search_logged<D: Desk>(
     alloc: Global,
     desk: &mut D,
     model: &Model,
     log: &str,
     nodes: u32,
+    restarts: u32,
 ) -> Result<Solved, Stop>
     requires { IsLimit nodes }
-    ensures { Searches model.now log.now nodes result (D.state desk.old) (D.state desk.new) }
+    ensures { Searches model.now log.now (limits_of nodes restarts) result (D.state desk.old) (D.state desk.new) }
 {
     desk.create_log(log)?;
-    let solved = solve(alloc, model, u64::from(nodes), desk)?;
+    let solved = solve(alloc, model, u64::from(nodes), restarts, desk)?;
     Ok(solved)
 }
 
@@ -51,12 +54,13 @@ fn solve_file<D: Desk>(
     name: &str,
     log: &str,
     nodes: u32,
+    restarts: u32,
 ) -> Result<Ended, Stop>
     requires { IsLimit nodes }
-    ensures { TriesSolve (file name.now) log.now nodes result (D.state desk.old) (D.state desk.new) }
+    ensures { TriesSolve (file name.now) log.now (limits_of nodes restarts) result (D.state desk.old) (D.state desk.new) }
 {
     let model = read_file(alloc, desk, name)?;
-    let solved = match search_logged(alloc, desk, &model, log, nodes) {
+    let solved = match search_logged(alloc, desk, &model, log, nodes, restarts) {
         Ok(solved) => solved,
         Err(stop) => {
             drop(model);
@@ -72,12 +76,19 @@ fn solve_file<D: Desk>(
     }
 }
 
-/// Carries out `solve`, with at most so many nodes.
-pub fn run_solve<D: Desk>(alloc: Global, desk: &mut D, model: &str, log: &str, nodes: u32) -> Ended
+/// Carries out `solve`, with at most so many nodes and so many restarts.
+pub fn run_solve<D: Desk>(
+    alloc: Global,
+    desk: &mut D,
+    model: &str,
+    log: &str,
+    nodes: u32,
+    restarts: u32,
+) -> Ended
     requires { IsLimit nodes }
-    ensures { RunPromise (Some (Solve model.now log.now nodes)) result (D.state desk.old) (D.state desk.new) }
+    ensures { RunPromise (Some (Solve model.now log.now nodes restarts)) result (D.state desk.old) (D.state desk.new) }
 {
-    match solve_file(alloc, desk, model, log, nodes) {
+    match solve_file(alloc, desk, model, log, nodes, restarts) {
         Ok(ended) => ended,
         Err(stop) => end_stopped(alloc, desk, stop),
     }

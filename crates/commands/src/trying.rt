@@ -1,6 +1,7 @@
 ghost use Rattle.std.specs.Prelude.{Some};
 ghost use Rattle.command_line.specs.Commands.{Trial};
 ghost use Rattle.command_line.specs.code.Found.{IsLimit, IsShop};
+ghost use Rattle.restart_rules.specs.Restarts.{limits_of};
 ghost use Rattle.commands.specs.Runs.{RunPromise, generated};
 ghost use Rattle.commands.specs.code.Tries.{TriesSolve};
 
@@ -25,13 +26,14 @@ fn solve_shop<D: Desk>(
     shop: Shop,
     log: &str,
     nodes: u32,
+    restarts: u32,
 ) -> Result<Ended, Stop>
     requires sized { IsShop shop }
     requires limited { IsLimit nodes }
-    ensures { TriesSolve (generated shop) log.now nodes result (D.state desk.old) (D.state desk.new) }
+    ensures { TriesSolve (generated shop) log.now (limits_of nodes restarts) result (D.state desk.old) (D.state desk.new) }
 {
     let model = generated_model(alloc, shop)?;
-    let searched = search_logged(alloc, desk, &model, log, nodes);
+    let searched = search_logged(alloc, desk, &model, log, nodes, restarts);
     drop(model);
     let solved = searched?;
     let written = write_summary(&solved, desk);
@@ -43,16 +45,23 @@ fn solve_shop<D: Desk>(
     }
 }
 
-/// Carries out `trial`, with at most so many nodes.
-pub fn run_trial<D: Desk>(alloc: Global, desk: &mut D, shop: Shop, log: &str, nodes: u32) -> Ended
+/// Carries out `trial`, with at most so many nodes and so many restarts.
+pub fn run_trial<D: Desk>(
+    alloc: Global,
+    desk: &mut D,
+    shop: Shop,
+    log: &str,
+    nodes: u32,
+    restarts: u32,
+) -> Ended
     requires sized { IsShop shop }
     requires limited { IsLimit nodes }
-    ensures { RunPromise (Some (Trial shop log.now nodes)) result (D.state desk.old) (D.state desk.new) }
+    ensures { RunPromise (Some (Trial shop log.now nodes restarts)) result (D.state desk.old) (D.state desk.new) }
 {
     // The text deserves a model, and nothing else, so it isn't refused.
     generated_texts_deserve();
     answer_is_determined();
-    match solve_shop(alloc, desk, shop, log, nodes) {
+    match solve_shop(alloc, desk, shop, log, nodes, restarts) {
         Ok(ended) => ended,
         Err(stop) => end_stopped(alloc, desk, stop),
     }

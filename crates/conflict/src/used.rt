@@ -156,11 +156,10 @@ impl Used {
         }
     }
 
-    /// The kind that logs have beside the others names none, since there is none.
     fn mark_extra(&mut self, w: &LogWitness)
         ensures { self.new ≡ marked (log_named w.now) self.old }
     {
-        let _ = w;
+        self.mark(w.c.0);
     }
 
     fn mark_witness(&mut self, w: &Witness<LogWitness>)

@@ -6,4 +6,5 @@
 
 pub mod of_engine;
 pub mod of_propagators;
+pub mod of_restart_rules;
 pub mod of_solver;

@@ -4,5 +4,6 @@ pub mod Reading
 pub mod Extra
 pub mod Logs
 pub mod Judgement
+pub mod Lifted
 pub mod laws
 pub mod code

@@ -4,3 +4,4 @@ pub mod Plain
 pub mod Kinds
 pub mod Entries
 pub mod Ends
+pub mod Lifted

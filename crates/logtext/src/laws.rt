@@ -1,4 +1,5 @@
 ghost use Rattle.logtext.specs.code.Promises.{SpellingsAreTold, SpellingsEndOnce};
+ghost use Rattle.logtext.specs.Lifted.{SameStep, SameSteps, SameSpelling, SameFit};
 
 use region::Refuter;
 
@@ -7,4 +8,13 @@ use region::Refuter;
 pub fn spelling_is_determined<X: Refuter>()
     ensures told { SpellingsAreTold X.Witness.numbers X.Witness.is_valid }
     ensures ends { SpellingsEndOnce X.Witness.numbers X.Witness.is_valid }
+{}
+
+/// Stands for laws of the definitions: a line without an extra witness has the same spelling and the same
+/// step, and may stand in a log alike, whether logs may hold witnesses of energy or no extra witness at all.
+pub fn plain_lines_stay()
+    ensures step { SameStep }
+    ensures steps { SameSteps }
+    ensures spelling { SameSpelling }
+    ensures fit { SameFit }
 {}

@@ -17,7 +17,7 @@ mod writer;
 
 pub use entry::{Entry, EntryFault};
 pub use extra::{LogExtra, LogWitness};
-pub use laws::spelling_is_determined;
+pub use laws::{plain_lines_stay, spelling_is_determined};
 pub use reader::LogReader;
 pub use version::Version;
 pub use writer::LogWriter;

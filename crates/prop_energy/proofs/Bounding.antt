@@ -16,7 +16,6 @@ use Rattle.sched_model.specs.Valid.{IsValid, is_constraint, is_window}
 use Rattle.sched_model.specs.laws.Limits.{limits_of}
 use Rattle.region.specs.Cells.{Region}
 use Rattle.region.specs.laws.Lists.{all-at}
-use Rattle.refute_cumul.specs.laws.Sides.{few_parts, has_room}
 use Rattle.refute_energy.specs.Energy.{is_capacity, overflows, energy_of}
 use Rattle.envelope.specs.code.Bars.{IsCapacity}
 use Rattle.prop_energy.specs.declared.bounds.Bound.{Bound}
@@ -24,9 +23,6 @@ use Rattle.prop_energy.specs.code.Bounds.{bound_of, with_bound, bounds_from, IsB
 
 pub few_constraints : (m : Data) → IsValid m → length m.constraints ≤ 20000
 few_constraints m valid = (limits_of m valid.limits).constraints
-
-pub parts_few : (m : Data) (f : Cum) → IsValid m → length (parts_of m f) ≤ 100000
-parts_few m f valid = has_room m 100000 (λ i d h. few_parts m i d valid h) f
 
 -- the loop that gathers them
 pub one_pushed : (m : Data) (cs : List Constraint) (bounds : List Bound) (n : ℕ) (d : Constraint) (b : Bound) → n < length cs → bound_of m n (get_or cs n d) ≡ Some b → (bounds ++ bounds_from m n (drop n cs)) ≡ bounds_from m 0 cs

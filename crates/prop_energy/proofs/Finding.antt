@@ -15,8 +15,7 @@ use Rattle.sched_model.specs.laws.Small.{number_fits}
 use Rattle.region.specs.Cells.{Region}
 use Rattle.region.specs.Looks.{Seen, IsRegionOf}
 use Rattle.refute_cumul.specs.laws.Levels.{valid_parts}
-use Rattle.task_sets.specs.Times.{has, is_task_set, rises_from}
-use Rattle.task_sets.specs.laws.Sums.{above_all, has_first, has_later}
+use Rattle.task_sets.specs.Times.{is_task_set}
 use Rattle.task_sets.specs.laws.Ects.{up_from, keep, all_from}
 use Rattle.task_sets.specs.laws.Cuts.{task_set_of, no_task_set}
 use Rattle.refute_energy.specs.declared.witness.EnergyWitness.{EnergyWitness}
@@ -33,7 +32,8 @@ use Rattle.prop_energy.specs.code.Rows.{rows_of, is_in_at}
 use Rattle.prop_energy.specs.code.Found.{GivesOverload, GivesSet, FoundBy}
 use Rattle.prop_energy.proofs.Cutting.{are_rows, set_cuts, cut_overflows}
 use Rattle.prop_energy.specs.code.Bounds.{bounds_from, IsBoundIn}
-use Rattle.prop_energy.proofs.Bounding.{parts_few, has_bound, of_bound, in_list, is_bound}
+use Rattle.refute_energy.specs.laws.Few.{parts_few, short_set}
+use Rattle.prop_energy.proofs.Bounding.{has_bound, of_bound, in_list, is_bound}
 use Rattle.sched_model.specs.laws.Limits.{limits_of}
 use Rattle.envelope.specs.code.Bars.{IsCapacity}
 
@@ -57,23 +57,6 @@ numbers_in m r is [] few h = refl
 numbers_in m r is (x ∷ xs) few h =
     let set = task_set_of (is_bar_at r is) x xs h in
     and_from (adjacent nat_lt (x ∷ xs)) (list_all is_number (x ∷ xs)) set.rises (all_from is_number (x ∷ xs) (λ k here. number_fits k (let low = bars_below r is k (set.inside k here) in omega (arith, low, few))))
-
-short : (x : ℕ) (xs : List ℕ) (n : ℕ) → rises_from x xs ≡ true → ((k : ℕ) → has (x ∷ xs) k ≡ true → k < n) → x + length (x ∷ xs) ≤ n
-short x [] n rises below = let low = below x (has_first x []) in omega (arith, low)
-short x (y ∷ ys) n rises below =
-    let rest = short y ys n (and_parts (nat_lt x y) (rises_from y ys) rises).1 (λ k here. below k (later x k (y ∷ ys) here)) in
-    let less : x < y = above_all x (y ∷ ys) y rises (has_first y ys) in
-    omega (arith, rest, less)
-  where
-    later : (x k : ℕ) (zs : List ℕ) → has zs k ≡ true → has (x ∷ zs) k ≡ true
-    later x k zs here = has_later x k zs here
-
-short_set : (r : Region) (is : List Part) (s : List ℕ) → length is ≤ 100000 → is_task_set (is_bar_at r is) s ≡ true → length s ≤ 100000
-short_set r is [] few h = omega arith
-short_set r is (x ∷ xs) few h =
-    let set = task_set_of (is_bar_at r is) x xs h in
-    let most = short x xs (length is) set.rises (λ k here. bars_below r is k (set.inside k here)) in
-    omega (arith, most, few)
 
 some_in : (t : ℕ → Bool) (s : List ℕ) → is_task_set t s ≡ true → not (is_empty s) ≡ true
 some_in t [] h = absurd (no_task_set t h)

@@ -4,3 +4,4 @@ pub mod Bars
 pub mod Sound
 pub mod Spelling
 pub mod Wide
+pub mod Few

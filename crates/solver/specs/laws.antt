@@ -1,3 +1,3 @@
 pub mod Quiet
 pub mod Putting
-pub mod Plain
+pub mod Versions

@@ -8,6 +8,7 @@ ghost use Rattle.solver.specs.code.Searching.{CutsRegion};
 use crate::open_intervals::OpenIntervals;
 use branching::{Goal, Guide, Links, Pairs, Rule, Shortlist, Soonest, Tree, View, Weights};
 use kernel::{NoWitness, Witness};
+use prop_energy::EnergyWitness;
 use region::{Guess, Look, Presence, Region};
 use sched_base::{Itv, NoMemory};
 use sched_model::{Constraint, Model};
@@ -222,5 +223,13 @@ impl Chooser {
         ensures { self.new ≡ self.old }
     {
         self.weights.count(model, look, w);
+    }
+
+    /// The same of an overload of energy.
+    pub fn blame_overload(&mut self, model: &Model, w: &EnergyWitness)
+        ensures { self.new ≡ self.old }
+    {
+        self.weights
+            .count_overload(model, w.c.0, w.parts.as_slice());
     }
 }

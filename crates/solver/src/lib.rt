@@ -2,13 +2,16 @@
 #![tactic(auto)]
 
 mod aims;
+mod anew;
 mod answer;
 mod branch;
 mod chooser;
 mod fault;
 mod hints;
 mod keeping;
+mod lifting;
 mod log_lines;
+mod log_to;
 mod lookahead;
 mod luby;
 mod mark;

@@ -291,7 +291,13 @@ impl<P: Propagator> Rehearsal<P> {
                 self.search.intervals.blame(model, &look, &w);
                 Ok(self.back(model, true, found))
             }
-            Stop::Quiet => self.leave(alloc, model, found),
+            Stop::Quiet => {
+                if let Some(w) = self.search.overload(model)? {
+                    self.search.intervals.blame_overload(model, &w);
+                    return Ok(self.back(model, true, found));
+                }
+                self.leave(alloc, model, found)
+            }
         }
     }
 

@@ -10,23 +10,31 @@ ghost use Rattle.region.specs.Looks.{IsRegionOf};
 ghost use Rattle.kernel.specs.declared.types.Line.TheVariants as line_is;
 ghost use Rattle.kernel.specs.Steps.{best_of, step_at, left_after, found_in, opening};
 ghost use Rattle.engine.specs.code.Engines.{AreQuiet, AreAwake, IsCalm, IsFor};
-ghost use Rattle.engine.specs.Plain.{refutes_plain};
 ghost use Rattle.engine.specs.Runs.{Ends};
 ghost use Rattle.propagators.specs.Quiet.{IsQuietRegion};
-ghost use Rattle.solver.specs.code.Searching.{IsHolding, IsReady, IsResting, Closes, Derived, GoesOn, IsLogged, QuietUnlessFailed, is_failed, is_capped, behind_in, left_in, state_in, node_in, CutsRegion};
+ghost use Rattle.logtext.specs.Lifted.{refutes_logged};
+ghost use Rattle.prop_energy.specs.Full.{HasNoOverload};
+ghost use Rattle.restart_rules.specs.Restarts.{first_stretch, limits_of};
+ghost use Rattle.restart_rules.specs.code.Stretches.{Plan, MayOpen, plan_of, with_closed};
+ghost use Rattle.solver.specs.code.Searching.{IsHolding, IsReady, IsResting, AskedUnlessSettled, Closes, Derived, GoesOn, Ran, IsLogged, QuietUnlessFailed, is_failed, is_capped, behind_in, left_in, state_in, node_in, CutsRegion};
 
 use crate::branch::is_cut;
 use crate::chooser::{Chooser, WIDTH};
 use crate::fault::SolveFault;
 use crate::hints::Hints;
+use crate::lifting::lifted;
+use crate::log_to::LogTo;
 use crate::mark::Mark;
 use crate::order::cut_orders;
 use crate::settled::settled_assignment;
 use crate::state::Search;
 use branching::Guide;
-use engine::{Engine, Lines, Propagator, Stop};
-use kernel::{Found, Line, NoWitness, Pending};
+use engine::{Engine, Propagator, Stop};
+use kernel::{Found, Line, Pending, Witness};
+use logtext::LogWitness;
+use prop_energy::{EnergyWitness, PropEnergy};
 use region::{Guess, Region};
+use restart_rules::Stretches;
 use sched_base::NoMemory;
 use sched_model::{Assignment, Model, value};
 use std::alloc::Global;
@@ -79,6 +87,7 @@ impl<P: Propagator> Search<P> {
             pending: Pending::new(alloc),
             marks: Vec::new(alloc),
             engine,
+            energy: PropEnergy::new(alloc, model)?,
             intervals: Chooser::new(alloc, model, weights, many_pairs)?,
             found: None,
             nodes: 0,
@@ -86,10 +95,11 @@ impl<P: Propagator> Search<P> {
         })
     }
 
-    /// From the root of the model again, with what was found.
+    /// From the root of the model again, with what was found and counted.
     pub fn restart(&mut self, alloc: Global, model: &Model) -> Result<(), NoMemory>
         requires { IsHolding P.Propagator model.now self.old }
         ensures ready { OnOk result (IsReady P.Propagator model.now self.new) }
+        ensures state { OnOk result (state_in true self.new ≡ record (opening model.now) { nodes = self.old.nodes; found = self.old.found }) }
     {
         // Called for its clause alone.
         let _ = model.intervals();
@@ -99,7 +109,6 @@ impl<P: Propagator> Search<P> {
         self.engine.forget_changes();
         self.engine.wake_all();
         self.intervals.reopen(alloc, model)?;
-        self.nodes = 0;
         Ok(())
     }
 
@@ -135,7 +144,7 @@ impl<P: Propagator> Search<P> {
     }
 
     /// Derives what follows at the region.
-    pub fn derive<L: Lines>(&mut self, model: &Model, lines: &mut L) -> Result<Stop, SolveFault>
+    pub fn derive<L: LogTo>(&mut self, model: &Model, lines: &mut L) -> Result<Stop, SolveFault>
         requires ready { IsReady P.Propagator model.now self.old }
         requires lines { L.ready lines.old }
         ensures ready { OnOk result (IsReady P.Propagator model.now self.new) }
@@ -144,8 +153,8 @@ impl<P: Propagator> Search<P> {
         ensures stop { IfOk result (Ends (AreQuiet P.Propagator model.now self.new.region.region (best_of self.new.found)) model.now (best_of self.new.found) self.new.region.region) }
         ensures settled { IfOk result (λ stop. IsTrue (is_settled self.new.region.region) → QuietUnlessFailed (AreQuiet P.Propagator model.now self.new.region.region (best_of self.new.found)) stop) }
         ensures found { self.new.found ≡ self.old.found }
-        ensures derived { (from : L) (limit : ℕ) → self.old.nodes < limit → IsLogged L.Lines model.now limit from lines.old 0 (state_in true self.old)
-            → Derived P.Propagator L.Lines model.now limit from lines.new self.new result }
+        ensures derived { (from : L) (plan : Plan) → MayOpen plan self.old.nodes → IsLogged L.LogTo.own model.now plan from lines.old 0 (state_in true self.old)
+            → Derived P.Propagator L.LogTo.own L.Lines model.now plan from lines.new self.new result }
     {
         // The model is valid by its type.
         let _ = model.intervals();
@@ -253,7 +262,7 @@ impl<P: Propagator> Search<P> {
         alloc: Global,
         model: &Model,
         is_quiet: bool,
-    ) -> Result<Line<NoWitness>, NoMemory>
+    ) -> Result<Line<LogWitness>, NoMemory>
         requires ready { IsReady P.Propagator model.now self.old }
         requires rests { is_quiet ≡ true → AreQuiet P.Propagator model.now self.old.region.region (best_of self.old.found) }
         requires quiet { IsTrue (is_settled self.old.region.region) → IsQuietRegion model.now self.old.region.region (best_of self.old.found) }
@@ -279,13 +288,45 @@ impl<P: Propagator> Search<P> {
         }
     }
 
+    /// What refutes the region by energy. A settled one isn't asked: where it is quiet it leaves a solution.
+    pub fn overload(&mut self, model: &Model) -> Result<Option<EnergyWitness>, NoMemory>
+        requires { IsReady P.Propagator model.now self.old }
+        ensures same { self.new ≡ self.old }
+        ensures found { IfOk result (AskedUnlessSettled model.now self.old.region.region) }
+    {
+        if self.region.settled() {
+            return Ok(None);
+        }
+        self.energy.overload(model, &self.region)
+    }
+
+    /// The line that ends a node of which nothing is left to derive.
+    fn close_quiet(&mut self, alloc: Global, model: &Model) -> Result<Line<LogWitness>, NoMemory>
+        requires ready { IsReady P.Propagator model.now self.old }
+        requires rests { AreQuiet P.Propagator model.now self.old.region.region (best_of self.old.found) }
+        requires quiet { IsQuietRegion model.now self.old.region.region (best_of self.old.found) }
+        ensures ready { OnOk result (IsReady P.Propagator model.now self.new) }
+        ensures same { OnOk result (self.new ≡ record self.old { engine = self.new.engine; intervals = self.new.intervals; region = record self.old.region { spare = self.new.region.spare } }) }
+        ensures room { IfOk result (λ line. (g : GuessData) → line ≡ line_is.Split g → 2 ≤ self.new.region.spare) }
+        ensures line { IfOk result (Closes model.now self.old.region.region (best_of self.old.found) false) }
+        ensures full { IfOk result (λ line. (g : GuessData) → line ≡ line_is.Split g → HasNoOverload model.now self.old.region.region) }
+    {
+        // The model is valid by its type.
+        let _ = model.intervals();
+        if let Some(w) = self.overload(model)? {
+            self.intervals.blame_overload(model, &w);
+            return Ok(Line::Fail(Witness::Extra(w)));
+        }
+        self.leave(alloc, model, true)
+    }
+
     /// The line that ends the node.
     pub fn closing(
         &mut self,
         alloc: Global,
         model: &Model,
         stop: Stop,
-    ) -> Result<Line<NoWitness>, NoMemory>
+    ) -> Result<Line<LogWitness>, NoMemory>
         requires ready { IsReady P.Propagator model.now self.old }
         requires covers { (r : Cells) (best : Option ℤ) → IsRegionOf model.now r → AreQuiet P.Propagator model.now r best → IsQuietRegion model.now r best }
         requires stop { Ends (AreQuiet P.Propagator model.now self.old.region.region (best_of self.old.found)) model.now (best_of self.old.found) self.old.region.region stop }
@@ -294,14 +335,15 @@ impl<P: Propagator> Search<P> {
         ensures same { OnOk result (self.new ≡ record self.old { engine = self.new.engine; intervals = self.new.intervals; region = record self.old.region { spare = self.new.region.spare } }) }
         ensures room { IfOk result (λ line. (g : GuessData) → line ≡ line_is.Split g → 2 ≤ self.new.region.spare) }
         ensures line { IfOk result (Closes model.now self.old.region.region (best_of self.old.found) (is_failed stop)) }
+        ensures full { IfOk result (λ line. (g : GuessData) → line ≡ line_is.Split g → is_capped stop ≡ false → HasNoOverload model.now self.old.region.region) }
     {
         match stop {
             Stop::Failed(w) => {
                 let look = self.region.look(None, None);
                 self.intervals.blame(model, &look, &w);
-                Ok(Line::Fail(w))
+                Ok(Line::Fail(lifted(alloc, w)))
             }
-            Stop::Quiet => self.leave(alloc, model, true),
+            Stop::Quiet => self.close_quiet(alloc, model),
             Stop::Capped => self.leave(alloc, model, false),
         }
     }
@@ -388,14 +430,14 @@ impl<P: Propagator> Search<P> {
     pub fn close(
         &mut self,
         model: &Model,
-        line: Line<NoWitness>,
+        line: Line<LogWitness>,
         capped: bool,
     ) -> Result<bool, NoMemory>
         requires nodes { self.old.nodes < 2 ^ 63 }
         requires ready { IsReady P.Propagator model.now self.old }
         requires closes { (failed : Bool) × Closes model.now self.old.region.region (best_of self.old.found) failed line }
         requires spent { (g : GuessData) → line ≡ line_is.Split g → capped ≡ false → AreQuiet P.Propagator model.now self.old.region.region (best_of self.old.found) }
-        ensures step { IfOk result (λ more. step_at refutes_plain model.now (node_in self.old) line ≡ Ok (state_in more self.new)) }
+        ensures step { IfOk result (λ more. step_at refutes_logged model.now (node_in self.old) line ≡ Ok (state_in more self.new)) }
         ensures ready { IfOk result (λ more. IsTrue more → IsReady P.Propagator model.now self.new) }
         ensures nodes { OnOk result (self.new.nodes ≡ self.old.nodes + 1) }
     {
@@ -411,7 +453,7 @@ impl<P: Propagator> Search<P> {
     }
 
     /// Opens a node and ends it; false where no region is left.
-    fn visit<L: Lines>(
+    fn visit<L: LogTo>(
         &mut self,
         alloc: Global,
         model: &Model,
@@ -424,24 +466,26 @@ impl<P: Propagator> Search<P> {
         ensures ready { IfOk result (λ more. IsTrue more → IsReady P.Propagator model.now self.new) }
         ensures lines { OnOk result (L.ready lines.new) }
         ensures nodes { OnOk result (self.new.nodes ≡ self.old.nodes + 1) }
-        ensures logged { (from : L) (limit : ℕ) → self.old.nodes < limit → IsLogged L.Lines model.now limit from lines.old 0 (state_in true self.old)
-            → GoesOn L.Lines model.now limit from lines.new self.new result }
+        ensures logged { (from : L) (plan : Plan) → MayOpen plan self.old.nodes → IsLogged L.LogTo.own model.now plan from lines.old 0 (state_in true self.old)
+            → GoesOn L.LogTo.own L.Lines model.now (with_closed plan) from lines.new self.new result }
     {
         // The model is valid by its type.
         let _ = model.intervals();
         let stop = self.derive(model, lines)?;
         let capped = is_capped(&stop);
         let line = self.closing(alloc, model, stop)?;
-        lines.put(&line)?;
+        lines.write(&line)?;
         Ok(self.close(model, line, capped)?)
     }
 
-    /// Opens nodes until no region is left, but at most so many; whether one is left.
-    pub fn run<L: Lines>(
+    /// Opens nodes until no region is left, but at most so many, and begins anew at most so often;
+    /// whether one is left.
+    pub fn run<L: LogTo>(
         &mut self,
         alloc: Global,
         model: &Model,
         nodes: u64,
+        restarts: u32,
         lines: &mut L,
     ) -> Result<bool, SolveFault>
         requires covers { (r : Cells) (best : Option ℤ) → IsRegionOf model.now r → AreQuiet P.Propagator model.now r best → IsQuietRegion model.now r best }
@@ -453,12 +497,16 @@ impl<P: Propagator> Search<P> {
         ensures lines { OnOk result (L.ready lines.new) }
         ensures few { OnOk result (self.new.nodes ≤ nodes) }
         ensures limited { IfOk result (λ more. IsTrue more → self.new.nodes ≡ nodes) }
-        ensures logged { (from : L) → IsLogged L.Lines model.now nodes from lines.old 0 (state_in true self.old) → GoesOn L.Lines model.now nodes from lines.new self.new result }
+        ensures logged { (from : L) → IsLogged L.LogTo.own model.now (plan_of nodes restarts first_stretch) from lines.old 0 (state_in true self.old)
+            → Ran L.LogTo.own L.Lines model.now (limits_of nodes restarts) from lines.new self.new result }
     {
+        let mut stretches = Stretches::new();
         for _n in 0..nodes {
+            self.begin_anew_if_over(alloc, model, restarts, &mut stretches, lines)?;
             if !self.visit(alloc, model, lines)? {
                 return Ok(false);
             }
+            stretches.close();
         }
         Ok(true)
     }

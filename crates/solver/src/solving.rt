@@ -3,6 +3,8 @@ ghost use Rattle.region.specs.Cells.{Region as Cells};
 ghost use Rattle.region.specs.Looks.{IsRegionOf};
 ghost use Rattle.engine.specs.code.Engines.{AreQuiet, AreAwake, IsFor};
 ghost use Rattle.propagators.specs.Quiet.{IsQuietRegion};
+ghost use Rattle.restart_rules.specs.Restarts.{limits_of};
+ghost use Rattle.solver.specs.Versions.{version_of};
 ghost use Rattle.solver.specs.code.Solving.{Gives};
 
 use crate::answer::answer_from;
@@ -19,6 +21,16 @@ use sched_base::Desk;
 use sched_model::{Model, Solved};
 use std::alloc::Global;
 
+/// The version of the log of a search that begins anew at most so often.
+fn version_of(restarts: u32) -> Version
+    ensures { result ≡ version_of restarts }
+{
+    if restarts == 0 {
+        return Version::One;
+    }
+    Version::Two
+}
+
 /// The search with these propagators, all of them awake.
 fn solve_with<P: Propagator, D: Desk>(
     alloc: Global,
@@ -26,6 +38,7 @@ fn solve_with<P: Propagator, D: Desk>(
     engine: Engine<P>,
     hints: Hints,
     nodes: u64,
+    restarts: u32,
     desk: &mut D,
 ) -> Result<Solved, SolveFault>
     requires made { IsFor P.Propagator model.now engine }
@@ -34,13 +47,13 @@ fn solve_with<P: Propagator, D: Desk>(
     requires some { 0 < nodes }
     requires few { nodes ≤ 2 ^ 62 }
     requires created { (D.state desk.old).created ≡ true }
-    ensures { Gives model.now nodes result (D.state desk.old) (D.state desk.new) }
+    ensures { Gives model.now (limits_of nodes restarts) result (D.state desk.old) (D.state desk.new) }
 {
     let mut search = Search::new(alloc, model, engine, hints)?;
     let mut writer = LogWriter::new();
-    writer.write_head(Version::One, desk)?;
+    writer.write_head(version_of(restarts), desk)?;
     let mut lines = LogLines { writer, desk };
-    let ended = search.run(alloc, model, nodes, &mut lines);
+    let ended = search.run(alloc, model, nodes, restarts, &mut lines);
     let LogLines { mut writer, desk } = lines;
     let more = ended?;
     writer.write_end(desk)?;
@@ -54,8 +67,10 @@ fn solve_with<P: Propagator, D: Desk>(
 
 /// Looks for a best solution of a model by branch and bound, and writes the log of the search. It
 /// opens at most `nodes` nodes, after a preparation that looks at a fifth as many regions at most, and
-/// at no more than 20,000. It keeps one region with saves, so its memory grows with the depth of the
-/// search. At each node it derives until no propagator finds anything, or 16 lines for each cell of the
+/// at no more than 20,000. After 100 nodes it begins anew, with its weights and the schedule that it
+/// follows, and then each time after twice as many as before, at most `restarts` times; where that is 0
+/// it writes a log of version 1, and else one of version 2. It keeps one region with saves, so its
+/// memory grows with the depth of the search. At each node it derives until no propagator finds anything, or 16 lines for each cell of the
 /// region were put; what is left it splits. First an open presence, of the interval that was named most
 /// where regions were refuted. Then the order of the tightest pair of present members of a sequence
 /// without overlap, for the weights of both. Then a bound of the interval that was cut last, while it
@@ -67,17 +82,18 @@ pub fn solve<D: Desk>(
     alloc: Global,
     model: &Model,
     nodes: u64,
+    restarts: u32,
     desk: &mut D,
 ) -> Result<Solved, SolveFault>
     requires some { 0 < nodes }
     requires few { nodes ≤ 2 ^ 62 }
     requires created { (D.state desk.old).created ≡ true }
-    ensures { Gives model.now nodes result (D.state desk.old) (D.state desk.new) }
+    ensures { Gives model.now (limits_of nodes restarts) result (D.state desk.old) (D.state desk.new) }
 {
     let hints = prepare(alloc, model, nodes)?;
     let engine = start(alloc, model)?;
     // The model is valid by its type.
     let _ = model.intervals();
     covers();
-    solve_with(alloc, model, engine, hints, nodes, desk)
+    solve_with(alloc, model, engine, hints, nodes, restarts, desk)
 }

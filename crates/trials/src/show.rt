@@ -3,6 +3,7 @@
 //! | Part | What it is |
 //! |---|---|
 //! | `out`, `err`, `log`, `logs` | standard output, standard error, the log, and the names of the logs that were created |
+//! | `head`, `anew` | the first line of the log, and after how many nodes it begins anew, each time that it does |
 //! | `verdict` | standard output up to the number of nodes |
 //! | `first=N`, `last=N` | its first or its last lines |
 //! | `tail=N` | its last bytes |
@@ -101,6 +102,8 @@ fn put_part(out: &mut String, told: &Told, part: &str) -> Result<(), NoMemory> {
         "err" => put_bytes(out, "! ", told.err.as_slice()),
         "log" => put_bytes(out, "> ", told.log.as_slice()),
         "logs" => put_bytes(out, "log ", told.logs.as_slice()),
+        "head" => put_bytes(out, "> ", first_lines(told.log.as_slice(), 1)),
+        "anew" => put_anew(out, told.log.as_slice()),
         "verdict" => put_bytes(out, "| ", verdict(text)),
         "first" => put_bytes(out, "| ", first_lines(text, number(n))),
         "last" => put_bytes(out, "| ", last_lines(text, number(n))),
@@ -119,6 +122,25 @@ fn put_part(out: &mut String, told: &Told, part: &str) -> Result<(), NoMemory> {
 
 fn put_count(out: &mut String, count: u64) -> Result<(), NoMemory> {
     writeln!(out, "{count} lines")?;
+    Ok(())
+}
+
+/// Whether a line of a log ends a node.
+fn ends_node(line: &str) -> bool {
+    line == "v" || line.starts_with("v ") || line.starts_with("f ") || line.starts_with("s ")
+}
+
+fn put_anew(out: &mut String, log: &[u8]) -> Result<(), NoMemory> {
+    out.push_str("anew")?;
+    let mut nodes = 0_u64;
+    for line in std::str::from_utf8(log).unwrap_or("").split('\n') {
+        if line == "restart" {
+            write!(out, " {nodes}")?;
+        } else if ends_node(line) {
+            nodes = nodes.wrapping_add(1);
+        }
+    }
+    out.push_str("\n")?;
     Ok(())
 }
 

@@ -1,5 +1,5 @@
 -- What each step of a command does to the desk on the way.
-use Rattle.std.specs.Prelude.{◌≡◌, ◌⊎◌, ℕ, ◌≤◌, true, Result, Ok, Err, ⊤}
+use Rattle.std.specs.Prelude.{◌≡◌, ◌⊎◌, ◌≤◌, true, Result, Ok, Err, ⊤}
 use Rattle.sched_base.specs.State.{State, with_log, with_faults}
 use Rattle.sched_base.specs.Calls.{Rose, appended, AppendedFrom}
 use Rattle.sched_model.specs.declared.types.Solved.{Solved}
@@ -8,6 +8,7 @@ use Rattle.cpo_elab.specs.Answers.Answer.{Accepted, Refused}
 use Rattle.cpo_elab.specs.Deserves.{Deserves}
 use Rattle.command_line.specs.declared.shop.Shop.{Shop}
 use Rattle.textline.specs.Lines.{Bytes}
+use Rattle.restart_rules.specs.Restarts.{Limits}
 use Rattle.solver.specs.Answers.{IsAnswer}
 use Rattle.given_files.specs.declared.stop.Stop.{Stop as GivenStop}
 use Rattle.given_files.specs.declared.stop.Stop.TheVariants as given
@@ -28,14 +29,14 @@ use Rattle.commands.specs.code.Stops.{ending_of_stop}
 -- Searching with a log.
 
 -- no log was created, or one was begun
-abbrev pub BeginsSearch : Data → Bytes → ℕ → State → State → Type 0
-BeginsSearch m log limit old new = (new ≡ with_faults new.faults old) ⊎ (HoldsBegunLog m limit old.logged new.logged × (new ≡ record old { logged = new.logged; created = true; logs = with_log log old.logs; faults = new.faults }))
+abbrev pub BeginsSearch : Data → Bytes → Limits → State → State → Type 0
+BeginsSearch m log limits old new = (new ≡ with_faults new.faults old) ⊎ (HoldsBegunLog m limits old.logged new.logged × (new ≡ record old { logged = new.logged; created = true; logs = with_log log old.logs; faults = new.faults }))
 
-abbrev pub Searches : Data → Bytes → ℕ → Result Solved Stop → State → State → Type 0
-Searches m log limit (Ok solved) old new = LogPromise m limit solved old.logged new.logged × IsAnswer m solved.answer × (new ≡ record old { logged = new.logged; created = true; logs = with_log log old.logs })
-Searches m log limit (Err (stop.Given given.Fault)) old new = Rose old.faults new.faults × (old.calm ≡ true → ⊥) × (old.faults ≤ new.faults) × BeginsSearch m log limit old new
-Searches m log limit (Err (stop.Given given.NoMemory)) old new = (old.faults ≤ new.faults) × BeginsSearch m log limit old new
-Searches m log limit (Err _) old new = ⊥
+abbrev pub Searches : Data → Bytes → Limits → Result Solved Stop → State → State → Type 0
+Searches m log limits (Ok solved) old new = LogPromise m limits solved old.logged new.logged × IsAnswer m solved.answer × (new ≡ record old { logged = new.logged; created = true; logs = with_log log old.logs })
+Searches m log limits (Err (stop.Given given.Fault)) old new = Rose old.faults new.faults × (old.calm ≡ true → ⊥) × (old.faults ≤ new.faults) × BeginsSearch m log limits old new
+Searches m log limits (Err (stop.Given given.NoMemory)) old new = (old.faults ≤ new.faults) × BeginsSearch m log limits old new
+Searches m log limits (Err _) old new = ⊥
 
 -- the model of a job shop, or why there is none
 abbrev pub MakesModel : Shop → Result Data GivenStop → Type 0
@@ -44,18 +45,18 @@ MakesModel shop (Err (given.ModelRefused r)) = Deserves (shop_text shop) (Refuse
 MakesModel shop (Err given.NoMemory) = ⊤
 MakesModel shop (Err _) = ⊥
 
-abbrev pub SolveTried : Source → Bytes → ℕ → Result Ended Stop → State → State → Type 0
-SolveTried model log limit (Ok ended) old new = (new.faults ≡ old.faults) × (is_success ended ≡ true) × AnswerPromise model log limit ended old new × ReadsSource model old new
-SolveTried model log limit (Err (stop.Given given.Fault)) old new = Rose old.faults new.faults × (old.calm ≡ true → HasSource old model → ⊥) × CutShort model log limit old new
-SolveTried model log limit (Err (stop.Given given.NoMemory)) old new = (new.out ≡ old.out) × CutShort model log limit old new
-SolveTried model log limit (Err (stop.Given (given.ModelRefused r))) old new = OnlyReads old new × (new.faults ≡ old.faults) × SourceDeserves old model (Refused r) × ReadsSource model old new
-SolveTried model log limit (Err _) old new = ⊥
+abbrev pub SolveTried : Source → Bytes → Limits → Result Ended Stop → State → State → Type 0
+SolveTried model log limits (Ok ended) old new = (new.faults ≡ old.faults) × (is_success ended ≡ true) × AnswerPromise model log limits ended old new × ReadsSource model old new
+SolveTried model log limits (Err (stop.Given given.Fault)) old new = Rose old.faults new.faults × (old.calm ≡ true → HasSource old model → ⊥) × CutShort model log limits old new
+SolveTried model log limits (Err (stop.Given given.NoMemory)) old new = (new.out ≡ old.out) × CutShort model log limits old new
+SolveTried model log limits (Err (stop.Given (given.ModelRefused r))) old new = OnlyReads old new × (new.faults ≡ old.faults) × SourceDeserves old model (Refused r) × ReadsSource model old new
+SolveTried model log limits (Err _) old new = ⊥
 
-pub record TriesSolve (model : Source) (log : Bytes) (limit : ℕ) (result : Result Ended Stop) (old new : State) : Type 0 where
+pub record TriesSolve (model : Source) (log : Bytes) (limits : Limits) (result : Result Ended Stop) (old new : State) : Type 0 where
   pub only : new ≡ record old { model = new.model; out = new.out; logged = new.logged; created = new.created; logs = new.logs; faults = new.faults }
   pub unread : IsUnread model old new
   pub later : old.faults ≤ new.faults
-  pub tried : SolveTried model log limit result old new
+  pub tried : SolveTried model log limits result old new
 
 -- Verifying a schedule.
 

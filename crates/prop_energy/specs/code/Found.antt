@@ -8,10 +8,7 @@ use Rattle.refute_energy.specs.declared.witness.EnergyWitness.{EnergyWitness}
 use Rattle.refute_energy.specs.Energy.{overflows}
 use Rattle.refute_energy.specs.OnEnergy.{refutes}
 use Rattle.prop_energy.specs.declared.bounds.Bound.{Bound}
-
--- no witness of energy refutes a region, whatever the best value
-abbrev pub HasNoOverload : Data → Region → Type 0
-HasNoOverload m r = (best : Option ℤ) (w : EnergyWitness) → IsTrue (refutes m (seen_at r best None) w) → ⊥
+use Rattle.prop_energy.specs.Full.{HasNoOverload}
 
 -- a witness that refutes the region; none exactly where there is none
 abbrev pub GivesOverload : Data → Region → Option EnergyWitness → Type 0

@@ -16,6 +16,7 @@ use Rattle.kernel.specs.laws.Pending.{pending_kept}
 use Rattle.kernel.specs.Steps.{best_of}
 use Rattle.engine.specs.declared.propagator.Propagator.{Ghosts}
 use Rattle.engine.specs.code.Engines.{EngineValue, IsFor, IsCalm, AreQuiet}
+use Rattle.prop_energy.specs.code.Bounds.{IsFor as AreBounds}
 use Rattle.solver.specs.declared.mark.Mark.{Mark}
 use Rattle.solver.specs.declared.state.Search.{Search}
 use Rattle.solver.specs.code.OpenIntervals.{OpenList, HoldsOpen, IsOpenList, Sifts}
@@ -33,6 +34,7 @@ derived_ready p m s h e ready keeps of saved promised for calm = record {
     of = of;
     pending = pending_kept s.region h s.pending saved promised ready.holding.pending;
     engine = for;
+    energy = ready.holding.energy;
     below = subst (λ n. All (λ x. x < n) s.intervals.list) (sym keeps.size) ready.holding.below;
     marks = subst (λ rs. AreMarked (AreQuiet p m) s.intervals.list rs s.marks.items) (sym saved) ready.holding.marks;
     fewer = ready.holding.fewer;
@@ -50,6 +52,7 @@ sifted_ready p m s xs ready is sifts = record {
     of = ready.holding.of;
     pending = ready.holding.pending;
     engine = ready.holding.engine;
+    energy = ready.holding.energy;
     below = is.below;
     marks = marked_sifted (AreQuiet p m) s.intervals xs s.region.saved s.marks.items sifts ready.holding.fewer ready.holding.marks;
     fewer = fewer_still s.marks.items ready.holding.fewer;
@@ -70,6 +73,7 @@ roomy_ready p m s k ready = record {
     of = record { region = ready.holding.of.region; saved = ready.holding.of.saved };
     pending = pending_kept s.region (record s.region { spare = k }) s.pending refl refl ready.holding.pending;
     engine = ready.holding.engine;
+    energy = ready.holding.energy;
     below = ready.holding.below;
     marks = ready.holding.marks;
     fewer = ready.holding.fewer;
@@ -99,8 +103,8 @@ split_of m old new g of splits region saved = record {
 
 pub split_ready : {P : Type 0} (p : Ghosts P) (m : Data) (s t : Search P) (g : Guess) (k : Mark) → IsReady p m s → splits s.region.region g ≡ true → t.region.region ≡ with_guess g s.region.region
     → t.region.saved ≡ s.region.saved ++ s.region.region ∷ [] → ArePending t.region t.pending → t.marks.items ≡ s.marks.items ++ k ∷ [] → k.count ≡ s.intervals.count
-    → (k.capped ≡ false → AreQuiet p m s.region.region k.best) → IsFor p m t.engine → IsCalm p m t.region.region (best_of t.found) t.engine → t.intervals ≡ s.intervals → t.found ≡ s.found → IsReady p m t
-split_ready p m s t g k ready splits region saved pending marks count quiet for calm same found =
+    → (k.capped ≡ false → AreQuiet p m s.region.region k.best) → IsFor p m t.engine → IsCalm p m t.region.region (best_of t.found) t.engine → t.intervals ≡ s.intervals → t.found ≡ s.found → t.energy ≡ s.energy → IsReady p m t
+split_ready p m s t g k ready splits region saved pending marks count quiet for calm same found energy =
     let keeps : KeepsFixed s.region.region t.region.region = subst (KeepsFixed s.region.region) (sym region) (guess_keeps s.region.region g splits) in
     let mark : IsMarked (AreQuiet p m) s.intervals.list s.region.region k = record {
       spent = quiet;
@@ -112,6 +116,7 @@ split_ready p m s t g k ready splits region saved pending marks count quiet for 
         of = split_of m s.region t.region g ready.holding.of splits region saved;
         pending = pending;
         engine = for;
+        energy = subst (λ bounds. AreBounds bounds m) (sym energy) ready.holding.energy;
         below = subst (λ (xs : OpenList). All (λ x. x < length t.region.region.bounds) xs.list) (sym same) (subst (λ n. All (λ x. x < n) s.intervals.list) (sym keeps.size) ready.holding.below);
         marks = subst (λ (xs : OpenList). AreMarked (AreQuiet p m) xs.list t.region.saved t.marks.items) (sym same)
             (subst (λ rs. AreMarked (AreQuiet p m) s.intervals.list rs t.marks.items) (sym saved) (subst (AreMarked (AreQuiet p m) s.intervals.list (s.region.saved ++ s.region.region ∷ [])) (sym marks)
@@ -157,12 +162,13 @@ back_to p m s cell new hs ks k takes holding marks =
 
 pub back_ready : {P : Type 0} (p : Ghosts P) (m : Data) (s t : Search P) (cell : CellName) (ks : List Mark) (k : Mark) (takes : Takes cell s.region t.region s.pending t.pending) → IsHolding p m s
     → Back p m s.intervals.list cell s.region t.region s.pending t.pending ks k takes → ArePending t.region t.pending → t.marks.items ≡ ks
-    → t.intervals ≡ (let xs : OpenList = record { list = s.intervals.list; count = k.count } in xs) → t.found ≡ s.found → IsFor p m t.engine → IsCalm p m t.region.region (best_of t.found) t.engine → IsReady p m t
-back_ready p m s t cell ks k takes holding back pending marks same found for calm = record {
+    → t.intervals ≡ (let xs : OpenList = record { list = s.intervals.list; count = k.count } in xs) → t.found ≡ s.found → t.energy ≡ s.energy → IsFor p m t.engine → IsCalm p m t.region.region (best_of t.found) t.engine → IsReady p m t
+back_ready p m s t cell ks k takes holding back pending marks same found energy for calm = record {
   holding = record {
     of = back.of;
     pending = pending;
     engine = for;
+    energy = subst (λ bounds. AreBounds bounds m) (sym energy) holding.energy;
     below = subst (λ (xs : OpenList). All (λ x. x < length t.region.region.bounds) xs.list) (sym same) (subst (λ n. All (λ x. x < n) s.intervals.list) (sym back.size) holding.below);
     marks = subst (λ (xs : OpenList). AreMarked (AreQuiet p m) xs.list t.region.saved t.marks.items) (sym same) (subst (AreMarked (AreQuiet p m) s.intervals.list t.region.saved) (sym marks) back.popped.others);
     fewer = subst (λ (xs : OpenList). All (λ (j : Mark). xs.count ≤ j.count) t.marks.items) (sym same) (subst (All (λ (j : Mark). k.count ≤ j.count)) (sym marks) back.popped.fewer);
@@ -193,6 +199,7 @@ counted_ready p m s n ready = record {
     of = ready.holding.of;
     pending = ready.holding.pending;
     engine = ready.holding.engine;
+    energy = ready.holding.energy;
     below = ready.holding.below;
     marks = ready.holding.marks;
     fewer = ready.holding.fewer;

@@ -16,6 +16,7 @@ use Rattle.kernel.specs.laws.Pending.{pending_kept}
 use Rattle.kernel.specs.Steps.{best_of}
 use Rattle.engine.specs.declared.propagator.Propagator.{Ghosts}
 use Rattle.engine.specs.code.Engines.{EngineValue, IsFor, IsCalm, AreQuiet}
+use Rattle.prop_energy.specs.code.Bounds.{IsFor as AreBounds}
 use Rattle.solver.specs.declared.mark.Mark.{Mark}
 use Rattle.solver.specs.declared.state.Search.{Search}
 use Rattle.solver.specs.code.OpenIntervals.{OpenList, HoldsOpen}
@@ -30,6 +31,7 @@ aimed_holding p m s f e holding valued for = record {
   of = holding.of;
   pending = holding.pending;
   engine = for;
+  energy = holding.energy;
   below = holding.below;
   marks = holding.marks;
   fewer = holding.fewer;
@@ -54,6 +56,7 @@ broken_holding p m s h e holding of saved promised for =
       of = of;
       pending = pending_kept s.region h s.pending saved promised holding.pending;
       engine = for;
+      energy = holding.energy;
       below = subst (λ n. All (λ x. x < n) s.intervals.list) (sym size) holding.below;
       marks = subst (λ rs. AreMarked (AreQuiet p m) s.intervals.list rs s.marks.items) (sym saved) holding.marks;
       fewer = holding.fewer;
@@ -71,6 +74,7 @@ rested_ready p m s e k ready for calm = record {
     of = record { region = ready.holding.of.region; saved = ready.holding.of.saved };
     pending = pending_kept s.region (record s.region { spare = k }) s.pending refl refl ready.holding.pending;
     engine = for;
+    energy = ready.holding.energy;
     below = ready.holding.below;
     marks = ready.holding.marks;
     fewer = ready.holding.fewer;
@@ -182,14 +186,15 @@ unwound_to p m s new ks k holding one marks saved regains of =
     }
 
 pub unwound_ready : {P : Type 0} (p : Ghosts P) (m : Data) (s t : Search P) (ks : List Mark) (k : Mark) → IsHolding p m s → Unwound p m s.intervals.list t.region ks k → t.pending ≡ [] → t.marks.items ≡ ks
-    → t.intervals ≡ (let xs : OpenList = record { list = s.intervals.list; count = k.count } in xs) → t.found ≡ s.found → IsFor p m t.engine → IsCalm p m t.region.region (best_of t.found) t.engine → IsReady p m t
-unwound_ready p m s t ks k holding unwound pending marks same found for calm =
+    → t.intervals ≡ (let xs : OpenList = record { list = s.intervals.list; count = k.count } in xs) → t.found ≡ s.found → t.energy ≡ s.energy → IsFor p m t.engine → IsCalm p m t.region.region (best_of t.found) t.engine → IsReady p m t
+unwound_ready p m s t ks k holding unwound pending marks same found energy for calm =
     let size : length t.region.region.bounds ≡ length s.region.region.bounds = sym (as_many_bounds m t.region.region unwound.of.region) ∙ as_many_bounds m s.region.region holding.of.region in
     record {
       holding = record {
         of = unwound.of;
         pending = subst (ArePending t.region) (sym pending) unwound.pending;
         engine = for;
+        energy = subst (λ bounds. AreBounds bounds m) (sym energy) holding.energy;
         below = subst (λ (xs : OpenList). All (λ x. x < length t.region.region.bounds) xs.list) (sym same) (subst (λ n. All (λ x. x < n) s.intervals.list) (sym size) holding.below);
         marks = subst (λ (xs : OpenList). AreMarked (AreQuiet p m) xs.list t.region.saved t.marks.items) (sym same) (subst (AreMarked (AreQuiet p m) s.intervals.list t.region.saved) (sym marks) unwound.popped.others);
         fewer = subst (λ (xs : OpenList). All (λ (j : Mark). xs.count ≤ j.count) t.marks.items) (sym same) (subst (All (λ (j : Mark). k.count ≤ j.count)) (sym marks) unwound.popped.fewer);

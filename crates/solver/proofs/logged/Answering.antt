@@ -1,6 +1,6 @@
 -- The answer says what the log has shown.
 use Rattle.std.proofs.Common.{◌≡◌, ℕ, ℤ, Bool, true, false, List, [], ◌∷◌, Option, Some, None, refl, sym, ap, subst, ◌∙◌, arith}
-use Rattle.std.specs.Prelude.{option_map, option_to_list, is_some, IfSome, ◌++◌, ◌≤◌, ◌<◌, not, if◌then◌else◌}
+use Rattle.std.specs.Prelude.{option_map, option_to_list, is_some, IfSome, ◌++◌, ◌<◌, not, if◌then◌else◌}
 use Rattle.sched_base.specs.State.{State}
 use Rattle.sched_base.specs.Calls.{appended}
 use Rattle.sched_model.specs.declared.types.Assignment.{Assignment}
@@ -9,18 +9,20 @@ use Rattle.sched_model.specs.declared.types.Solved.{Solved}
 use Rattle.sched_model.specs.Data.{Data}
 use Rattle.sched_model.specs.Words.{is_empty}
 use Rattle.region.specs.Cells.{Region}
-use Rattle.region.specs.Points.{budget_of}
+use Rattle.kernel.specs.laws.Budget.{budget_with}
 use Rattle.kernel.specs.declared.types.Found.{Found}
 use Rattle.sched_model.specs.declared.types.Verdict.TheVariants.{Unclosed}
 use Rattle.kernel.specs.Promises.{IsFound, Means, IfFound}
-use Rattle.kernel.specs.Steps.{LogState, open_regions, best_of, closed_verdict, best_verdict, verdict_of}
-use Rattle.logtext.specs.declared.version.Version.TheVariants.{One}
+use Rattle.kernel.specs.Steps.{LogState, open_regions, best_of, closed_verdict, best_verdict, restarts_in, verdict_of}
 use Rattle.logtext.specs.Logs.{PlainLine, plain_log}
 use Rattle.sched_model.specs.Answers.{verdict_in}
 use Rattle.solver.specs.Answers.{IsAnswer, shown_in, is_unfinished, IfFound as IfValued}
 use Rattle.solver.specs.code.Solving.{Solves}
 use Rattle.engine.specs.declared.propagator.Propagator.{Ghosts}
 use Rattle.solver.specs.declared.state.Search.{Search}
+use Rattle.restart_rules.specs.Restarts.{Limits}
+use Rattle.restart_rules.specs.laws.Enough.{never_unfinished}
+use Rattle.solver.specs.Versions.{version_of}
 use Rattle.solver.specs.Written.{IsWritten}
 use Rattle.solver.specs.code.Searching.{IsReady, HasValue, state_in, valued, best_answer, closed_answer, answer_from}
 
@@ -145,16 +147,11 @@ ended_is p m limit true s limited ready = record {
   valued = λ h f is none. has_value m s.found f (ready refl).holding.valued is none;
 }
 
--- a limit of the budget or more is enough
-never_limited : (unfinished : Bool) (nodes limit budget : ℕ) → nodes < budget → (unfinished ≡ true → nodes ≡ limit) → budget ≤ limit → unfinished ≡ false
-never_limited true nodes limit budget few limited enough = absurd (omega (arith, few, limited refl, enough))
-never_limited false nodes limit budget few limited enough = refl
-
 -- the whole log was written
-pub solved_with : (m : Data) (limit : ℕ) (more : Bool) (s : LogState) (lines : List PlainLine) (solved : Solved) (old new : State) → Ended limit more s → IfFound m s.found → Means m (verdict_of s)
-    → s.nodes < budget_of m → solved.nodes ≡ s.nodes → solved.answer ≡ answer_from more s.found → IsWritten m limit lines s → new ≡ record old { logged = appended (plain_log One lines) old.logged } → Solves m limit solved old new
-solved_with m limit more s lines solved old new ended found means below nodes same written logged =
-    let says = shows m limit more s solved ended found means same in
+pub solved_with : (m : Data) (limits : Limits) (more : Bool) (s : LogState) (lines : List PlainLine) (solved : Solved) (old new : State) → Ended limits.nodes more s → IfFound m s.found → Means m (verdict_of s)
+    → s.nodes < budget_with m (restarts_in lines) → solved.nodes ≡ s.nodes → solved.answer ≡ answer_from more s.found → IsWritten m limits lines s → new ≡ record old { logged = appended (plain_log (version_of limits.restarts) lines) old.logged } → Solves m limits solved old new
+solved_with m limits more s lines solved old new ended found means below nodes same written logged =
+    let says = shows m limits.nodes more s solved ended found means same in
     record {
       lines = lines;
       state = s;
@@ -165,7 +162,7 @@ solved_with m limit more s lines solved old new ended found means below nodes sa
         verdict = says.verdict;
         shown = says.shown;
         limited = says.limited;
-        enough = never_limited (is_unfinished solved.answer) s.nodes limit (budget_of m) below says.limited;
+        enough = never_unfinished m (is_unfinished solved.answer) s.nodes limits.nodes (restarts_in lines) limits.restarts below written.seldom says.limited;
         answer = says.answer;
       };
       logged = logged;

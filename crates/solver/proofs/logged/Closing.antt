@@ -20,8 +20,8 @@ use Rattle.kernel.specs.declared.types.StepFault.TheVariants.{NotRefuted, NotSpl
 use Rattle.kernel.specs.Agenda.{first_in}
 use Rattle.kernel.specs.Steps.{LogState, Node, Steps, done, more, step_at, step_on, taken, node_of, is_restart, unless, closed, best_of, is_wanted, found_in, left_after}
 use Rattle.kernel.specs.laws.Outcomes.{same_ok}
+use Rattle.logtext.specs.Lifted.{refutes_logged}
 use Rattle.logtext.specs.Logs.{PlainLine}
-use Rattle.engine.specs.Plain.{refutes_plain}
 use Rattle.solver.specs.Cuts.{plain_step}
 use Rattle.solver.specs.Written.{WellPutFrom, derived_after, derived_in}
 use Rattle.solver.specs.code.Leaves.{settled_assignment, Solves}
@@ -32,7 +32,7 @@ pub steps_on : {W : Type 0} {refutes : Refuting (Witness W)} {m : Data} {s t u :
 steps_on done rest = rest
 steps_on (more first others) rest = more first (steps_on others rest)
 
-pub well_on : (m : Data) (n : ℕ) {s t : LogState} {xs : List PlainLine} (ys : List PlainLine) → Steps refutes_plain m s xs t → WellPutFrom m n s xs → WellPutFrom m (derived_in n xs) t ys → WellPutFrom m n s (xs ++ ys)
+pub well_on : (m : Data) (n : ℕ) {s t : LogState} {xs : List PlainLine} (ys : List PlainLine) → Steps refutes_logged m s xs t → WellPutFrom m n s xs → WellPutFrom m (derived_in n xs) t ys → WellPutFrom m n s (xs ++ ys)
 well_on m n ys done first rest = rest
 well_on m n ys (more {s} {t} {u} {line} {lines} step_is others) first rest =
     (first.0, λ v is. subst (λ (w : LogState). WellPutFrom m (derived_after line n) w (lines ++ ys)) (same_ok t v (sym step_is ∙ is)) (well_on m (derived_after line n) ys others (first.1 t step_is) rest))
@@ -50,17 +50,17 @@ first_taken None [] nodes found node is = cc
 pub node_first : (s : LogState) (node : Node) → node_of s ≡ Some node → (first_in s.current s.waiting ≡ Some node.region) × (s.found ≡ node.found)
 node_first s node is = first_taken s.current s.waiting s.nodes s.found node is
 
-pub node_steps : (m : Data) (s : LogState) (node : Node) (line : PlainLine) → not (is_restart line) ≡ true → node_of s ≡ Some node → plain_step m line s ≡ step_at refutes_plain m node line
-node_steps m s node line plain is = ap (λ o. step_on refutes_plain m o line) (ap (λ b. taken b s.current s.waiting s.nodes s.found) plain ∙ is)
+pub node_steps : (m : Data) (s : LogState) (node : Node) (line : PlainLine) → not (is_restart line) ≡ true → node_of s ≡ Some node → plain_step m line s ≡ step_at refutes_logged m node line
+node_steps m s node line plain is = ap (λ o. step_on refutes_logged m o line) (ap (λ b. taken b s.current s.waiting s.nodes s.found) plain ∙ is)
 
 -- what each line steps to
 unless_true : (b : Bool) (f : StepFault) (t : LogState) → b ≡ true → unless b f (Ok t) ≡ Ok t
 unless_true b f t h = rw h refl
 
-pub fail_steps : (m : Data) (node : Node) (w : Witness _) → refutes_plain m (seen_at node.region (best_of node.found) None) w ≡ true → step_at refutes_plain m node (Fail w) ≡ Ok (closed node node.waiting node.found)
+pub fail_steps : (m : Data) (node : Node) (w : Witness _) → refutes_logged m (seen_at node.region (best_of node.found) None) w ≡ true → step_at refutes_logged m node (Fail w) ≡ Ok (closed node node.waiting node.found)
 fail_steps m node w h = unless_true _ NotRefuted _ h
 
-pub split_steps : (m : Data) (node : Node) (g : Guess) → splits node.region g ≡ true → step_at refutes_plain m node (Split g) ≡ Ok (closed node (with_guess g node.region ∷ with_fact g node.region ∷ node.waiting) node.found)
+pub split_steps : (m : Data) (node : Node) (g : Guess) → splits node.region g ≡ true → step_at refutes_logged m node (Split g) ≡ Ok (closed node (with_guess g node.region ∷ with_fact g node.region ∷ node.waiting) node.found)
 split_steps m node g h = unless_true _ NotSplitting _ h
 
 -- a better solution is wanted where a region waits
@@ -78,7 +78,7 @@ wanted m None a has better = refl
 wanted m (Some f) a has better = wanted_by m f a f.value refl has better
 
 pub sol_steps : (m : Data) (node : Node) (a : Assignment) → is_settled node.region ≡ true → IfSome node.found (HasValue m) → a ≡ settled_assignment m node.region → Solves m (seen_at node.region (best_of node.found) None)
-    → step_at refutes_plain m node (Sol a) ≡ Ok (closed node (left_after m node.waiting) (Some (found_in m a)))
+    → step_at refutes_logged m node (Sol a) ≡ Ok (closed node (left_after m node.waiting) (Some (found_in m a)))
 sol_steps m node a settled valued is solves =
     let here : is_solution m a ≡ true = subst (λ b. is_solution m b ≡ true) (sym is) solves.solution in
     let allowed : allows node.region a ≡ true = subst (λ b. allows node.region b ≡ true) (sym is) solves.allowed in

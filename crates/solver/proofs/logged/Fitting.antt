@@ -65,13 +65,18 @@ use Rattle.refute_seq.specs.laws.Ordered.{has_settled_in}
 use Rattle.region.specs.laws.Orderly.{all_has, each_all}
 use Rattle.solver.specs.code.Leaves.{settled_assignment}
 use Rattle.solver.proofs.kept.Segments.{canonical_few, demands_from, demands_few}
-use Rattle.kernel.specs.declared.types.Line.TheVariants.{Derive, Fail, Split, Sol}
+use Rattle.kernel.specs.declared.types.Line.TheVariants.{Derive, Fail, Split, Sol, Restart}
 use Rattle.kernel.specs.declared.types.Witness.{Witness}
 use Rattle.kernel.specs.declared.types.Witness.TheVariants.{Basic, Hier, Seq, Cumul, State, Extra}
-use Rattle.kernel.specs.declared.no_extra.NoWitness.{NoWitness}
 use Rattle.kernel.specs.Derives.{IsDerived}
-use Rattle.engine.specs.Plain.{refutes_plain}
-use Rattle.kernel.specs.NoExtra.{numbers_of, is_valid}
+use Rattle.refute_energy.specs.declared.witness.EnergyWitness.{EnergyWitness}
+use Rattle.refute_energy.specs.Witness.{numbers_of as energy_numbers, is_valid as is_valid_energy}
+use Rattle.refute_energy.specs.OnEnergy.{refutes as energy_refutes}
+use Rattle.refute_energy.specs.laws.Spelling.{refuting_valid as energy_valid, few_numbers, small_numbers}
+use Rattle.refute_energy.specs.laws.Few.{refuting_few as energy_few_places}
+use Rattle.refute_seq.specs.laws.SetNumbers.{set_count}
+use Rattle.logtext.specs.Extra.{LogWitness, log_numbers, log_valid}
+use Rattle.logtext.specs.Lifted.{refutes_logged}
 use Rattle.kernel.specs.laws.Fits.{few_intervals, few_lists, fit_admitted, fit_splitting}
 use Rattle.kernel.specs.Fit.{is_count, is_id, is_fit, is_fit_guess, is_fit_slot, is_fit_order, is_fit_segment, are_fit_segments}
 use Rattle.textline.specs.Lines.{Bytes, line}
@@ -129,7 +134,7 @@ names_short (i ∷ is) h =
     ((count_short i.kind pair.0, (count_short i.x pair.1, (count_short i.y three.1, (count_short i.z four.1, rest.0)))), omega (arith, rest.1))
 
 -- a witness that refutes in words: a walk has 4,000 arcs at most
-witness_short : (m : Data) (l : Seen) (w : BasicWitness) → refutes m l w ≡ true → AreShort (witness_words numbers_of (Basic w)) × (length (witness_words numbers_of (Basic w)) ≤ 16002)
+witness_short : (m : Data) (l : Seen) (w : BasicWitness) → refutes m l w ≡ true → AreShort (witness_words log_numbers (Basic w)) × (length (witness_words log_numbers (Basic w)) ≤ 16002)
 witness_short m l (Size x) refuted = ((omega arith, (count_short x (refuting_valid m l (Size x) refuted), tt)), omega arith)
 witness_short m l (Arc c d) refuted = let two = both_true (is_number c) (is_number d) (refuting_valid m l (Arc c d) refuted) in ((omega arith, (count_short c two.0, (count_short d two.1, tt))), omega arith)
 witness_short m l (Cycle arcs) refuted =
@@ -146,7 +151,7 @@ witness_short m l (Leaf k u) refuted =
     let h = refuting_valid m l (Leaf k u) refuted in
     let two = both_true (is_number k) (is_number u) h in ((omega arith, (count_short k two.0, (count_short u two.1, tt))), omega arith)
 
-hier_short : (w : HierWitness) → is_valid_hier w ≡ true → AreShort (witness_words numbers_of (Hier w)) × (length (witness_words numbers_of (Hier w)) ≤ 5)
+hier_short : (w : HierWitness) → is_valid_hier w ≡ true → AreShort (witness_words log_numbers (Hier w)) × (length (witness_words log_numbers (Hier w)) ≤ 5)
 hier_short (Span c r i) h =
     let three = both_true (is_number c && is_number r) (is_number i) h in
     let two = both_true (is_number c) (is_number r) three.0 in
@@ -177,7 +182,7 @@ numbers_short : (zs : List ℤ) → AreSmall zs → AreShort (map signed_decimal
 numbers_short [] small = tt
 numbers_short (z ∷ zs) small = (signed_short z (small 0 z (omega arith)), numbers_short zs (λ i d within. small (suc i) d (omega (arith, within))))
 
-seq_short : (w : SeqWitness) → is_valid_seq w ≡ true → AreShort (witness_words numbers_of (Seq w))
+seq_short : (w : SeqWitness) → is_valid_seq w ≡ true → AreShort (witness_words log_numbers (Seq w))
 seq_short (Pair c a b k) h = (omega arith, four_short c a b k h)
 seq_short (Triple p x y z) h = (omega arith, four_short p x y z h)
 seq_short (Overload c s) h = (omega arith, numbers_short (pos c ∷ set_numbers s) (behind_first (pos 2) (pos c ∷ set_numbers s) (seq_small (Overload c s) h)))
@@ -186,7 +191,7 @@ seq_short (NotEnd c side i s) h = (omega arith, numbers_short (pos c ∷ pos sid
 seq_short (Detect c side i s) h = (omega arith, numbers_short (pos c ∷ pos side ∷ pos i ∷ set_numbers s) (behind_first (pos 5) (pos c ∷ pos side ∷ pos i ∷ set_numbers s) (seq_small (Detect c side i s) h)))
 
 -- as many words as numbers
-seq_words : (w : SeqWitness) → length (witness_words numbers_of (Seq w)) ≡ length (seq_numbers w)
+seq_words : (w : SeqWitness) → length (witness_words log_numbers (Seq w)) ≡ length (seq_numbers w)
 seq_words (Pair c a b k) = refl
 seq_words (Triple p x y z) = refl
 seq_words (Overload c s) = ap suc (length-map (pos c ∷ set_numbers s) signed_decimal)
@@ -195,33 +200,44 @@ seq_words (NotEnd c side i s) = ap suc (length-map (pos c ∷ pos side ∷ pos i
 seq_words (Detect c side i s) = ap suc (length-map (pos c ∷ pos side ∷ pos i ∷ set_numbers s) signed_decimal)
 
 -- a witness of a sequence that refutes: each of three sets has 2,000 members at most
-seq_few : (m : Data) (l : Seen) (w : SeqWitness) → IsValid m → seq_refutes m l w ≡ true → length (witness_words numbers_of (Seq w)) ≤ 6007
+seq_few : (m : Data) (l : Seen) (w : SeqWitness) → IsValid m → seq_refutes m l w ≡ true → length (witness_words log_numbers (Seq w)) ≤ 6007
 seq_few m l w valid h = let few = refuting_few m l w valid h in let words = seq_words w in omega (arith, few, words)
 
-cumul_short : (w : CumulWitness) → is_valid_cumul w ≡ true → AreShort (witness_words numbers_of (Cumul w)) × (length (witness_words numbers_of (Cumul w)) ≤ 4)
+cumul_short : (w : CumulWitness) → is_valid_cumul w ≡ true → AreShort (witness_words log_numbers (Cumul w)) × (length (witness_words log_numbers (Cumul w)) ≤ 4)
 cumul_short (Point c t u) h =
     let three = both_true (is_number c && is_small t) (is_number u) h in
     let two = both_true (is_number c) (is_small t) three.0 in ((omega arith, (count_short c two.0, (signed_short t two.1, (count_short u three.1, tt)))), omega arith)
 
-state_short : (w : StateWitness) → is_valid_state w ≡ true → AreShort (witness_words numbers_of (State w)) × (length (witness_words numbers_of (State w)) ≤ 4)
+state_short : (w : StateWitness) → is_valid_state w ≡ true → AreShort (witness_words log_numbers (State w)) × (length (witness_words log_numbers (State w)) ≤ 4)
 state_short (of_states.State c d) h = let two = both_true (is_number c) (is_number d) h in ((omega arith, (count_short c two.0, (count_short d two.1, tt))), omega arith)
 state_short (of_states.State3 c d e) h =
     let three = both_true (is_number c && is_number d) (is_number e) h in
     let two = both_true (is_number c) (is_number d) three.0 in ((omega arith, (count_short c two.0, (count_short d two.1, (count_short e three.1, tt)))), omega arith)
 
+energy_short : (w : EnergyWitness) → is_valid_energy w ≡ true → AreShort (witness_words log_numbers (Extra w))
+energy_short w h = let few = few_numbers w h in (omega arith, (count_short (length (energy_numbers w)) (grind (arith, nat_tests, few)), numbers_short (energy_numbers w) (small_numbers w h)))
+
+-- a witness of energy that refutes names 100,000 places at most
+energy_few : (m : Data) (l : Seen) (w : EnergyWitness) → IsValid m → energy_refutes m l w ≡ true → length (witness_words log_numbers (Extra w)) ≤ 100004
+energy_few m l w valid h = omega (arith, energy_few_places m l w valid h, set_count w.parts, length-map (energy_numbers w) signed_decimal)
+
 -- a line of few short words
-line_is : (l : PlainLine) → is_fit is_valid l ≡ true → AreShort (line_words numbers_of l) → length (line_words numbers_of l) ≤ 200000 → IsLine numbers_of is_valid l
-line_is l fit short few = record { fit = fit; text_is = refl; short = omega (arith, line_length (line_words numbers_of l) short, few) }
+line_is : (l : PlainLine) → is_fit log_valid l ≡ true → AreShort (line_words log_numbers l) → length (line_words log_numbers l) ≤ 200000 → IsLine log_numbers log_valid l
+line_is l fit short few = record { fit = fit; text_is = refl; short = omega (arith, line_length (line_words log_numbers l) short, few) }
+
+-- the line that begins anew
+pub restart_line : IsLine log_numbers log_valid Restart
+restart_line = line_is Restart refl (omega arith, tt) (omega arith)
 
 -- a guess that splits a region is fit
-pub split_line : (m : Data) (r : Region) (g : Guess) → IsValid m → IsRegionOf m r → splits r g ≡ true → IsLine numbers_of is_valid (Split g)
+pub split_line : (m : Data) (r : Region) (g : Guess) → IsValid m → IsRegionOf m r → splits r g ≡ true → IsLine log_numbers log_valid (Split g)
 split_line m r g valid of h =
     let fit = fit_splitting m r g valid of h in
     let words = guess_short g fit in
     line_is (Split g) fit (omega arith, words.0) (omega (arith, words.1))
 
 -- a witness that refutes is fit
-pub fail_line : (m : Data) (l : Seen) (w : Witness NoWitness) → IsValid m → refutes_plain m l w ≡ true → IsLine numbers_of is_valid (Fail w)
+pub fail_line : (m : Data) (l : Seen) (w : Witness LogWitness) → IsValid m → refutes_logged m l w ≡ true → IsLine log_numbers log_valid (Fail w)
 fail_line m l (Basic w) valid h =
     let fit = refuting_valid m l w h in
     let words = witness_short m l w h in
@@ -242,51 +258,61 @@ fail_line m l (State w) valid h =
     let fit = state_valid m l w h in
     let words = state_short w fit in
     line_is (Fail (State w)) fit (omega arith, words.0) (omega (arith, words.1))
-fail_line m l (Extra w) valid h = cc
+fail_line m l (Extra w) valid h =
+    let fit = energy_valid m l w h in
+    let words = energy_short w fit in
+    line_is (Fail (Extra w)) fit (omega arith, words) (omega (arith, energy_few m l w valid h))
 
 -- and a line that derives
-pub derive_line : (m : Data) (r : Region) (best : Option ℤ) (g : Guess) (w : Witness NoWitness) → IsValid m → IsRegionOf m r → IsDerived refutes_plain m best r g w → IsLine numbers_of is_valid (Derive g w)
+pub derive_line : (m : Data) (r : Region) (best : Option ℤ) (g : Guess) (w : Witness LogWitness) → IsValid m → IsRegionOf m r → IsDerived refutes_logged m best r g w → IsLine log_numbers log_valid (Derive g w)
 derive_line m r best g (Basic w) valid of is =
     let fit = refuting_valid m (seen_at r best (Some g)) w is.refuted in
     let admitted = fit_admitted m r g valid of is.admitted in
     let first = guess_short g admitted in
     let second = witness_short m (seen_at r best (Some g)) w is.refuted in
     line_is (Derive g (Basic w)) (true_both (is_fit_guess g) (is_valid_basic w) admitted fit)
-    (omega arith, short_append (guess_words g) (witness_words numbers_of (Basic w)) first.0 second.0)
-    (omega (arith, first.1, second.1, length-append (guess_words g) (witness_words numbers_of (Basic w))))
+    (omega arith, short_append (guess_words g) (witness_words log_numbers (Basic w)) first.0 second.0)
+    (omega (arith, first.1, second.1, length-append (guess_words g) (witness_words log_numbers (Basic w))))
 derive_line m r best g (Hier w) valid of is =
     let fit = hier_valid m (seen_at r best (Some g)) w is.refuted in
     let admitted = fit_admitted m r g valid of is.admitted in
     let first = guess_short g admitted in
     let second = hier_short w fit in
     line_is (Derive g (Hier w)) (true_both (is_fit_guess g) (is_valid_hier w) admitted fit)
-    (omega arith, short_append (guess_words g) (witness_words numbers_of (Hier w)) first.0 second.0)
-    (omega (arith, first.1, second.1, length-append (guess_words g) (witness_words numbers_of (Hier w))))
+    (omega arith, short_append (guess_words g) (witness_words log_numbers (Hier w)) first.0 second.0)
+    (omega (arith, first.1, second.1, length-append (guess_words g) (witness_words log_numbers (Hier w))))
 derive_line m r best g (Seq w) valid of is =
     let fit = seq_valid m (seen_at r best (Some g)) w is.refuted in
     let admitted = fit_admitted m r g valid of is.admitted in
     let first = guess_short g admitted in
     let few = seq_few m (seen_at r best (Some g)) w valid is.refuted in
     line_is (Derive g (Seq w)) (true_both (is_fit_guess g) (is_valid_seq w) admitted fit)
-    (omega arith, short_append (guess_words g) (witness_words numbers_of (Seq w)) first.0 (seq_short w fit))
-    (omega (arith, first.1, few, length-append (guess_words g) (witness_words numbers_of (Seq w))))
+    (omega arith, short_append (guess_words g) (witness_words log_numbers (Seq w)) first.0 (seq_short w fit))
+    (omega (arith, first.1, few, length-append (guess_words g) (witness_words log_numbers (Seq w))))
 derive_line m r best g (Cumul w) valid of is =
     let fit = cumul_valid m (seen_at r best (Some g)) w is.refuted in
     let admitted = fit_admitted m r g valid of is.admitted in
     let first = guess_short g admitted in
     let second = cumul_short w fit in
     line_is (Derive g (Cumul w)) (true_both (is_fit_guess g) (is_valid_cumul w) admitted fit)
-    (omega arith, short_append (guess_words g) (witness_words numbers_of (Cumul w)) first.0 second.0)
-    (omega (arith, first.1, second.1, length-append (guess_words g) (witness_words numbers_of (Cumul w))))
+    (omega arith, short_append (guess_words g) (witness_words log_numbers (Cumul w)) first.0 second.0)
+    (omega (arith, first.1, second.1, length-append (guess_words g) (witness_words log_numbers (Cumul w))))
 derive_line m r best g (State w) valid of is =
     let fit = state_valid m (seen_at r best (Some g)) w is.refuted in
     let admitted = fit_admitted m r g valid of is.admitted in
     let first = guess_short g admitted in
     let second = state_short w fit in
     line_is (Derive g (State w)) (true_both (is_fit_guess g) (is_valid_state w) admitted fit)
-    (omega arith, short_append (guess_words g) (witness_words numbers_of (State w)) first.0 second.0)
-    (omega (arith, first.1, second.1, length-append (guess_words g) (witness_words numbers_of (State w))))
-derive_line m r best g (Extra w) valid of is = cc
+    (omega arith, short_append (guess_words g) (witness_words log_numbers (State w)) first.0 second.0)
+    (omega (arith, first.1, second.1, length-append (guess_words g) (witness_words log_numbers (State w))))
+derive_line m r best g (Extra w) valid of is =
+    let fit = energy_valid m (seen_at r best (Some g)) w is.refuted in
+    let admitted = fit_admitted m r g valid of is.admitted in
+    let first = guess_short g admitted in
+    let few = energy_few m (seen_at r best (Some g)) w valid is.refuted in
+    line_is (Derive g (Extra w)) (true_both (is_fit_guess g) (is_valid_energy w) admitted fit)
+    (omega arith, short_append (guess_words g) (witness_words log_numbers (Extra w)) first.0 (energy_short w fit))
+    (omega (arith, first.1, few, length-append (guess_words g) (witness_words log_numbers (Extra w))))
 
 -- the slots of a solution are fit, and spelled by few short words
 fit_slot : (d : IntervalDef) (s : Slot) → is_interval_def d ≡ true → fits_def d s ≡ true → is_fit_slot s ≡ true
@@ -426,7 +452,7 @@ fit_functions m ss a (d ∷ ds) few h =
       few = omega (arith, ap (λ (ws : List Bytes). length ws) (flat_map-cons segments_words is iss), length-append (segments_words is) (flat_map segments_words iss), words.1, most, rest.few);
     }
 
-pub sol_line : (m : Data) (r : Region) → IsValid m → IsRegionOf m r → is_solution m (settled_assignment m r) ≡ true → IsLine numbers_of is_valid (Sol (settled_assignment m r))
+pub sol_line : (m : Data) (r : Region) → IsValid m → IsRegionOf m r → is_solution m (settled_assignment m r) ≡ true → IsLine log_numbers log_valid (Sol (settled_assignment m r))
 sol_line m r valid of h =
     let domain = (both_true (is_in_domain m (settled_assignment m r)) (list_all (holds m (settled_assignment m r)) m.constraints) h).0 in
     let each : placewise fits_def m.intervals (settled_slots r) ≡ true = (both_true _ _ (both_true _ _ domain).0).0 in

@@ -19,14 +19,21 @@ use Rattle.kernel.specs.declared.types.Found.{Found}
 use Rattle.kernel.specs.declared.types.Line.TheVariants.{Derive, Fail, Split, Sol, Restart}
 use Rattle.kernel.specs.code.Pending.{ArePending, after_saved}
 use Rattle.kernel.specs.Steps.{LogState, Node, best_of, node_of}
+use Rattle.logtext.specs.Lifted.{refutes_logged}
 use Rattle.logtext.specs.Logs.{PlainLine}
 use Rattle.engine.specs.declared.lines.Lines.{Ghosts as LineGhosts}
 use Rattle.engine.specs.declared.propagator.Propagator.{Ghosts}
 use Rattle.engine.specs.declared.stops.Stop.{Stop}
 use Rattle.engine.specs.declared.stops.Stop.TheVariants.{Quiet, Failed, Capped}
 use Rattle.engine.specs.code.Engines.{IsFor, IsCalm, AreQuiet}
-use Rattle.engine.specs.Plain.{refutes_plain}
 use Rattle.engine.specs.Runs.{cap_at}
+use Rattle.refute_energy.specs.declared.witness.EnergyWitness.{EnergyWitness}
+use Rattle.prop_energy.specs.Full.{HasNoOverload}
+use Rattle.prop_energy.specs.code.Bounds.{IsFor as AreBounds}
+use Rattle.prop_energy.specs.code.Found.{GivesOverload}
+use Rattle.solver.specs.declared.log_to.LogTo.{Ghosts as LogGhosts}
+use Rattle.restart_rules.specs.Restarts.{Limits, Stretch, first_stretch}
+use Rattle.restart_rules.specs.code.Stretches.{Plan, stretch_in}
 use Rattle.solver.specs.declared.fault.SolveFault.{SolveFault}
 use Rattle.solver.specs.declared.fault.SolveFault.TheVariants.{Fault, NoMemory}
 use Rattle.solver.specs.declared.state.Search.{Search}
@@ -81,6 +88,7 @@ pub record IsHolding {P : Type 0} (p : Ghosts P) (m : Data) (s : Search P) : Typ
   pub of : IsHeldOf m s.region
   pub pending : ArePending s.region s.pending
   pub engine : IsFor p m s.engine
+  pub energy : AreBounds s.energy m
   pub below : All (λ x. x < length s.region.region.bounds) s.intervals.list
   pub marks : AreMarked (AreQuiet p m) s.intervals.list s.region.saved s.marks.items
   pub fewer : All (λ k. s.intervals.count ≤ k.count) s.marks.items
@@ -140,8 +148,13 @@ is_capped Capped = true
 is_capped Quiet = false
 is_capped (Failed w) = false
 
+-- what is found by energy of a region, which isn't asked where it is settled
+abbrev pub AskedUnlessSettled : Data → Region → Option EnergyWitness → Type 0
+AskedUnlessSettled m r (Some w) = GivesOverload m r (Some w)
+AskedUnlessSettled m r None = is_settled r ≡ false → HasNoOverload m r
+
 abbrev pub Closes : Data → Region → Option ℤ → Bool → PlainLine → Type 0
-Closes m r best failed (Fail w) = IsTrue (refutes_plain m (seen_at r best None) w)
+Closes m r best failed (Fail w) = IsTrue (refutes_logged m (seen_at r best None) w)
 Closes m r best failed (Split g) = CutsRegion r g × (failed ≡ false)
 Closes m r best failed (Sol a) = IsTrue (is_settled r) × (a ≡ settled_assignment m r) × Solves m (seen_at r best None)
 Closes m r best failed (Derive g w) = ⊥
@@ -149,29 +162,34 @@ Closes m r best failed Restart = ⊥
 
 -- What is written.
 
--- from the first place of lines the lines of a log were put that lead to this state, at whose node n derived
-pub record IsLogged {L : Type 0} (l : LineGhosts L) (m : Data) (limit : ℕ) (from now : L) (n : ℕ) (s : LogState) : Type 0 where
+-- from the first place of lines the lines of a log were put that lead to this state, at whose node n derived, in the stretch of
+-- the plan
+pub record IsLogged {L : Type 0} (l : LogGhosts L) (m : Data) (plan : Plan) (from now : L) (n : ℕ) (s : LogState) : Type 0 where
   pub lines : List PlainLine
-  pub put : l.puts from lines now
-  pub written : IsWritten m limit lines s
+  pub put : l.writes from lines now
+  pub written : IsWritten m plan.limits lines s
   pub derived : derived_in 0 lines ≡ n
+  pub stretch : stretch_in first_stretch lines ≡ plan.stretch
 
 -- the lines of a log were put, or the put of the last of them failed
-pub data Stopped {L : Type 0} (l : LineGhosts L) (m : Data) (limit : ℕ) (from now : L) : Type 0 where
-  between : {n : ℕ} {s : LogState} → IsLogged l m limit from now n s → Stopped l m limit from now
-  within : {lines : List PlainLine} {line : PlainLine} {s : LogState} → l.breaks from lines line now → IsWritten m limit (lines ++ line ∷ []) s → Stopped l m limit from now
+pub data Stopped {L : Type 0} (l : LogGhosts L) (m : Data) (limits : Limits) (from now : L) : Type 0 where
+  between : {plan : Plan} {n : ℕ} {s : LogState} → plan.limits ≡ limits → IsLogged l m plan from now n s → Stopped l m limits from now
+  within : {lines : List PlainLine} {line : PlainLine} {s : LogState} → l.cuts_off from lines line now → IsWritten m limits (lines ++ line ∷ []) s → Stopped l m limits from now
+
+abbrev pub CausesBy : {L : Type 0} → (L → ℕ) → (L → Bool) → SolveFault → L → L → Type 0
+CausesBy faults calm Fault from now = Rose (faults from) (faults now) × (calm from ≡ true → ⊥)
+CausesBy faults calm NoMemory from now = ⊤
 
 abbrev pub Causes : {L : Type 0} → LineGhosts L → SolveFault → L → L → Type 0
-Causes l Fault from now = Rose (l.faults from) (l.faults now) × (l.calm from ≡ true → ⊥)
-Causes l NoMemory from now = ⊤
+Causes l fault from now = CausesBy l.faults l.calm fault from now
 
-abbrev pub Breaks : {L : Type 0} → LineGhosts L → Data → ℕ → SolveFault → L → L → Type 0
-Breaks l m limit fault from now = Stopped l m limit from now × Causes l fault from now
+abbrev pub Breaks : {L : Type 0} → LogGhosts L → LineGhosts L → Data → Limits → SolveFault → L → L → Type 0
+Breaks l k m limits fault from now = Stopped l m limits from now × Causes k fault from now
 
 -- lines that derive were put at the node, as many as the engine may where it was capped
-pub record IsAtNode {L : Type 0} (l : LineGhosts L) (m : Data) (limit : ℕ) (from now : L) (node : Node) (n : ℕ) : Type 0 where
+pub record IsAtNode {L : Type 0} (l : LogGhosts L) (m : Data) (plan : Plan) (from now : L) (node : Node) (n : ℕ) : Type 0 where
   pub state : LogState
-  pub logged : IsLogged l m limit from now n state
+  pub logged : IsLogged l m plan from now n state
   pub at : node_of state ≡ Some node
 
 abbrev pub IsSpent : Type 0 → ℕ → Region → Stop → Type 0
@@ -179,14 +197,24 @@ IsSpent quiet n r Quiet = quiet
 IsSpent quiet n r (Failed w) = Unit {0}
 IsSpent quiet n r Capped = n ≡ cap_at r
 
-abbrev pub Derived : {P L : Type 0} → Ghosts P → LineGhosts L → Data → ℕ → L → L → Search P → Result Stop SolveFault → Type 0
-Derived p l m limit from now s (Ok stop) = (n : ℕ) × IsAtNode l m limit from now (node_in s) n × IsSpent (AreQuiet p m s.region.region (best_of s.found)) n s.region.region stop
-Derived p l m limit from now s (Err fault) = Breaks l m limit fault from now
+abbrev pub Derived : {P L : Type 0} → Ghosts P → LogGhosts L → LineGhosts L → Data → Plan → L → L → Search P → Result Stop SolveFault → Type 0
+Derived p l k m plan from now s (Ok stop) = (n : ℕ) × IsAtNode l m plan from now (node_in s) n × IsSpent (AreQuiet p m s.region.region (best_of s.found)) n s.region.region stop
+Derived p l k m plan from now s (Err fault) = Breaks l k m plan.limits fault from now
 
 -- the search goes on from the next region, or has ended, or stopped with its log begun
-abbrev pub GoesOn : {P L : Type 0} → LineGhosts L → Data → ℕ → L → L → Search P → Result Bool SolveFault → Type 0
-GoesOn l m limit from now s (Ok more) = IsLogged l m limit from now 0 (state_in more s)
-GoesOn l m limit from now s (Err fault) = Breaks l m limit fault from now
+abbrev pub GoesOn : {P L : Type 0} → LogGhosts L → LineGhosts L → Data → Plan → L → L → Search P → Result Bool SolveFault → Type 0
+GoesOn l k m plan from now s (Ok more) = IsLogged l m plan from now 0 (state_in more s)
+GoesOn l k m plan from now s (Err fault) = Breaks l k m plan.limits fault from now
+
+-- the search goes on from the region where it is, or stopped with its log begun
+abbrev pub StaysOn : {P L : Type 0} → LogGhosts L → LineGhosts L → Data → Plan → L → L → Search P → Result (Unit {0}) SolveFault → Type 0
+StaysOn l k m plan from now s (Ok u) = IsLogged l m plan from now 0 (state_in true s)
+StaysOn l k m plan from now s (Err fault) = Breaks l k m plan.limits fault from now
+
+-- the search has ended, in whatever stretch, or stopped with its log begun
+abbrev pub Ran : {P L : Type 0} → LogGhosts L → LineGhosts L → Data → Limits → L → L → Search P → Result Bool SolveFault → Type 0
+Ran l k m limits from now s (Ok more) = (now_in : Stretch) × IsLogged l m (record { limits = limits; stretch = now_in }) from now 0 (state_in more s)
+Ran l k m limits from now s (Err fault) = Breaks l k m limits fault from now
 
 -- The answer.
 

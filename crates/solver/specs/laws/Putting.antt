@@ -1,9 +1,9 @@
 -- What was put first and what was put then are one text that was put.
-use Rattle.std.specs.Prelude.{◌≡◌, ℕ, ◌+◌, ◌≤◌, true, List, [], ◌∷◌, ◌++◌, length, take, drop, Option, Result, Ok, Err, IsOk}
-use Rattle.std.proofs.Common.{sym, ap, subst, ◌∙◌, arith, append_assoc, append-nil, length-append, length-drop, length-take}
+use Rattle.std.specs.Prelude.{◌≡◌, ℕ, ◌+◌, ◌≤◌, true, false, List, [], ◌∷◌, ◌++◌, length, map, take, drop, Option, Result, Ok, Err, IsOk}
+use Rattle.std.proofs.Common.{refl, sym, ap, subst, ◌∙◌, arith, append_assoc, append-nil, length-append, length-drop, length-take}
 use Rattle.std.proofs.Math.Seq.{take-append-add, drop-append-add}
 use Rattle.std.proofs.lemmas.Grind.{flat_map-append}
-use Rattle.std.proofs.lemmas.List.{take-append-drop}
+use Rattle.std.proofs.lemmas.List.{map-append, take-append-drop}
 use Rattle.sched_base.specs.declared.desk.Failed.{Failed}
 use Rattle.sched_base.specs.declared.desk.Port.TheVariants.{Log}
 use Rattle.sched_base.specs.State.{State}
@@ -11,6 +11,15 @@ use Rattle.sched_base.specs.Calls.{Rose, appended}
 use Rattle.sched_base.specs.laws.Appended.{appended_nothing, appended_twice}
 use Rattle.gatherer.specs.code.Gathering.{Gathers}
 use Rattle.textline.specs.Lines.{Bytes}
+use Rattle.region.specs.laws.Lists.{both_true}
+use Rattle.kernel.specs.declared.types.Line.TheVariants.{Derive, Fail, Split, Sol, Restart}
+use Rattle.kernel.specs.declared.types.Witness.TheVariants as witness
+use Rattle.kernel.specs.NoExtra.{numbers_of as no_numbers, is_valid as is_never}
+use Rattle.kernel.specs.Fit.{is_fit, is_fit_guess}
+use Rattle.engine.specs.Plain.{Plain}
+use Rattle.logtext.specs.Spelling.{line_text}
+use Rattle.logtext.specs.Lifted.{lifted, has_extra}
+use Rattle.logtext.specs.laws.Lifted.{same_spelling}
 use Rattle.logtext.specs.Logs.{PlainLine, plain_text, plain_lines}
 use Rattle.solver.specs.code.Putting.{Puts, Breaks, PutsNamed, BreaksNamed}
 
@@ -127,6 +136,18 @@ named_breaks xs ys line {held} {kept} {a} {b} {c} first second same = record {
       (puts_break (plain_lines xs) (plain_lines ys ++ plain_text line) first.puts second.breaks);
 }
 
+-- the same of lines without extra witnesses
+pub lifted_more : {S T U : Type 0} (xs ys : List Plain) {held kept left : Bytes} {a b c : State}
+    → PutsNamed S (plain_lines (map lifted xs)) held kept a b → PutsNamed T (plain_lines (map lifted ys)) kept left b c → U → PutsNamed U (plain_lines (map lifted (xs ++ ys))) held left a c
+lifted_more {U = U} xs ys {held} {kept} {left} {a} {b} {c} first second same =
+    subst (λ ls. PutsNamed U (plain_lines ls) held left a c) (sym (map-append lifted xs ys)) (named_more (map lifted xs) (map lifted ys) first second same)
+
+pub lifted_breaks : {S T U : Type 0} (xs ys : List Plain) (line : Plain) {held kept : Bytes} {a b c : State}
+    → PutsNamed S (plain_lines (map lifted xs)) held kept a b → BreaksNamed T (plain_lines (map lifted ys)) (plain_text (lifted line)) kept b c → U
+    → BreaksNamed U (plain_lines (map lifted (xs ++ ys))) (plain_text (lifted line)) held a c
+lifted_breaks {U = U} xs ys line {held} {kept} {a} {b} {c} first second same =
+    subst (λ ls. BreaksNamed U (plain_lines ls) (plain_text (lifted line)) held a c) (sym (map-append lifted xs ys)) (named_breaks (map lifted xs) (map lifted ys) (lifted line) first second same)
+
 pub named_ready : {S : Type 0} {text held kept : Bytes} {a b : State} → PutsNamed S text held kept a b → a.created ≡ true → b.created ≡ true
 named_ready is h = ap (λ (s : State). s.created) is.puts.logged ∙ h
 
@@ -142,3 +163,32 @@ named_line line result {held} {kept} {a} {b} same ok is = record { named = same;
 
 pub named_break : {S : Type 0} (line : PlainLine) (f : Failed) {held kept : Bytes} {a b : State} → S → Gathers Log (plain_text line) (Err f) held kept a b → BreaksNamed S (plain_lines []) (plain_text line) held a b
 named_break line f same is = record { named = same; breaks = broken (plain_text line) f is }
+
+-- one without an extra witness, which a log may hold, is spelled as it stands in a log
+has_none : (line : Plain) → is_fit is_never line ≡ true → has_extra line ≡ false
+has_none (Derive g (witness.Basic w)) fit = refl
+has_none (Derive g (witness.Hier w)) fit = refl
+has_none (Derive g (witness.Seq w)) fit = refl
+has_none (Derive g (witness.Cumul w)) fit = refl
+has_none (Derive g (witness.State w)) fit = refl
+has_none (Derive g (witness.Extra w)) fit = let no = (both_true (is_fit_guess g) (is_never w) fit).1 in cc
+has_none (Fail (witness.Basic w)) fit = refl
+has_none (Fail (witness.Hier w)) fit = refl
+has_none (Fail (witness.Seq w)) fit = refl
+has_none (Fail (witness.Cumul w)) fit = refl
+has_none (Fail (witness.State w)) fit = refl
+has_none (Fail (witness.Extra w)) fit = cc
+has_none (Split g) fit = refl
+has_none (Sol a) fit = refl
+has_none Restart fit = refl
+
+spelled : (line : Plain) → is_fit is_never line ≡ true → line_text no_numbers line ≡ plain_text (lifted line)
+spelled line fit = sym (same_spelling line (has_none line fit))
+
+pub lifted_line : {S : Type 0} (line : Plain) (result : Result (Unit {0}) Failed) {held kept : Bytes} {a b : State} → is_fit is_never line ≡ true → S → IsOk result → Gathers Log (line_text no_numbers line) result held kept a b
+    → PutsNamed S (plain_lines (lifted line ∷ [])) held kept a b
+lifted_line line result {held} {kept} {a} {b} fit same ok is = named_line (lifted line) result same ok (subst (λ (t : Bytes). Gathers Log t result held kept a b) (spelled line fit) is)
+
+pub lifted_break : {S : Type 0} (line : Plain) (f : Failed) {held kept : Bytes} {a b : State} → is_fit is_never line ≡ true → S → Gathers Log (line_text no_numbers line) (Err f) held kept a b
+    → BreaksNamed S (plain_lines []) (plain_text (lifted line)) held a b
+lifted_break line f {held} {kept} {a} {b} fit same is = named_break (lifted line) f same (subst (λ (t : Bytes). Gathers Log t (Err f) held kept a b) (spelled line fit) is)

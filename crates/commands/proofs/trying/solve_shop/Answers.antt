@@ -1,4 +1,5 @@
 use Rattle.std.proofs.Common.{◌≡◌, Err, rules, refl, sym, subst}
+use Rattle.restart_rules.specs.Restarts.{limits_of}
 use Rattle.commands.specs.declared.stop.Stop.TheVariants as stop
 use Rattle.commands.specs.Runs.Source.{generated}
 use Rattle.commands.specs.code.Tries.{TriesSolve}
@@ -9,27 +10,27 @@ pub returns-in_err-model : goal.returns-in_err-model
 returns-in_err-model g c =
     let old = g.D.Desk.state c.args.desk.now in
     let is : c.from_residual.result ≡ Err (stop.Given c.in_err-model.field-0.0) = search rules in
-    subst (λ r. TriesSolve (generated c.args.shop) c.args.log.now c.args.nodes r old old) (sym is)
-    (unmade c.args.shop c.args.log.now c.args.nodes c.in_err-model.field-0.0 old c.in_err-model.ensures)
+    subst (λ r. TriesSolve (generated c.args.shop) c.args.log.now (limits_of c.args.nodes c.args.restarts) r old old) (sym is)
+    (unmade c.args.shop c.args.log.now (limits_of c.args.nodes c.args.restarts) c.in_err-model.field-0.0 old c.in_err-model.ensures)
 
 pub returns-in_err-solved : goal.returns-in_err-solved
 returns-in_err-solved g c =
     let old = g.D.Desk.state c.args.desk.now in
     let after = g.D.Desk.state c.search_logged-searched.new.desk in
     let is : c.from_residual-in_err-solved.result ≡ Err c.in_err-solved.field-0.0 = search rules in
-    subst (λ r. TriesSolve (generated c.args.shop) c.args.log.now c.args.nodes r old after) (sym is)
-    (stopped c.in_ok-model.model c.args.nodes (generated c.args.shop) c.args.log.now c.in_err-solved.field-0.0 old old after (nothing_read old) refl refl c.in_ok-model.ensures c.in_err-solved.ensures)
+    subst (λ r. TriesSolve (generated c.args.shop) c.args.log.now (limits_of c.args.nodes c.args.restarts) r old after) (sym is)
+    (stopped c.in_ok-model.model (limits_of c.args.nodes c.args.restarts) (generated c.args.shop) c.args.log.now c.in_err-solved.field-0.0 old old after (nothing_read old) refl refl c.in_ok-model.ensures c.in_err-solved.ensures)
 
 pub returns-in-Ok : goal.returns-in-Ok
 returns-in-Ok g c =
     let old = g.D.Desk.state c.args.desk.now in
-    printed c.in_ok-model.model c.args.nodes c.in_ok-solved.solved (generated c.args.shop) c.args.log.now c.ending-ended.result _
+    printed c.in_ok-model.model (limits_of c.args.nodes c.args.restarts) c.in_ok-solved.solved (generated c.args.shop) c.args.log.now c.ending-ended.result _
     old old (g.D.Desk.state c.search_logged-searched.new.desk) (g.D.Desk.state c.write_summary-written.new.desk)
     (nothing_read old) refl refl c.in_ok-model.ensures (λ x same. tt) c.in_ok-solved.ensures c.in-Ok.ensures c.ending-ended.ensures.is c.ending-ended.ensures.success
 
 pub returns-in-Err : goal.returns-in-Err
 returns-in-Err g c =
     let old = g.D.Desk.state c.args.desk.now in
-    half_printed c.in_ok-model.model c.args.nodes c.in_ok-solved.solved (generated c.args.shop) c.args.log.now _
+    half_printed c.in_ok-model.model (limits_of c.args.nodes c.args.restarts) c.in_ok-solved.solved (generated c.args.shop) c.args.log.now _
     old old (g.D.Desk.state c.search_logged-searched.new.desk) (g.D.Desk.state c.write_summary-written.new.desk)
     (nothing_read old) refl refl c.in_ok-model.ensures c.in_ok-solved.ensures c.in-Err.ensures

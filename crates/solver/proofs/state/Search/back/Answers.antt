@@ -25,8 +25,8 @@ returns-clause-ready g c = λ m holding more.
     let now : IsCalm p m q (best_of s.found) c.wake.new.self = c.wake.ensures.calm m takes.region q (best_of s.found) (rouse.made m holding.engine) back.before back.of.region
     (λ o h k. takes.narrows.others o (subst (λ x. o ≡ x → ⊥) takes.cell_is h) (subst (λ x. o ≡ turned x → ⊥) takes.cell_is k)) calm in
     subst (λ (u : Search g.row.P.Denot). let t : Search g.row.P.Denot = record u { engine = c.wake.new.self } in IsReady p m t) (sym rouse.same)
-    (back_ready p m s (record { region = c.next.new.region; pending = c.next.new.self; marks = c.pop.new.self; engine = c.wake.new.self; intervals = c.restore.new.self; found = s.found; nodes = s.nodes; guide = s.guide })
-    c.in-Some-next.cell c.pop.new.self.items c.in-Some.mark takes holding back next.pending refl c.restore.ensures refl (c.wake.ensures.made m (rouse.made m holding.engine)) now)
+    (back_ready p m s (record { region = c.next.new.region; pending = c.next.new.self; marks = c.pop.new.self; engine = c.wake.new.self; energy = s.energy; intervals = c.restore.new.self; found = s.found; nodes = s.nodes; guide = s.guide })
+    c.in-Some-next.cell c.pop.new.self.items c.in-Some.mark takes holding back next.pending refl c.restore.ensures refl refl (c.wake.ensures.made m (rouse.made m holding.engine)) now)
 
 pub returns-clause-holding : goal.returns-clause-holding
 returns-clause-holding g c = λ m holding. (returns-clause-ready g c m holding refl).holding

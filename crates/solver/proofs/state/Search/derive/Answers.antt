@@ -13,16 +13,16 @@ use Rattle.solver.proofs.state.Search.derive.Goals as goal
 
 pub returns-in_err-run-clause-derived : goal.returns-in_err-run-clause-derived
 returns-in_err-run-clause-derived g c =
-    let laws = g.met.L.Lines in
-    let places : ArePlaces g.L.Lines = record { more = laws.more; then_breaks = laws.then_breaks; stays_ready = laws.stays_ready; stays_calm = laws.stays_calm; same_faults = laws.same_faults } in
+    let laws = g.met.L.LogTo in
+    let places : ArePlaces g.L.LogTo g.L.Lines = record { lifts = laws.lifts; lifts_broken = laws.lifts_broken; more = laws.writes_more; then_breaks = laws.then_cuts_off; stays_calm = laws.is_calm_still; same_faults = laws.has_same_faults } in
     let m = c.args.model.now in
     let s = c.args.self.now in
     let run = c.in_err-run.ensures in
-    λ from limit less logged.
-    derive_stops g.P.Propagator g.L.Lines m limit from c.run.new.lines (let t : Search g.row.P.Denot = record c.args.self.now { region = c.run.new.region; engine = c.run.new.self } in t) c.from_residual.result (passed_on c.in_err-run.field-0.0) c.from_residual.ensures.1 (
-      broke_stops g.L.Lines places m limit from c.args.lines.now c.run.new.lines (after_saved s.region.saved s.pending) s.nodes s.found c.best-best.result s.region.region c.run.new.region.region
+    λ from plan less logged.
+    derive_stops g.P.Propagator g.L.LogTo g.L.Lines m plan from c.run.new.lines (let t : Search g.row.P.Denot = record c.args.self.now { region = c.run.new.region; engine = c.run.new.self } in t) c.from_residual.result (passed_on c.in_err-run.field-0.0) c.from_residual.ensures.1 (
+      broke_stops g.L.LogTo g.L.Lines places m plan from c.args.lines.now c.run.new.lines (after_saved s.region.saved s.pending) s.nodes s.found c.best-best.result s.region.region c.run.new.region.region
           c.intervals.ensures.valid c.requires.ready.holding.of.region (sym c.best-best.ensures) less logged run.broke,
-      engine_causes g.L.Lines places m limit from c.args.lines.now c.run.new.lines 0 _ c.in_err-run.field-0.0 logged (λ is. run.fault (err_is c.in_err-run.field-0.0 fault.Lines is)),
+      engine_causes g.L.LogTo g.L.Lines places m plan from c.args.lines.now c.run.new.lines 0 _ c.in_err-run.field-0.0 logged (λ is. run.fault (err_is c.in_err-run.field-0.0 fault.Lines is)),
     )
 
 pub returns-clause-ready : goal.returns-clause-ready
@@ -40,16 +40,16 @@ returns-clause-settled g c =
 
 pub returns-clause-derived : goal.returns-clause-derived
 returns-clause-derived g c =
-    let laws = g.met.L.Lines in
-    let places : ArePlaces g.L.Lines = record { more = laws.more; then_breaks = laws.then_breaks; stays_ready = laws.stays_ready; stays_calm = laws.stays_calm; same_faults = laws.same_faults } in
+    let laws = g.met.L.LogTo in
+    let places : ArePlaces g.L.LogTo g.L.Lines = record { lifts = laws.lifts; lifts_broken = laws.lifts_broken; more = laws.writes_more; then_breaks = laws.then_cuts_off; stays_calm = laws.is_calm_still; same_faults = laws.has_same_faults } in
     let m = c.args.model.now in
     let s = c.args.self.now in
     let q = c.run.new.region in
     let run = c.in_ok-run.ensures in
-    λ from limit less logged. (
+    λ from plan less logged. (
       run.ran.n,
-      subst (λ rs. IsAtNode g.L.Lines m limit from c.run.new.lines (node_with q.region (after_saved rs s.pending) s.nodes s.found) run.ran.n) (sym run.saved)
-          (derived_to g.L.Lines places m limit from c.args.lines.now c.run.new.lines (after_saved s.region.saved s.pending) s.nodes s.found c.best-best.result run.ran.n s.region.region q.region c.in_ok-run.field-0
+      subst (λ rs. IsAtNode g.L.LogTo m plan from c.run.new.lines (node_with q.region (after_saved rs s.pending) s.nodes s.found) run.ran.n) (sym run.saved)
+          (derived_to g.L.LogTo g.L.Lines places m plan from c.args.lines.now c.run.new.lines (after_saved s.region.saved s.pending) s.nodes s.found c.best-best.result run.ran.n s.region.region q.region c.in_ok-run.field-0
           c.intervals.ensures.valid c.requires.ready.holding.of.region run.of.region (sym c.best-best.ensures) less logged run.ran.led run.ran.counts),
       subst (λ b. IsSpent (AreQuiet g.P.Propagator m q.region b) run.ran.n q.region c.in_ok-run.field-0) c.best-best.ensures
           (spent_by _ run.ran.n m c.best-best.result q.region c.in_ok-run.field-0 run.ran.ends run.ran.counts),

@@ -20,6 +20,6 @@ returns g c = λ m holding.
     let rouse = c.rouse.ensures in
     let found : best_of c.rouse.new.self.found ≡ best_of s.found = ap (λ u. best_of u.found) rouse.same in
     subst (λ (u : Search g.row.P.Denot). IsReady p m u) (sym rouse.same)
-    (unwound_ready p m s (record { region = h; pending = c.new.result; marks = c.pop.new.self; engine = c.rouse.new.self.engine; intervals = c.restore.new.self; found = s.found; nodes = s.nodes; guide = s.guide })
-    c.pop.new.self.items c.in-Some.mark holding unwound c.new.ensures.none refl c.restore.ensures refl (rouse.made m holding.engine)
+    (unwound_ready p m s (record { region = h; pending = c.new.result; marks = c.pop.new.self; engine = c.rouse.new.self.engine; energy = s.energy; intervals = c.restore.new.self; found = s.found; nodes = s.nodes; guide = s.guide })
+    c.pop.new.self.items c.in-Some.mark holding unwound c.new.ensures.none refl c.restore.ensures refl refl (rouse.made m holding.engine)
     (subst (λ b. IsCalm p m h.region b c.rouse.new.self.engine) found (rouse.calm m h.region holding.engine unwound.of.region unwound.popped.newest.spent)))

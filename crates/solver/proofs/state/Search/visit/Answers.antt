@@ -1,32 +1,33 @@
-use Rattle.std.proofs.Common.{◌≡◌, Ok, sym, ap, subst, ◌∙◌, arith, true≢false}
+use Rattle.std.proofs.Common.{◌≡◌, Ok, refl, sym, ap, subst, ◌∙◌, arith, true≢false}
 use Rattle.kernel.specs.Steps.{best_of, step_at}
 use Rattle.engine.specs.code.Engines.{AreQuiet}
-use Rattle.engine.specs.Plain.{refutes_plain}
+use Rattle.logtext.specs.Lifted.{refutes_logged}
+use Rattle.restart_rules.specs.code.Stretches.{with_closed}
 use Rattle.solver.specs.declared.fault.SolveFault.TheVariants.{Fault, NoMemory}
 use Rattle.solver.specs.declared.state.Search.{Search}
 use Rattle.solver.specs.code.Searching.{Closes, between, is_failed, node_in, state_in}
 use Rattle.solver.proofs.logged.Deriving.{ArePlaces, visit_stops, closed_to, closed_break, causes_from}
-use Rattle.solver.proofs.logged.Ending.{closes_line, closes_ends, closes_well, closes_step, spent_well, quiet_split}
+use Rattle.solver.proofs.logged.Ending.{closes_line, closes_ends, closes_well, closes_step, spent_well, full_well, quiet_split}
 use Rattle.solver.proofs.state.Search.visit.Goals as goal
 
 pub returns-in_err-stop-clause-logged : goal.returns-in_err-stop-clause-logged
-returns-in_err-stop-clause-logged g c = λ from limit less logged.
-    visit_stops g.L.Lines c.args.model.now limit from c.derive.new.lines c.derive.new.self c.from_residual.result c.in_err-stop.field-0.0 c.from_residual.ensures.1 (c.in_err-stop.ensures.derived from limit less logged)
+returns-in_err-stop-clause-logged g c = λ from plan less logged.
+    visit_stops g.L.LogTo g.L.Lines c.args.model.now (with_closed plan) from c.derive.new.lines c.derive.new.self c.from_residual.result c.in_err-stop.field-0.0 c.from_residual.ensures.1 (c.in_err-stop.ensures.derived from plan less logged)
 
 pub returns-in_err-line-clause-logged : goal.returns-in_err-line-clause-logged
-returns-in_err-line-clause-logged g c = λ from limit less logged.
-    let derived = c.in_ok-stop.ensures.derived from limit less logged in
-    visit_stops g.L.Lines c.args.model.now limit from c.derive.new.lines c.closing.new.self c.from_residual-in_err-line.result NoMemory c.from_residual-in_err-line.ensures.1 (between derived.1.logged, tt)
+returns-in_err-line-clause-logged g c = λ from plan less logged.
+    let derived = c.in_ok-stop.ensures.derived from plan less logged in
+    visit_stops g.L.LogTo g.L.Lines c.args.model.now (with_closed plan) from c.derive.new.lines c.closing.new.self c.from_residual-in_err-line.result NoMemory c.from_residual-in_err-line.ensures.1 (between refl derived.1.logged, tt)
 
-pub put-requires-clause-fit : goal.put-requires-clause-fit
-put-requires-clause-fit g c =
+pub write-requires-clause-fit : goal.write-requires-clause-fit
+write-requires-clause-fit g c =
     let s = c.derive.new.self in
     (closes_line c.args.model.now s.region.region (best_of s.found) (is_failed c.in_ok-stop.stop) c.in_ok-line.line c.intervals.ensures.valid c.in_ok-stop.ensures.ready.holding.of.region c.in_ok-line.ensures.line).fit
 
-pub returns-in_err-put-clause-logged : goal.returns-in_err-put-clause-logged
-returns-in_err-put-clause-logged g c =
-    let laws = g.met.L.Lines in
-    let places : ArePlaces g.L.Lines = record { more = laws.more; then_breaks = laws.then_breaks; stays_ready = laws.stays_ready; stays_calm = laws.stays_calm; same_faults = laws.same_faults } in
+pub returns-in_err-write-clause-logged : goal.returns-in_err-write-clause-logged
+returns-in_err-write-clause-logged g c =
+    let laws = g.met.L.LogTo in
+    let places : ArePlaces g.L.LogTo g.L.Lines = record { lifts = laws.lifts; lifts_broken = laws.lifts_broken; more = laws.writes_more; then_breaks = laws.then_cuts_off; stays_calm = laws.is_calm_still; same_faults = laws.has_same_faults } in
     let m = c.args.model.now in
     let s = c.derive.new.self in
     let r = s.region.region in
@@ -36,13 +37,15 @@ returns-in_err-put-clause-logged g c =
     let of = c.in_ok-stop.ensures.ready.holding.of.region in
     let closes = c.in_ok-line.ensures.line in
     let step = closes_step m (node_in s) (is_failed stop) line c.in_ok-stop.ensures.ready.holding.valued closes in
-    λ from limit less logged.
-    let derived = c.in_ok-stop.ensures.derived from limit less logged in
-    visit_stops g.L.Lines m limit from c.put.new.self c.closing.new.self c.from_residual-in_err-put.result Fault c.from_residual-in_err-put.ensures.1 (
-      closed_break g.L.Lines places m limit from c.derive.new.lines c.put.new.self (node_in s) derived.0 line step.0 derived.1 c.in_err-put.ensures.broke
+    λ from plan less logged.
+    let derived = c.in_ok-stop.ensures.derived from plan less logged in
+    visit_stops g.L.LogTo g.L.Lines m (with_closed plan) from c.write.new.self c.closing.new.self c.from_residual-in_err-write.result Fault c.from_residual-in_err-write.ensures.1 (
+      closed_break g.L.LogTo g.L.Lines places m plan from c.derive.new.lines c.write.new.self (node_in s) derived.0 line step.0 less.ongoing derived.1 c.in_err-write.ensures.broke
           (closes_line m r best (is_failed stop) line c.intervals.ensures.valid of closes)
-          (closes_well m r best (is_failed stop) line derived.0 closes (spent_well m r best (AreQuiet g.P.Propagator m r best) derived.0 stop (c.requires.covers r best of) derived.2)) step.1 (omega (arith, step.2, c.in_ok-stop.ensures.nodes, less)),
-      causes_from g.L.Lines places m limit from c.derive.new.lines c.put.new.self derived.0 derived.1.state derived.1.logged (c.in_err-put.ensures.rose, λ calm. true≢false (sym (c.in_err-put.ensures.calm calm))),
+          (closes_well m r best (is_failed stop) line derived.0 closes (spent_well m r best (AreQuiet g.P.Propagator m r best) derived.0 stop (c.requires.covers r best of) derived.2)
+          (full_well m r (AreQuiet g.P.Propagator m r best) derived.0 stop line derived.2 c.in_ok-line.ensures.full))
+          (closes_ends m r best (is_failed stop) line closes) step.1 (omega (arith, step.2, c.in_ok-stop.ensures.nodes, less.more)),
+      causes_from g.L.LogTo g.L.Lines places m plan from c.derive.new.lines c.write.new.self derived.0 derived.1.state derived.1.logged (c.in_err-write.ensures.rose, λ calm. true≢false (sym (c.in_err-write.ensures.calm calm))),
     )
 
 pub close-requires-clause-closes : goal.close-requires-clause-closes
@@ -58,8 +61,8 @@ close-requires-clause-spent g c = λ k is not.
 
 pub returns-in_err-close-clause-logged : goal.returns-in_err-close-clause-logged
 returns-in_err-close-clause-logged g c =
-    let laws = g.met.L.Lines in
-    let places : ArePlaces g.L.Lines = record { more = laws.more; then_breaks = laws.then_breaks; stays_ready = laws.stays_ready; stays_calm = laws.stays_calm; same_faults = laws.same_faults } in
+    let laws = g.met.L.LogTo in
+    let places : ArePlaces g.L.LogTo g.L.Lines = record { lifts = laws.lifts; lifts_broken = laws.lifts_broken; more = laws.writes_more; then_breaks = laws.then_cuts_off; stays_calm = laws.is_calm_still; same_faults = laws.has_same_faults } in
     let m = c.args.model.now in
     let s = c.derive.new.self in
     let r = s.region.region in
@@ -69,20 +72,21 @@ returns-in_err-close-clause-logged g c =
     let of = c.in_ok-stop.ensures.ready.holding.of.region in
     let closes = c.in_ok-line.ensures.line in
     let step = closes_step m (node_in s) (is_failed stop) line c.in_ok-stop.ensures.ready.holding.valued closes in
-    λ from limit less logged.
-    let derived = c.in_ok-stop.ensures.derived from limit less logged in
-    visit_stops g.L.Lines m limit from c.put.new.self c.close.new.self c.from_residual-in_err-close.result NoMemory c.from_residual-in_err-close.ensures.1 (
-      between (closed_to g.L.Lines places m limit from c.derive.new.lines c.put.new.self (node_in s) derived.0 line step.0 derived.1 c.in_ok-put.ensures.ok
+    λ from plan less logged.
+    let derived = c.in_ok-stop.ensures.derived from plan less logged in
+    visit_stops g.L.LogTo g.L.Lines m (with_closed plan) from c.write.new.self c.close.new.self c.from_residual-in_err-close.result NoMemory c.from_residual-in_err-close.ensures.1 (
+      between refl (closed_to g.L.LogTo g.L.Lines places m plan from c.derive.new.lines c.write.new.self (node_in s) derived.0 line step.0 less.ongoing derived.1 c.in_ok-write.ensures.ok
           (closes_line m r best (is_failed stop) line c.intervals.ensures.valid of closes)
-          (closes_well m r best (is_failed stop) line derived.0 closes (spent_well m r best (AreQuiet g.P.Propagator m r best) derived.0 stop (c.requires.covers r best of) derived.2))
-          (closes_ends m r best (is_failed stop) line derived.0 closes) step.1 (omega (arith, step.2, c.in_ok-stop.ensures.nodes, less))),
+          (closes_well m r best (is_failed stop) line derived.0 closes (spent_well m r best (AreQuiet g.P.Propagator m r best) derived.0 stop (c.requires.covers r best of) derived.2)
+          (full_well m r (AreQuiet g.P.Propagator m r best) derived.0 stop line derived.2 c.in_ok-line.ensures.full))
+          (closes_ends m r best (is_failed stop) line closes) step.1 (omega (arith, step.2, c.in_ok-stop.ensures.nodes, less.more))),
       tt,
     )
 
 pub returns-clause-logged : goal.returns-clause-logged
 returns-clause-logged g c =
-    let laws = g.met.L.Lines in
-    let places : ArePlaces g.L.Lines = record { more = laws.more; then_breaks = laws.then_breaks; stays_ready = laws.stays_ready; stays_calm = laws.stays_calm; same_faults = laws.same_faults } in
+    let laws = g.met.L.LogTo in
+    let places : ArePlaces g.L.LogTo g.L.Lines = record { lifts = laws.lifts; lifts_broken = laws.lifts_broken; more = laws.writes_more; then_breaks = laws.then_cuts_off; stays_calm = laws.is_calm_still; same_faults = laws.has_same_faults } in
     let m = c.args.model.now in
     let s = c.derive.new.self in
     let r = s.region.region in
@@ -92,11 +96,12 @@ returns-clause-logged g c =
     let of = c.in_ok-stop.ensures.ready.holding.of.region in
     let closes = c.in_ok-line.ensures.line in
     let after = state_in c.in_ok-close.field-0 c.close.new.self in
-    λ from limit less logged.
-    let derived = c.in_ok-stop.ensures.derived from limit less logged in
-    closed_to g.L.Lines places m limit from c.derive.new.lines c.put.new.self (node_in s) derived.0 line after derived.1 c.in_ok-put.ensures.ok
+    λ from plan less logged.
+    let derived = c.in_ok-stop.ensures.derived from plan less logged in
+    closed_to g.L.LogTo g.L.Lines places m plan from c.derive.new.lines c.write.new.self (node_in s) derived.0 line after less.ongoing derived.1 c.in_ok-write.ensures.ok
     (closes_line m r best (is_failed stop) line c.intervals.ensures.valid of closes)
-    (closes_well m r best (is_failed stop) line derived.0 closes (spent_well m r best (AreQuiet g.P.Propagator m r best) derived.0 stop (c.requires.covers r best of) derived.2))
-    (closes_ends m r best (is_failed stop) line derived.0 closes)
-    (subst (λ (u : Search g.row.P.Denot). step_at refutes_plain m (node_in u) line ≡ Ok after) c.in_ok-line.ensures.same c.in_ok-close.ensures.step)
-    (omega (arith, c.in_ok-close.ensures.nodes, ap (λ (u : Search g.row.P.Denot). u.nodes) c.in_ok-line.ensures.same, c.in_ok-stop.ensures.nodes, less))
+    (closes_well m r best (is_failed stop) line derived.0 closes (spent_well m r best (AreQuiet g.P.Propagator m r best) derived.0 stop (c.requires.covers r best of) derived.2)
+    (full_well m r (AreQuiet g.P.Propagator m r best) derived.0 stop line derived.2 c.in_ok-line.ensures.full))
+    (closes_ends m r best (is_failed stop) line closes)
+    (subst (λ (u : Search g.row.P.Denot). step_at refutes_logged m (node_in u) line ≡ Ok after) c.in_ok-line.ensures.same c.in_ok-close.ensures.step)
+    (omega (arith, c.in_ok-close.ensures.nodes, ap (λ (u : Search g.row.P.Denot). u.nodes) c.in_ok-line.ensures.same, c.in_ok-stop.ensures.nodes, less.more))

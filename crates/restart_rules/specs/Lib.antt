@@ -1,0 +1,3 @@
+pub mod Restarts
+pub mod laws
+pub mod code

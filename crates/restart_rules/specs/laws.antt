@@ -1,0 +1,3 @@
+pub mod Enough
+pub mod Places
+pub mod Restarts
