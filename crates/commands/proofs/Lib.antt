@@ -4,3 +4,4 @@ pub mod Shown
 pub mod Solved
 pub mod Verified
 pub mod Ending
+mod Complete

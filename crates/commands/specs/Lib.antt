@@ -5,3 +5,4 @@ pub mod Told
 pub mod VerifyText
 pub mod code
 pub mod AnswersVerify
+pub mod Complete

@@ -17,5 +17,5 @@ mod valid;
 mod verifying;
 
 pub use ended::Ended;
-pub use laws::answer_verifies;
+pub use laws::{answer_verifies, runs_are_complete};
 pub use running::run;

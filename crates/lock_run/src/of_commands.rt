@@ -6,6 +6,7 @@ ghost use Rattle.commands.specs.Told.{usage_line};
 ghost use Rattle.commands.specs.declared.ended.Ended.TheVariants as end;
 ghost use Rattle.commands.specs.Ended.{status_of};
 ghost use Rattle.commands.specs.AnswersVerify.{AnswersVerify};
+ghost use Rattle.commands.specs.Complete.{RunsAreComplete};
 
 use command_line::WordsFault;
 use commands::Ended;
@@ -30,4 +31,10 @@ pub fn answer_verifies()
     ensures { AnswersVerify }
 {
     commands::answer_verifies();
+}
+
+pub fn runs_are_complete()
+    ensures { RunsAreComplete }
+{
+    commands::runs_are_complete();
 }

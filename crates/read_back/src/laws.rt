@@ -3,7 +3,7 @@ ghost use Rattle.read_back.specs.Laws.{CanonicalIsJudged, CanonicalIsSaid, Deser
 use cpo_elab::{answer_is_determined, named_first_is_sound, statements_keep_models_valid};
 
 /// Stands for a law: what a text deserves is valid, and as a text can write it.
-fn deserved_models_are_written()
+pub fn deserved_models_are_written()
     ensures { DeservedAreWritten }
 {
     answer_is_determined();

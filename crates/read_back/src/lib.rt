@@ -8,4 +8,7 @@
 
 mod laws;
 
-pub use laws::{canonical_statements_are_judged, canonical_text_reads_back, said_text_is_read};
+pub use laws::{
+    canonical_statements_are_judged, canonical_text_reads_back, deserved_models_are_written,
+    said_text_is_read,
+};
