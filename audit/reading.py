@@ -42,6 +42,8 @@ LOGS = ["commands.specs.Runs.LogPromise", "commands.specs.Runs.HoldsBegunLog", "
 PRINTED = [
     "command_line.specs.Commands.command_of",
     "sched_text.specs.Answers.answer_text",
+    "sched_text.specs.Answers.numbers_word",
+    "sched_text.specs.Answers.values_word",
     "sched_text.specs.Answers.summary_text",
     "sched_text.specs.Answers.check_text",
     "log_reports.specs.Texts.bound_text",

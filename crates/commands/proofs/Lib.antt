@@ -1,4 +1,5 @@
 pub mod Logged
+pub mod Valued
 pub mod Searched
 pub mod Shown
 pub mod Solved

@@ -42,6 +42,8 @@ pub fn search_logged<D: Desk>(
     requires { IsLimit nodes }
     ensures { Searches model.now log.now (limits_of nodes restarts) result (D.state desk.old) (D.state desk.new) }
 {
+    // Called for its clause alone.
+    let _ = model.intervals();
     desk.create_log(log)?;
     let solved = solve(alloc, model, u64::from(nodes), restarts, desk)?;
     Ok(solved)

@@ -12,7 +12,7 @@ use sched_base::{Desk, Port};
 use sched_model::value;
 use std::alloc::Global;
 
-/// Tests the schedule that a file holds, of the model that another holds, and prints its value.
+/// Tests the schedule that a file holds, of the model that another holds, and prints its values.
 fn verify_file<D: Desk>(
     alloc: Global,
     desk: &mut D,
@@ -29,9 +29,12 @@ fn verify_file<D: Desk>(
             return Err(Stop::Given(stop));
         }
     };
+    // Called for its clause alone.
+    let _ = model.intervals();
     let value = value(&model, &a);
+    let spelt = verify_bytes(alloc, &model, value);
     drop((model, a));
-    let text = verify_bytes(alloc, value)?;
+    let text = spelt?;
     match desk.write(Port::Out, text.as_slice()) {
         Ok(()) => Ok(Ended::Done),
         Err(_) => Err(Stop::Given(Given::Fault)),

@@ -69,13 +69,14 @@ module _ {V : Type 0} (r : Report V) where
 
   -- the text that says so was printed
   pub printed : (m : Data) (model log text : Bytes) (v : V) (u : Unit {0}) (old s t w : State) → OnlyReads old s → s.faults ≡ old.faults → FileDeserves old model (Accepted m) → ReadsModel model old s → OnlyJudges s t → JudgesFile r m log (Ok v) s t
-      → text ≡ r.text v → Writes Out text (Ok u) t w → TriesReport r model log (Ok u) old w
+      → text ≡ r.text m v → Writes Out text (Ok u) t w → TriesReport r model log (Ok u) old w
+  unfolding tells
   printed m model log text v u old s t w reads kept deserved far judged judges spelt writes =
       let faults : t.faults ≡ old.faults = judges.0 ∙ kept in
-      let is : w ≡ record old { model = s.model; log = t.log; out = appended (r.text v) old.out; faults = t.faults } =
+      let is : w ≡ record old { model = s.model; log = t.log; out = appended (r.text m v) old.out; faults = t.faults } =
       writes.written
       ∙ ap (λ bs. record t { out = appended bs t.out }) spelt
-      ∙ ap (λ (x : State). record x { out = appended (r.text v) x.out }) (both_only old s t reads judged) in
+      ∙ ap (λ (x : State). record x { out = appended (r.text m v) x.out }) (both_only old s t reads judged) in
       subst (TriesReport r model log (Ok u) old) (sym is) (record {
         only = refl;
         later = subst (λ n. old.faults ≤ n) (sym faults) (omega arith);
@@ -84,15 +85,16 @@ module _ {V : Type 0} (r : Report V) where
 
   -- or a front part of it
   pub half_printed : (m : Data) (model log text : Bytes) (v : V) (e : Failed) (old s t w : State) → OnlyReads old s → s.faults ≡ old.faults → FileDeserves old model (Accepted m) → OnlyJudges s t → JudgesFile r m log (Ok v) s t
-      → text ≡ r.text v → Writes Out text (Err e) t w → TriesReport r model log (Err (stop.Given given.Fault)) old w
+      → text ≡ r.text m v → Writes Out text (Err e) t w → TriesReport r model log (Err (stop.Given given.Fault)) old w
+  unfolding tells
   half_printed m model log text v e old s t w reads kept deserved judged judges spelt writes =
       let n : ℕ = writes.failed.0 in
       let here = both_only old s t reads judged in
       let faults : t.faults ≡ old.faults = judges.0 ∙ kept in
-      let is : w ≡ record old { model = s.model; log = t.log; out = appended (take n (r.text v)) old.out; faults = w.faults } =
+      let is : w ≡ record old { model = s.model; log = t.log; out = appended (take n (r.text m v)) old.out; faults = w.faults } =
       writes.failed.2
       ∙ ap (λ bs. record t { out = appended (take n bs) t.out; faults = w.faults }) spelt
-      ∙ ap (λ (x : State). record x { out = appended (take n (r.text v)) x.out; faults = w.faults }) here in
+      ∙ ap (λ (x : State). record x { out = appended (take n (r.text m v)) x.out; faults = w.faults }) here in
       subst (TriesReport r model log (Err (stop.Given given.Fault)) old) (sym is) (record {
         only = refl;
         later = subst (λ k. k ≤ w.faults) faults writes.count.later;

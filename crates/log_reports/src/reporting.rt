@@ -71,10 +71,16 @@ pub fn report_check<D: Desk>(
     ensures { TriesReport check_report name.now log.now result (D.state desk.old) (D.state desk.new) }
 {
     let model = read_file(alloc, desk, name)?;
-    let judged = check_file(alloc, desk, &model, log);
+    let checked = match check_file(alloc, desk, &model, log) {
+        Ok(checked) => checked,
+        Err(stop) => {
+            drop(model);
+            return Err(stop);
+        }
+    };
+    let written = write_accepted(&model, checked.verdict, checked.nodes, desk);
     drop(model);
-    let checked = judged?;
-    match write_accepted(checked.verdict, checked.nodes, desk) {
+    match written {
         Ok(()) => Ok(()),
         Err(_) => Err(LogStop::Given(Given::Fault)),
     }
@@ -90,10 +96,16 @@ pub fn report_bound<D: Desk>(
     ensures { TriesReport bound_report name.now log.now result (D.state desk.old) (D.state desk.new) }
 {
     let model = read_file(alloc, desk, name)?;
-    let judged = bound_file(alloc, desk, &model, log);
+    let bounded = match bound_file(alloc, desk, &model, log) {
+        Ok(bounded) => bounded,
+        Err(stop) => {
+            drop(model);
+            return Err(stop);
+        }
+    };
+    let spelt = bound_bytes(alloc, &model, bounded);
     drop(model);
-    let bounded = judged?;
-    let text = bound_bytes(alloc, bounded)?;
+    let text = spelt?;
     match desk.write(Port::Out, text.as_slice()) {
         Ok(()) => Ok(()),
         Err(_) => Err(LogStop::Given(Given::Fault)),

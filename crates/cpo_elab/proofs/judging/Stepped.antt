@@ -13,7 +13,7 @@ use Rattle.cpo_text.specs.declared.text.Reading.{Reading}
 use Rattle.cpo_elab.specs.Named.{is_defined}
 use Rattle.cpo_elab.specs.Held.{some_amount, rows_in}
 use Rattle.cpo_elab.specs.Elaborated.{defined, constraint_of, with_written, after}
-use Rattle.cpo_elab.specs.Judged.{is_large, is_negative, is_wide, leaves_room, statement_limit, aims_again, number_in}
+use Rattle.cpo_elab.specs.Judged.{is_large, is_negative, is_wide, leaves_room, statement_limit, aims_again, has_no_hull, number_in}
 use Rattle.cpo_elab.specs.Stages.{Stage}
 use Rattle.cpo_elab.specs.code.Calendars.{is_of_calendars}
 use Rattle.cpo_elab.specs.code.Judging.{IsClear}
@@ -71,6 +71,9 @@ can_step m s before shaped clear = valid_after m s before shaped clear
 
 pub first_aim : (m : Data) (s : Statement) → IsValid m → IsClear m s → aims_again m s ≡ false
 first_aim m s before clear = let f = known m s before clear in f.single
+
+pub hull_there : (m : Data) (s : Statement) → IsValid m → IsClear m s → has_no_hull m s ≡ false
+hull_there m s before clear = let f = known m s before clear in f.hull
 
 -- the trees that are left are as the grammar has them
 

@@ -226,18 +226,7 @@ quiet_both m c r best b xs bound names above below = record { unrefuted = at }
 -- a constraint of another kind
 no_case : (m : Data) (r : Region) (t : ℤ) (u : ℕ) (d : Constraint) → is_cumul d ≡ false → point_of m r t u d ≡ false
 no_case m r t u (constraint.CumulIn f w lo hi) other = cc
-no_case m r t u (constraint.NoOverlap p matrix direct) other = refl
-no_case m r t u (constraint.Temporal from to equal x y z) other = refl
-no_case m r t u (constraint.Logic e) other = refl
-no_case m r t u (constraint.Span x parts) other = refl
-no_case m r t u (constraint.Alternative x parts) other = refl
-no_case m r t u (constraint.Synchronize x parts) other = refl
-no_case m r t u (constraint.First p x) other = refl
-no_case m r t u (constraint.Last p x) other = refl
-no_case m r t u (constraint.Before p x y) other = refl
-no_case m r t u (constraint.Prev p x y) other = refl
-no_case m r t u (constraint.AlwaysEqual g x v i j) other = refl
-no_case m r t u (constraint.AlwaysNoState g x) other = refl
+no_case m r t u another other = refl
 
 pub other_quiet : (m : Data) (c : ℕ) (r : Region) (best : Option ℤ) (d : Constraint) → slice_get m.constraints c ≡ Some d → is_cumul d ≡ false → quiet m c r best
 other_quiet m c r best d is other = record { unrefuted = λ w guess mine asked. at w guess (sym (owned m c w mine)) }
