@@ -9,6 +9,7 @@ mod labels;
 mod lanes;
 mod page;
 mod profiles;
+mod shades;
 mod states;
 mod text;
 mod ticks;

@@ -1,0 +1,7 @@
+use Rattle.std.proofs.Common.{◌∙◌, refl, subst, sym}
+use Rattle.kernel.specs.Promises.{Means}
+use Rattle.last_plan.proofs.Told.{plan_means}
+use Rattle.last_plan.proofs.plans.plan_of.Goals as goal
+
+pub returns-clause-means : goal.returns-clause-means
+returns-clause-means g c = λ m ready. plan_means m c.args.kernel _ c.args.tally.counts ready (subst (Means m) c.verdict-verdict.ensures.value (c.verdict-verdict.ensures.means m ready)) (record { answer = ?; nodes = ?; counts_same = ? })
