@@ -61,7 +61,32 @@ fn ask_case(
     }
 }
 
-/// What both cases find. Without distances there is but the first.
+/// What two cases find, one after the other.
+fn ask_cases(
+    model: &Model,
+    region: &Region,
+    best: Option<i64>,
+    d: &Disjunctive,
+    a: Itv,
+    b: Itv,
+    first: u32,
+    second: u32,
+    likely: Likely,
+) -> Option<Finding<SeqWitness>>
+    requires of { IsRegionOf model.now region.now.region }
+    requires is { IsDisjunctive model.now d.now }
+    ensures none { IfNone result (IsSilent model.now region.now.region best (witness.Pair d.now.c a.0 b.0 first) × IsSilent model.now region.now.region best (witness.Pair d.now.c a.0 b.0 second)) }
+    ensures some { IfSome result (IsFinding refutes model.now region.now.region best) }
+    ensures busy { IfSome result (λ f. quiet model.now d.now.c region.now.region best → ⊥) }
+{
+    if let Some(found) = ask_case(model, region, best, d, a, b, first, likely) {
+        return Some(found);
+    }
+    ask_case(model, region, best, d, a, b, second, likely)
+}
+
+/// What both cases find. Without distances there is but the first. Distances that bind more than
+/// neighbours come first, since mostly all that is found without them then follows.
 fn ask_both(
     model: &Model,
     region: &Region,
@@ -77,13 +102,23 @@ fn ask_both(
     ensures some { IfSome result (IsFinding refutes model.now region.now.region best) }
     ensures busy { IfSome result (λ f. quiet model.now d.now.c region.now.region best → ⊥) }
 {
-    if let Some(found) = ask_case(model, region, best, d, a, b, 0, likely) {
-        return Some(found);
-    }
     if d.matrix.is_none() {
-        return None;
+        return ask_case(model, region, best, d, a, b, 0, likely);
     }
-    ask_case(model, region, best, d, a, b, 1, likely)
+    if d.direct {
+        return ask_cases(model, region, best, d, a, b, 0, 1, likely);
+    }
+    ask_cases(model, region, best, d, a, b, 1, 0, likely)
+}
+
+/// The guess that is likely to be refuted where the first of two is told to stand before the second.
+fn likely_pushed(model: &Model, region: &Region, d: &Disjunctive, pair: Pair) -> Likely
+    requires { IsRegionOf model.now region.now.region }
+{
+    if d.direct {
+        return likely_told(region, pair, 0);
+    }
+    likely_told(region, pair, distance(model, region, d, pair.first, pair.second))
 }
 
 /// The same where the order of the two is this one.
@@ -114,7 +149,7 @@ fn ask_two(
         second: b,
     };
     let likely = match order {
-        OrderCell::Forward => likely_told(region, pair),
+        OrderCell::Forward => likely_pushed(model, region, d, pair),
         _ => Likely::StandsBehind(pair),
     };
     ask_both(model, region, best, d, a, b, likely)
@@ -262,7 +297,8 @@ pub fn ask_forward(
         first: a,
         second: b,
     };
-    ask_both(model, region, best, d, a, b, likely_told(region, pair))
+    let likely = likely_pushed(model, region, d, pair);
+    ask_both(model, region, best, d, a, b, likely)
 }
 
 /// What is found of two members of whom it is told that something is. The place of the first is noted.

@@ -209,8 +209,8 @@ fn ask_constraint(
     }
 }
 
-fn told_at(waiting: &[Waits], c: usize, from: usize) -> Option<Told> {
-    waiting.get(c)?.told(from)
+fn told_at(waiting: &[Waits], model: &Model, c: usize, from: usize) -> Option<Told> {
+    waiting.get(c)?.told(model, from)
 }
 
 impl PropUnary {
@@ -264,7 +264,7 @@ impl PropUnary {
     {
         if k < self.constraints {
             let start = &mut self.starts[k as usize];
-            let told = told_at(&self.waiting, k as usize, *start);
+            let told = told_at(&self.waiting, model, k as usize, *start);
             return ask_constraint(model, region, best, k, told, &mut self.keys, start);
         }
         let p = Seq(k - self.constraints);

@@ -256,9 +256,9 @@ impl<const W: usize> Waiting<W> {
         }
     }
 
-    /// Two of whom something is found, where it was told so when it was asked last: the first of those
-    /// from a place on, and then up to it, that is told to stand before some.
-    pub fn told(&self, from: usize) -> Option<Told> {
+    /// Two of whom something is found, where it was told so when it was asked last: beginning with the first
+    /// of those from a place on, and then up to it, that is told to stand before some.
+    pub fn told(&self, model: &Model, from: usize) -> Option<Told> {
         let behind = self.telling.from(from);
         let rows = if behind.is_empty() {
             self.telling
@@ -267,7 +267,91 @@ impl<const W: usize> Waiting<W> {
         };
         let first = rows.first();
         let second = self.before.get(first)?.and(&self.tight.row(first)).first();
+        let told = Told { first, second };
+        if let Some(sooner) = self.first_push(model, told) {
+            return Some(sooner);
+        }
+        Some(self.last_push(model, told))
+    }
+
+    /// The distance from the member at one place to that at another.
+    fn distance(&self, model: &Model, i: usize, k: usize) -> i64 {
+        if self.distances.are_none() {
+            return 0;
+        }
+        self.distances.between(model, i, k)
+    }
+
+    fn is_before(&self, i: usize, k: usize) -> bool {
+        set_at(&self.before, i).contains(k)
+    }
+
+    /// Who pushes a member furthest to a later start, of those that are told to stand before it.
+    fn pusher_of(&self, model: &Model, k: usize) -> Option<usize> {
+        let mut most = i64::from(self.noted.get(k)?.smin);
+        let mut best = None;
+        for i in 0..self.noted.len() {
+            if !self.is_before(i, k) {
+                continue;
+            }
+            let end = i64::from(self.noted[i].present_ect);
+            let start = end.saturating_add(self.distance(model, i, k));
+            if start > most {
+                most = start;
+                best = Some(i);
+            }
+        }
+        best
+    }
+
+    /// Who pushes a member furthest to a sooner end, of those that it is told to stand before.
+    fn puller_of(&self, model: &Model, i: usize) -> Option<usize> {
+        let mut least = i64::from(self.noted.get(i)?.emax);
+        let row = set_at(&self.before, i);
+        let mut best = None;
+        for k in 0..self.noted.len() {
+            if !row.contains(k) {
+                continue;
+            }
+            let start = i64::from(self.noted[k].present_lst);
+            let end = start.saturating_sub(self.distance(model, i, k));
+            if end < least {
+                least = end;
+                best = Some(k);
+            }
+        }
+        best
+    }
+
+    /// Two of whom the first pushes the second furthest to a later start, and is pushed by none itself: what
+    /// is pushed before that would be pushed again.
+    fn first_push(&self, model: &Model, told: Told) -> Option<Told> {
+        let mut second = told.second;
+        let mut first = self.pusher_of(model, second)?;
+        for _ in 0..self.noted.len() {
+            let Some(sooner) = self.pusher_of(model, first) else {
+                break;
+            };
+            second = first;
+            first = sooner;
+        }
         Some(Told { first, second })
+    }
+
+    /// The same to a sooner end; where there are none such, these two.
+    fn last_push(&self, model: &Model, told: Told) -> Told {
+        let mut first = told.first;
+        let Some(mut second) = self.puller_of(model, first) else {
+            return told;
+        };
+        for _ in 0..self.noted.len() {
+            let Some(later) = self.puller_of(model, second) else {
+                break;
+            };
+            first = second;
+            second = later;
+        }
+        Told { first, second }
     }
 
     /// Reads the orders that aren't known of those that fit in neither as they are. Where two fit in one

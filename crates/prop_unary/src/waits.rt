@@ -48,12 +48,12 @@ impl Waits {
         }
     }
 
-    /// Two of whom something is found, where it was told so when it was asked last: the first of those
-    /// from a place on, and then up to it, that is told to stand before some.
-    pub fn told(&self, from: usize) -> Option<Told> {
+    /// Two of whom something is found, where it was told so when it was asked last: beginning with the first
+    /// of those from a place on, and then up to it, that is told to stand before some.
+    pub fn told(&self, model: &Model, from: usize) -> Option<Told> {
         match self {
-            Waits::Short(short) => short.told(from),
-            Waits::Long(long) => long.told(from),
+            Waits::Short(short) => short.told(model, from),
+            Waits::Long(long) => long.told(model, from),
         }
     }
 }
