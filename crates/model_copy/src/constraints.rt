@@ -30,9 +30,10 @@ fn copy_constraint(alloc: Global, c: &Constraint) -> Result<Constraint, NoMemory
             a: *a,
             parts: copy_list(alloc, parts.as_slice())?,
         }),
-        Constraint::Alternative { a, parts } => Ok(Constraint::Alternative {
+        Constraint::Alternative { a, parts, count } => Ok(Constraint::Alternative {
             a: *a,
             parts: copy_list(alloc, parts.as_slice())?,
+            count: *count,
         }),
         Constraint::Synchronize { a, parts } => Ok(Constraint::Synchronize {
             a: *a,

@@ -13,6 +13,7 @@ pub mod Solution
 pub mod Answers
 pub mod Ranges
 pub mod Hull
+pub mod Rank
 pub mod Valid
 pub mod laws
 pub mod Changes

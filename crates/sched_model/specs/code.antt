@@ -2,3 +2,4 @@ pub mod Model
 pub mod Names
 pub mod Saturated
 pub mod Sweep
+pub mod Ranks

@@ -14,3 +14,7 @@ pub mod Domain
 pub mod Totals
 pub mod Sums
 pub mod Met
+pub mod Ordered
+pub mod Rank
+pub mod Ranked
+pub mod Better

@@ -53,7 +53,9 @@ fn holds_in(model: &Model, c: &Constraint, a: &Assignment) -> bool
         } => is_precedence(a, *from, *to, *equal, *x, *y, *z),
         Constraint::Logic(e) => is_logic_true(model, a, e),
         Constraint::Span { a: x, parts } => spans(a, *x, parts.as_slice()),
-        Constraint::Alternative { a: x, parts } => is_alternative(a, *x, parts.as_slice()),
+        Constraint::Alternative { a: x, parts, count } => {
+            is_alternative(a, *x, *count, parts.as_slice())
+        }
         Constraint::Synchronize { a: x, parts } => is_synchronized(a, *x, parts.as_slice()),
         Constraint::NoOverlap { p, matrix, direct } => {
             has_no_overlap(model, a, *p, *matrix, *direct, order_of(a, *p))

@@ -21,10 +21,11 @@ use Rattle.sched_model.specs.declared.types.Expr.TheOpen.{Expr-F}
 use Rattle.sched_model.specs.declared.types.Expr.TheOpen.Expr-F.{Lit, StartOf, EndOf, SizeOf, LengthOf, PresenceOf, Neg, Sum, Product, Max, Min, Compare, Not, And, Or, Implies}
 use Rattle.sched_model.specs.declared.types.Expr.TheFolds.{fold-Expr}
 use Rattle.sched_model.specs.declared.types.Constraint.{Constraint}
-use Rattle.sched_model.specs.declared.types.Constraint.TheVariants.{Temporal, Logic, Span, Alternative, Synchronize, NoOverlap, First, Last, Before, Prev, CumulIn, AlwaysEqual, AlwaysNoState}
+use Rattle.sched_model.specs.declared.types.Constraint.TheVariants.{Temporal, Logic, CumulIn}
 use Rattle.sched_model.specs.Data.{Data}
 use Rattle.sched_model.specs.Ranges.{Ends}
 use Rattle.sched_model.specs.Hull.{hull_step, hull_of}
+use Rattle.sched_model.specs.Rank.{criteria_of}
 use Rattle.sched_model.specs.Sentences.{Holds}
 use Rattle.sched_model.specs.Solution.{IsSolution, IsKept, Meets}
 use Rattle.sched_model.specs.Valid.{IsValid, is_shape, is_window, expr_step, is_expr, is_constraint, is_cumul_def, node_count, nodes_of, node_total, cell_count}
@@ -89,19 +90,9 @@ same_expr m keep e =
     ∙ ap (λ (s : Expr-F (Option Ends) → Option Ends). fold-Expr Bool (expr_step m) e && is_some (fold-Expr (Option Ends) s e)) (fun_ext (same_hull m keep))
 
 same_constraint : (m : Data) (keep : List Con) (d : Constraint) → is_constraint m d ≡ true → is_constraint (reduced m keep) d ≡ true
-same_constraint m keep (Temporal from to equal x y z) h = h
 same_constraint m keep (Logic e) h = same_expr m keep e ∙ h
-same_constraint m keep (Span x parts) h = h
-same_constraint m keep (Alternative x parts) h = h
-same_constraint m keep (Synchronize x parts) h = h
-same_constraint m keep (NoOverlap p matrix direct) h = h
-same_constraint m keep (First p x) h = h
-same_constraint m keep (Last p x) h = h
-same_constraint m keep (Before p x y) h = h
-same_constraint m keep (Prev p x y) h = h
 same_constraint m keep (CumulIn f w lo hi) h = rw (same_window m keep w) h
-same_constraint m keep (AlwaysEqual g x v i j) h = h
-same_constraint m keep (AlwaysNoState g x) h = h
+same_constraint m keep other h = h
 
 cons_all : (test : Constraint → Bool) (o : Option Constraint) (rest : List Constraint) → ((d : Constraint) → o ≡ Some d → test d ≡ true) → list_all test rest ≡ true → list_all test (cons_option o rest) ≡ true
 cons_all test None rest one others = others
@@ -143,7 +134,7 @@ pub reduced_valid : (m : Data) (keep : List Con) → IsValid m → Rises keep �
 reduced_valid m keep valid rises =
     let kept : List Constraint = filter_map (λ (c : Con). slice_get m.constraints c.0) keep in
     let few : length kept ≤ length m.constraints = by_sums (sum_by (λ (d : Constraint). 1) kept) (sum_by (λ (d : Constraint). 1) m.constraints) (length kept) (length m.constraints) (fewer (λ (d : Constraint). 1) m.constraints keep rises) (length_sum kept) (length_sum m.constraints) in
-    let small : node_total (reduced m keep) ≤ node_total m = fewer_nodes (sum_by nodes_of kept) (sum_by nodes_of m.constraints) (sum_by (λ o. node_count o.expr) (option_to_list m.objective)) (sum_by (λ f. length f.parts) m.cumuls) (fewer nodes_of m.constraints keep rises) in
+    let small : node_total (reduced m keep) ≤ node_total m = fewer_nodes (sum_by nodes_of kept) (sum_by nodes_of m.constraints) (sum_by (λ o. sum_by node_count (criteria_of o)) (option_to_list m.objective)) (sum_by (λ f. length f.parts) m.cumuls) (fewer nodes_of m.constraints keep rises) in
     record {
       names = valid.names;
       intervals = valid.intervals;
@@ -153,24 +144,14 @@ reduced_valid m keep valid rises =
       states = valid.states;
       constraints = kept_valid m keep keep valid;
       objective = refl;
+      criteria = tt;
       limits = limits_kept (length m.intervals) (length m.sequences) (length m.matrices) (length m.cumuls) (length m.states) (length m.constraints) (cell_count m) (node_total m) (length kept) (node_total (reduced m keep)) few small valid.limits;
     }
 
 -- a sentence is the same in the reduced model
 same_sentence : (m : Data) (keep : List Con) (a : Assignment) (d : Constraint) → Holds (reduced m keep) a d → Holds m a d
 same_sentence m keep a (Temporal from to equal x y z) h = h
-same_sentence m keep a (Logic e) h = h
-same_sentence m keep a (Span x parts) h = h
-same_sentence m keep a (Alternative x parts) h = h
-same_sentence m keep a (Synchronize x parts) h = h
-same_sentence m keep a (NoOverlap p matrix direct) h = h
-same_sentence m keep a (First p x) h = h
-same_sentence m keep a (Last p x) h = h
-same_sentence m keep a (Before p x y) h = h
-same_sentence m keep a (Prev p x y) h = h
-same_sentence m keep a (CumulIn f w lo hi) h = h
-same_sentence m keep a (AlwaysEqual g x v i j) h = h
-same_sentence m keep a (AlwaysNoState g x) h = h
+same_sentence m keep a other h = h
 
 kept_one : (m : Data) (a : Assignment) (c : Con) (cs : List Con) (rest : List Constraint) (o : Option Constraint) → slice_get m.constraints c.0 ≡ o → All (Holds m a) (cons_option o rest) → (All (Holds m a) rest → All (IsKept m a) cs) → All (IsKept m a) (c ∷ cs)
 kept_one m a c cs rest None is h others = All-cons (IsKept m a) c cs (subst (λ (o : Option Constraint). IfSome o (Holds m a)) (sym is) tt) (others h)
