@@ -6,6 +6,7 @@ pub mod Grown
 pub mod Kept
 pub mod Lists
 pub mod Made
+pub mod Ranked
 pub mod Parted
 pub mod Rooms
 pub mod Trees

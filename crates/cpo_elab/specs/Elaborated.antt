@@ -23,6 +23,7 @@ use Rattle.sched_model.specs.declared.types.Expr.TheOpen.{Expr-F as expr}
 use Rattle.sched_model.specs.declared.types.Constraint.{Constraint}
 use Rattle.sched_model.specs.declared.types.Constraint.TheVariants as constraint
 use Rattle.sched_model.specs.declared.types.Objective.{Objective}
+use Rattle.sched_model.specs.Rank.{rank_of}
 use Rattle.sched_model.specs.declared.types.Sense.{Sense as Aimed}
 use Rattle.sched_model.specs.declared.types.Sense.TheVariants as aimed
 use Rattle.cpo_text.specs.declared.expression.Measure.{Measure}
@@ -49,7 +50,7 @@ use Rattle.cpo_text.specs.declared.tree.Definition.TheVariants.{IntervalVar, Seq
 use Rattle.cpo_text.specs.declared.tree.Temporal.{Temporal}
 use Rattle.cpo_text.specs.declared.tree.Temporal.TheVariants.{StartBeforeStart, StartBeforeEnd, EndBeforeStart, EndBeforeEnd, StartAtStart, StartAtEnd, EndAtStart, EndAtEnd}
 use Rattle.cpo_text.specs.declared.tree.Hierarchy.{Hierarchy}
-use Rattle.cpo_text.specs.declared.tree.Hierarchy.TheVariants.{Span, Alternative, Synchronize}
+use Rattle.cpo_text.specs.declared.tree.Hierarchy.TheVariants.{Span, Synchronize}
 use Rattle.cpo_text.specs.declared.tree.Over.{Over}
 use Rattle.cpo_text.specs.declared.tree.Over.TheVariants as over
 use Rattle.cpo_text.specs.declared.tree.Spaced.{Spaced}
@@ -62,13 +63,13 @@ use Rattle.cpo_text.specs.declared.tree.Bound.TheVariants as bound
 use Rattle.cpo_text.specs.declared.tree.Moments.{Moments}
 use Rattle.cpo_text.specs.declared.tree.Moments.TheVariants as moments
 use Rattle.cpo_text.specs.declared.tree.Constrained.{Constrained}
-use Rattle.cpo_text.specs.declared.tree.Constrained.TheVariants.{Between, Parts, NoOverlap, Extreme, Ordered, Bounded, AlwaysIn, AlwaysEqual, AlwaysNoState, Holds}
+use Rattle.cpo_text.specs.declared.tree.Constrained.TheVariants.{Between, Parts, Alternative, NoOverlap, Extreme, Ordered, Bounded, AlwaysIn, AlwaysEqual, AlwaysNoState, Holds}
 use Rattle.cpo_text.specs.declared.tree.Sense.{Sense}
 use Rattle.cpo_text.specs.declared.tree.Sense.TheVariants.{Minimize, Maximize}
 use Rattle.cpo_text.specs.declared.tree.Statement.{Statement}
-use Rattle.cpo_text.specs.declared.tree.Statement.TheVariants.{Empty, Define, Constrain, Forbid, Aim}
+use Rattle.cpo_text.specs.declared.tree.Statement.TheVariants.{Empty, Define, Constrain, Forbid, Aim, Rank}
 use Rattle.cpo_elab.specs.Named.{itv_of, itvs_of, mat_of, seq_of, cum_of, stf_of, signed_parts}
-use Rattle.cpo_elab.specs.Literals.{size_of, int_of, int_or_zero, range_of}
+use Rattle.cpo_elab.specs.Literals.{size_of, int_of, int_or_zero, count_or_one, range_of}
 
 -- Definitions.
 
@@ -192,7 +193,6 @@ temporal_of t a b z = constraint.Temporal (points_of t).0 (points_of t).1 (point
 
 abbrev pub hierarchy_of : Hierarchy → Itv → List Itv → Constraint
 hierarchy_of Span a parts = constraint.Span a parts
-hierarchy_of Alternative a parts = constraint.Alternative a parts
 hierarchy_of Synchronize a parts = constraint.Synchronize a parts
 
 abbrev pub extreme_of : Place → Seq → Itv → Constraint
@@ -245,6 +245,7 @@ is_direct (Some s) = unwrap_or s.direct false
 abbrev pub constraint_of : Data → Constrained → Constraint
 constraint_of m (Between t a b z) = temporal_of t (itv_of m a) (itv_of m b) (int_or_zero z)
 constraint_of m (Parts h a ns) = hierarchy_of h (itv_of m a) (itvs_of m ns)
+constraint_of m (Alternative a ns n) = constraint.Alternative (itv_of m a) (itvs_of m ns) (count_or_one n)
 constraint_of m (NoOverlap p s) = constraint.NoOverlap (sequence_id m p) (option_map (λ s. mat_of m s.matrix) s) (is_direct s)
 constraint_of m (Extreme e p a) = extreme_of e (seq_of m p) (itv_of m a)
 constraint_of m (Ordered o p a b) = order_of o (seq_of m p) (itv_of m a) (itv_of m b)
@@ -275,8 +276,10 @@ abbrev pub sense_of : Sense → Aimed
 sense_of Minimize = aimed.Minimize
 sense_of Maximize = aimed.Maximize
 
-abbrev pub objective_of : Data → Sense → Logic → Objective
-objective_of m s e = record { sense = sense_of s; expr = expr_of m e }
+-- one expression is minimized or maximized itself, several by their rank
+abbrev pub objective_of : Data → Sense → List Expr → Objective
+objective_of m s (e ∷ []) = record { sense = sense_of s; expr = e; criteria = [] }
+objective_of m s es = record { sense = sense_of s; expr = rank_of m es; criteria = es }
 
 -- The model with a statement. What a calendar's sentence adds depends on a step function, which no model has.
 abbrev pub after : Data → Statement → Data
@@ -284,4 +287,5 @@ after m Empty = m
 after m (Define n d) = defined m n d
 after m (Constrain c) = with_constraint (constraint_of m c) (with_written m c)
 after m (Forbid w a f) = m
-after m (Aim s e) = with_objective (objective_of m s e) m
+after m (Aim s e) = with_objective (objective_of m s (expr_of m e ∷ [])) m
+after m (Rank s es) = with_objective (objective_of m s (map (expr_of m) es)) m

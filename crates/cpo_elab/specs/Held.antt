@@ -1,5 +1,5 @@
 -- What a statement holds, by what is tested of it.
-use Rattle.std.specs.Prelude.{ℕ, ℤ, Bool, false, ◌||◌, List, [], ◌∷◌, Option, Some, None}
+use Rattle.std.specs.Prelude.{ℕ, ℤ, Bool, false, ◌||◌, List, [], ◌∷◌, Option, Some, None, option_map, option_to_list}
 use Rattle.std.specs.List.{list_any}
 use Rattle.sched_model.specs.Words.{passes}
 use Rattle.cpo_text.specs.declared.expression.Logic.{Logic}
@@ -16,9 +16,9 @@ use Rattle.cpo_text.specs.declared.tree.Over.TheVariants as over
 use Rattle.cpo_text.specs.declared.tree.Moments.{Moments}
 use Rattle.cpo_text.specs.declared.tree.Moments.TheVariants as moments
 use Rattle.cpo_text.specs.declared.tree.Constrained.{Constrained}
-use Rattle.cpo_text.specs.declared.tree.Constrained.TheVariants.{Parts, NoOverlap, Ordered, Bounded, AlwaysIn, AlwaysEqual, Holds}
+use Rattle.cpo_text.specs.declared.tree.Constrained.TheVariants.{Parts, Alternative, NoOverlap, Ordered, Bounded, AlwaysIn, AlwaysEqual, Holds}
 use Rattle.cpo_text.specs.declared.tree.Statement.{Statement}
-use Rattle.cpo_text.specs.declared.tree.Statement.TheVariants.{Define, Constrain, Aim}
+use Rattle.cpo_text.specs.declared.tree.Statement.TheVariants.{Define, Constrain, Aim, Rank}
 use Rattle.cpo_elab.specs.Named.{signed_parts}
 use Rattle.cpo_elab.specs.Literals.{int_of, range_of}
 
@@ -61,7 +61,7 @@ abbrev pub levels_in : Statement → Option (ℤ × ℤ)
 levels_in (Constrain (AlwaysIn f w lo hi)) = Some (int_of lo, int_of hi)
 levels_in _ = None
 
--- Sizes, and heights, types, distances, states and values.
+-- Sizes and counts of alternatives, and heights, types, distances, states and values.
 
 abbrev pub least_size : Ivarg → Option ℤ
 least_size (Size r) = Some (range_of r).0
@@ -69,6 +69,7 @@ least_size _ = None
 
 abbrev pub some_size : (ℤ → Bool) → Statement → Bool
 some_size test (Define n (IntervalVar args)) = list_any (λ a. passes test (least_size a)) args
+some_size test (Constrain (Alternative a ns n)) = passes test (option_map int_of n)
 some_size test _ = false
 
 abbrev pub cpart_height : Cpart → Option ℤ
@@ -112,6 +113,7 @@ list_in_definition _ = []
 
 abbrev pub list_in_constraint : Constrained → List (List ℕ)
 list_in_constraint (Parts h a ns) = ns
+list_in_constraint (Alternative a ns n) = ns
 list_in_constraint (NoOverlap p s) = listed_in p
 list_in_constraint (Ordered o p a b) = a ∷ b ∷ []
 list_in_constraint _ = []
@@ -143,7 +145,14 @@ abbrev pub logic_held : Constrained → Option Logic
 logic_held (Holds e) = Some e
 logic_held _ = None
 
-abbrev pub logic_in : Statement → Option Logic
-logic_in (Constrain c) = logic_held c
-logic_in (Aim sense e) = Some e
-logic_in _ = None
+-- the expressions that a statement holds: none, one, or those of an objective that has several
+abbrev pub logics_in : Statement → List Logic
+logics_in (Constrain c) = option_to_list (logic_held c)
+logics_in (Aim sense e) = e ∷ []
+logics_in (Rank sense es) = es
+logics_in _ = []
+
+-- those of an objective that has several
+abbrev pub criteria_in : Statement → List Logic
+criteria_in (Rank sense es) = es
+criteria_in _ = []

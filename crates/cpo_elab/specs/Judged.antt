@@ -1,11 +1,13 @@
 -- The number that a statement deserves behind the statements before it: a test for each line of the table of refusals.
-use Rattle.std.specs.Prelude.{ℕ, ◌+◌, ℤ, pos, Bool, true, false, not, ◌&&◌, ◌||◌, List, ◌∷◌, [], length, Option, Some, None, if◌then◌else◌, is_some, is_none, nat_eq, nat_lt, nat_le, int_lt}
-use Rattle.std.specs.List.{list_all}
+use Rattle.std.specs.Prelude.{ℕ, ◌+◌, ℤ, pos, Bool, true, false, not, ◌&&◌, ◌||◌, List, ◌∷◌, [], map, length, sum_by, Option, Some, None, if◌then◌else◌, is_some, is_none, nat_eq, nat_lt, nat_le, int_lt}
+use Rattle.std.specs.List.{list_all, list_any}
 use Rattle.sched_model.specs.Words.{passes, passes_if_any}
 use Rattle.sched_model.specs.Bounds.{is_moment}
 use Rattle.sched_model.specs.Data.{Data, has, members_of, state_matrix, matrix_of}
 use Rattle.sched_model.specs.Domain.{is_row}
+use Rattle.sched_model.specs.declared.types.Expr.{Expr}
 use Rattle.sched_model.specs.Hull.{hull_of}
+use Rattle.sched_model.specs.Rank.{rank_within}
 use Rattle.sched_model.specs.Valid.{are_distinct, node_count, node_total, is_within_limits, fits_types}
 use Rattle.cpo_text.specs.declared.tree.Definition.{Definition}
 use Rattle.cpo_text.specs.declared.tree.Definition.TheVariants.{SequenceVar, TransitionMatrix, StepFunction}
@@ -15,12 +17,12 @@ use Rattle.cpo_text.specs.declared.tree.Over.TheVariants as over
 use Rattle.cpo_text.specs.declared.tree.Constrained.{Constrained}
 use Rattle.cpo_text.specs.declared.tree.Constrained.TheVariants.{NoOverlap, Extreme, Ordered, AlwaysEqual}
 use Rattle.cpo_text.specs.declared.tree.Statement.{Statement}
-use Rattle.cpo_text.specs.declared.tree.Statement.TheVariants.{Define, Constrain, Forbid, Aim}
+use Rattle.cpo_text.specs.declared.tree.Statement.TheVariants.{Define, Constrain, Forbid, Aim, Rank}
 use Rattle.cpo_elab.specs.declared.factors.Factor.{Factor}
 use Rattle.cpo_elab.specs.declared.factors.Factor.TheVariants.{Crowded}
 use Rattle.cpo_elab.specs.Named.{NameTest, number_of, itv_of, itvs_of, mat_of, seq_of, stf_of, some_name, name_defined}
 use Rattle.cpo_elab.specs.Literals.{int_of}
-use Rattle.cpo_elab.specs.Held.{logic_in, some_bound, levels_in, some_size, some_amount, list_in, members_in, rows_in}
+use Rattle.cpo_elab.specs.Held.{logics_in, criteria_in, some_bound, levels_in, some_size, some_amount, list_in, members_in, rows_in}
 use Rattle.cpo_elab.specs.Elaborated.{after, expr_of}
 use Rattle.cpo_elab.specs.Factors.{factor_of}
 use Rattle.cpo_elab.specs.Stages.{Stage, pairs_named, is_function, is_known, steps_in, pairs_of, function_in, demand_of}
@@ -64,7 +66,7 @@ is_reversed r = int_lt r.1 r.0
 abbrev pub has_reversed : Statement → Bool
 has_reversed s = not (rises (pairs_of (steps_in s))) || (some_bound is_reversed s || passes is_reversed (levels_in s))
 
--- 8: a negative size, height, type, distance, state or value of a step function
+-- 8: a negative size, count of an alternative, height, type, distance, state or value of a step function
 abbrev pub is_negative : ℤ → Bool
 is_negative z = int_lt z (pos 0)
 
@@ -107,8 +109,8 @@ abbrev pub is_large : ℤ → Bool
 is_large z = int_lt (pos 1000000) z
 
 abbrev pub is_wide : Statement → Bool
-is_wide s = nat_lt 1000 (length (steps_in s))
-    || (passes (λ n. nat_lt 64 (length n)) (name_defined s) || (some_bound is_outside s || (some_amount is_large s || nat_lt 200 (length (rows_in s)))))
+is_wide s = nat_lt 8 (length (criteria_in s)) || (nat_lt 1000 (length (steps_in s))
+    || (passes (λ n. nat_lt 64 (length n)) (name_defined s) || (some_bound is_outside s || (some_amount is_large s || nat_lt 200 (length (rows_in s))))))
 
 abbrev pub statement_limit : ℕ
 statement_limit = 100000
@@ -119,6 +121,7 @@ node_limit = 100000
 -- the nodes of a second objective count beside those of the first
 abbrev pub has_room : Data → Statement → Bool
 has_room m (Aim sense e) = nat_le (node_total m + node_count (expr_of m e)) node_limit
+has_room m (Rank sense es) = nat_le (node_total m + sum_by (λ e. node_count (expr_of m e)) es) node_limit
 has_room m s = is_within_limits (after m s)
 
 -- 200 step functions; the constraints that a calendar's sentence becomes count as others do
@@ -136,11 +139,17 @@ passes_limit st k s = nat_lt statement_limit k || (is_wide s || not (leaves_room
 -- 12: a second objective
 abbrev pub aims_again : Data → Statement → Bool
 aims_again m (Aim sense e) = is_some m.objective
+aims_again m (Rank sense es) = is_some m.objective
 aims_again m _ = false
 
--- 13: an expression some part of which has no hull within the bound on literals
+-- 13: an expression some part of which has no hull within the bound on literals; of several, that or their rank
+abbrev pub lacks_hull : Data → List Expr → Bool
+lacks_hull m [] = false
+lacks_hull m (e ∷ []) = is_none (hull_of m e)
+lacks_hull m es = is_none (rank_within m es)
+
 abbrev pub has_no_hull : Data → Statement → Bool
-has_no_hull m s = passes (λ e. is_none (hull_of m (expr_of m e))) (logic_in s)
+has_no_hull m s = lacks_hull m (map (expr_of m) (logics_in s))
 
 -- 14: a product with two factors that name an interval
 abbrev pub is_crowded : Factor → Bool
@@ -148,7 +157,7 @@ is_crowded Crowded = true
 is_crowded _ = false
 
 abbrev pub has_crowded : Statement → Bool
-has_crowded s = passes (λ e. is_crowded (factor_of e)) (logic_in s)
+has_crowded s = list_any (λ e. is_crowded (factor_of e)) (logics_in s)
 
 -- the number of the first test that says so
 abbrev pub first_of : List (Bool × ℕ) → Option ℕ

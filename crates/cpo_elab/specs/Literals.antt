@@ -20,3 +20,8 @@ int_or_zero (Some i) = int_of i
 -- both ends of a range; one number alone is both
 abbrev pub range_of : Range → ℤ × ℤ
 range_of r = (int_of r.from, int_of (unwrap_or r.to r.from))
+
+-- an alternative chooses one part where no number is written
+abbrev pub count_or_one : Option Int → ℤ
+count_or_one None = pos 1
+count_or_one (Some n) = int_of n

@@ -24,9 +24,9 @@ use Rattle.cpo_text.specs.declared.tree.Over.TheVariants as over
 use Rattle.cpo_text.specs.declared.tree.Moments.{Moments}
 use Rattle.cpo_text.specs.declared.tree.Moments.TheVariants as moments
 use Rattle.cpo_text.specs.declared.tree.Constrained.{Constrained}
-use Rattle.cpo_text.specs.declared.tree.Constrained.TheVariants.{Between, Parts, NoOverlap, Extreme, Ordered, Bounded, AlwaysIn, AlwaysEqual, AlwaysNoState, Holds}
+use Rattle.cpo_text.specs.declared.tree.Constrained.TheVariants.{Between, Parts, Alternative, NoOverlap, Extreme, Ordered, Bounded, AlwaysIn, AlwaysEqual, AlwaysNoState, Holds}
 use Rattle.cpo_text.specs.declared.tree.Statement.{Statement}
-use Rattle.cpo_text.specs.declared.tree.Statement.TheVariants.{Empty, Define, Constrain, Forbid, Aim}
+use Rattle.cpo_text.specs.declared.tree.Statement.TheVariants.{Empty, Define, Constrain, Forbid, Aim, Rank}
 use Rattle.cpo_elab.specs.declared.names.Sort.{Sort}
 use Rattle.cpo_elab.specs.declared.names.Sort.TheVariants.{Interval, Matrix, Sequence, Cumulated, State}
 
@@ -125,6 +125,7 @@ some_in_definition test (Cumulative c) = some_in_cumul test c
 abbrev pub some_in_constraint : NameTest → Constrained → Bool
 some_in_constraint test (Between t a b z) = test Interval a || test Interval b
 some_in_constraint test (Parts h a ns) = test Interval a || list_any (test Interval) ns
+some_in_constraint test (Alternative a ns n) = test Interval a || list_any (test Interval) ns
 some_in_constraint test (NoOverlap p s) = some_in_over test p || passes (λ s. test Matrix s.matrix) s
 some_in_constraint test (Extreme e p a) = test Sequence p || test Interval a
 some_in_constraint test (Ordered o p a b) = test Sequence p || (test Interval a || test Interval b)
@@ -140,6 +141,7 @@ some_name test (Define n d) = some_in_definition test d
 some_name test (Constrain c) = some_in_constraint test c
 some_name test (Forbid w a f) = test Interval a
 some_name test (Aim s e) = some_in_logic test e
+some_name test (Rank s es) = list_any (some_in_logic test) es
 
 -- the name that a statement defines
 abbrev pub name_defined : Statement → Option (List ℕ)

@@ -1,5 +1,5 @@
 -- What the grammar gives every tree of a text, and a tree that is made by hand may lack: the name that is defined is a name of the
--- language, and products, `&&`, `||`, `max` and `min` have operands.
+-- language, an objective has an expression, and products, `&&`, `||`, `max` and `min` have operands.
 use Rattle.std.specs.Prelude.{ℕ, Bool, true, false, not, ◌&&◌, List, [], ◌∷◌}
 use Rattle.std.specs.List.{list_all}
 use Rattle.sched_model.specs.Words.{is_empty, passes_if_any}
@@ -11,11 +11,12 @@ use Rattle.cpo_text.specs.declared.expression.Logic.TheOpen.{Logic-F}
 use Rattle.cpo_text.specs.declared.expression.Logic.TheOpen.Logic-F.{Lit, Group, PresenceOf, Measured, Gathered, Linked, Neg, Sum, Compare, Not, Implies}
 use Rattle.cpo_text.specs.declared.expression.Logic.TheFolds.{fold-Logic}
 use Rattle.cpo_text.specs.declared.tree.Statement.{Statement}
+use Rattle.cpo_text.specs.declared.tree.Statement.TheVariants.{Rank}
 use Rattle.cpo_text.specs.declared.text.Form.{Form}
 use Rattle.cpo_text.specs.declared.text.Form.TheVariants.{Tree as Parsed, Number}
 use Rattle.cpo_text.specs.declared.text.Reading.{Reading}
 use Rattle.cpo_elab.specs.Named.{name_defined}
-use Rattle.cpo_elab.specs.Held.{logic_in}
+use Rattle.cpo_elab.specs.Held.{logics_in}
 
 abbrev pub is_spelt : List ℕ → Bool
 is_spelt [] = false
@@ -44,8 +45,12 @@ operands_step (Implies b c) = b && c
 abbrev pub has_operands : Logic → Bool
 has_operands = fold-Logic Bool operands_step
 
+abbrev pub aims_at_some : Statement → Bool
+aims_at_some (Rank sense es) = not (is_empty es)
+aims_at_some _ = true
+
 abbrev pub is_shaped : Statement → Bool
-is_shaped s = passes_if_any is_spelt (name_defined s) && passes_if_any has_operands (logic_in s)
+is_shaped s = passes_if_any is_spelt (name_defined s) && (aims_at_some s && list_all has_operands (logics_in s))
 
 abbrev pub is_shaped_form : Form → Bool
 is_shaped_form (Parsed s) = is_shaped s

@@ -1,24 +1,26 @@
-ghost use Rattle.std.specs.Prelude.{◌≡◌, ◌≤◌, false, true, length, Some, None, IfOk, option_map};
+ghost use Rattle.std.specs.Prelude.{◌≡◌, ◌≤◌, ◌<◌, false, true, [], ◌∷◌, length, map, None, is_none, IfOk, option_map};
 ghost use Rattle.sched_model.specs.Words.{passes};
-ghost use Rattle.sched_model.specs.Data.{with_constraint};
+ghost use Rattle.sched_model.specs.Data.{with_constraint, with_objective};
 ghost use Rattle.sched_model.specs.Valid.{IsValid};
 ghost use Rattle.cpo_text.specs.declared.tree.Statement.TheVariants.{Define};
 ghost use Rattle.cpo_elab.specs.Named.{is_defined};
-ghost use Rattle.cpo_elab.specs.Held.{some_amount, some_int, rows_in, logic_held, logic_in};
-ghost use Rattle.cpo_elab.specs.Elaborated.{types_in, sequence_named, matrix_named, state_named, cumul_named, defined, constraint_of, named_itself, with_unnamed, with_listed, with_written, expr_of, after};
+ghost use Rattle.cpo_elab.specs.Held.{some_amount, some_int, rows_in, logic_held, logics_in, criteria_in};
+ghost use Rattle.cpo_elab.specs.Elaborated.{types_in, sequence_named, matrix_named, state_named, cumul_named, defined, constraint_of, named_itself, with_unnamed, with_listed, with_written, expr_of, objective_of, after};
 ghost use Rattle.cpo_elab.specs.code.Items.{with_item, item_name, with_any, IsUnnamed};
 ghost use Rattle.cpo_elab.specs.Judged.{is_large, is_negative, aims_again};
+ghost use Rattle.cpo_elab.specs.declared.holding.Written.TheVariants.{Several};
 ghost use Rattle.cpo_elab.specs.code.Calendars.{is_of_calendars};
-ghost use Rattle.cpo_elab.specs.code.Judging.{IsClear};
+ghost use Rattle.cpo_elab.specs.code.Judging.{written_in, IsClear};
 ghost use Rattle.cpo_elab.specs.Shaped.{is_shaped};
 
 use crate::constraints::{constraint_of, is_unnamed, sense_of};
 use crate::copies::{cells_in, itvs_of, types_in};
 use crate::draft::Draft;
+use crate::holding::Written;
 use crate::interval::interval_of;
 use crate::item::Item;
 use crate::parts::parts_in;
-use cpo_text::{Constrained, Cumul, Definition, Int, Over, Statement};
+use cpo_text::{Constrained, Cumul, Definition, Int, Over, Sense, Statement};
 use sched_base::{List, NoMemory};
 use sched_model::{Constraint, CumulDef, Expr, MatrixDef, Objective, SequenceDef, StateDef};
 use std::alloc::Global;
@@ -221,8 +223,9 @@ fn constrain(alloc: Global, draft: Draft, c: &Constrained) -> Result<Draft, NoMe
 }
 
 /// The draft with a statement that holds no expression.
+#[tactic(auto, using(crate::proofs::judging::Written::some_criteria))]
 fn with_plain(alloc: Global, draft: Draft, s: &Statement) -> Result<Draft, NoMemory>
-    requires plain { logic_in s.now ≡ None }
+    requires plain { logics_in s.now ≡ [] }
     requires own { is_of_calendars s.now ≡ false }
     requires valid { IsValid draft }
     requires shaped { is_shaped s.now ≡ true }
@@ -235,12 +238,27 @@ fn with_plain(alloc: Global, draft: Draft, s: &Statement) -> Result<Draft, NoMem
         Statement::Constrain(c) => constrain(alloc, draft, c),
         Statement::Forbid(_, _, _) => unreachable!(),
         Statement::Aim(_, _) => unreachable!(),
+        Statement::Rank(_, _) => unreachable!(),
     }
 }
 
-/// The draft with a statement that holds this expression.
-fn with_expr(draft: Draft, s: &Statement, expr: Expr) -> Result<Draft, NoMemory>
-    requires held { Some expr ≡ option_map (expr_of draft) (logic_in s.now) }
+/// The draft with an objective that is one expression.
+fn with_single(alloc: Global, draft: Draft, sense: Sense, expr: Expr) -> Draft
+    requires valid { IsValid (with_objective (objective_of draft sense (expr ∷ [])) draft) }
+    requires single { draft.objective ≡ None }
+    ensures { result ≡ with_objective (objective_of draft sense (expr ∷ [])) draft }
+{
+    draft.with_objective(Objective {
+        sense: sense_of(sense),
+        expr,
+        criteria: List::new(alloc),
+    })
+}
+
+/// The draft with a statement that holds this expression alone.
+#[tactic(auto, using(crate::proofs::judging::Written::one_constraint, crate::proofs::judging::Written::one_aim, crate::proofs::judging::Written::one_criterion))]
+fn with_expr(alloc: Global, draft: Draft, s: &Statement, expr: Expr) -> Result<Draft, NoMemory>
+    requires held { map (expr_of draft) (logics_in s.now) ≡ expr ∷ [] }
     requires valid { IsValid draft }
     requires after { IsValid (after draft s.now) }
     requires single { aims_again draft s.now ≡ false }
@@ -248,32 +266,52 @@ fn with_expr(draft: Draft, s: &Statement, expr: Expr) -> Result<Draft, NoMemory>
 {
     match s {
         Statement::Constrain(_) => draft.with_constraint(None, Constraint::Logic(expr)),
-        Statement::Aim(sense, _) => Ok(draft.with_objective(Objective {
+        Statement::Aim(sense, _) => Ok(with_single(alloc, draft, *sense, expr)),
+        Statement::Rank(sense, _) => Ok(with_single(alloc, draft, *sense, expr)),
+        _ => unreachable!(),
+    }
+}
+
+/// The draft with an objective that has these criteria and this rank of them.
+#[tactic(auto, using(crate::proofs::judging::Written::several_aim))]
+fn with_criteria(draft: Draft, s: &Statement, criteria: List<Expr>, rank: Option<Expr>) -> Draft
+    requires held { written_in draft s.now ≡ Several criteria rank }
+    requires many { 1 < length (criteria_in s.now) }
+    requires rank { is_none rank ≡ false }
+    requires after { IsValid (after draft s.now) }
+    requires single { aims_again draft s.now ≡ false }
+    ensures { result ≡ after draft s.now }
+{
+    let Some(expr) = rank else { unreachable!() };
+    match s {
+        Statement::Rank(sense, _) => draft.with_objective(Objective {
             sense: sense_of(*sense),
             expr,
-        })),
+            criteria,
+        }),
         _ => unreachable!(),
     }
 }
 
 /// The draft with a statement that is of no calendar and deserves no number behind some others,
-/// whatever step functions stand beside the model. The expression that the
-/// statement holds, if it holds one, is `written`.
+/// whatever step functions stand beside the model. The expressions that the statement holds are
+/// `written`.
 pub fn with_statement(
     alloc: Global,
     draft: Draft,
     s: &Statement,
-    written: Option<Expr>,
+    written: Written,
 ) -> Result<Draft, NoMemory>
     requires own { is_of_calendars s.now ≡ false }
-    requires written { written ≡ option_map (expr_of draft) (logic_in s.now) }
+    requires written { written ≡ written_in draft s.now }
     requires valid { IsValid draft }
     requires shaped { is_shaped s.now ≡ true }
     requires clear { IsClear draft s.now }
     ensures { IfOk result (λ e. e ≡ after draft s.now) }
 {
     match written {
-        None => with_plain(alloc, draft, s),
-        Some(expr) => with_expr(draft, s, expr),
+        Written::Nothing => with_plain(alloc, draft, s),
+        Written::One(expr) => with_expr(alloc, draft, s, expr),
+        Written::Several(criteria, rank) => Ok(with_criteria(draft, s, criteria, rank)),
     }
 }

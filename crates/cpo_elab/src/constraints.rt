@@ -5,7 +5,7 @@ ghost use Rattle.cpo_elab.specs.Elaborated.{points_of, temporal_of, hierarchy_of
 
 use crate::copies::itvs_of;
 use crate::draft::Draft;
-use crate::literals::{int_of, int_or_zero};
+use crate::literals::{count_or_one, int_of, int_or_zero};
 use cpo_text::{
     Bound, Constrained, Cpart, Cumul, Extreme, Hierarchy, Moments, Order, Over, Sense, Spaced,
     Temporal,
@@ -48,7 +48,6 @@ fn hierarchy_of(word: Hierarchy, a: Itv, parts: List<Itv>) -> Constraint
 {
     match word {
         Hierarchy::Span => Constraint::Span { a, parts },
-        Hierarchy::Alternative => Constraint::Alternative { a, parts },
         Hierarchy::Synchronize => Constraint::Synchronize { a, parts },
     }
 }
@@ -186,6 +185,14 @@ pub fn constraint_of(alloc: Global, draft: &Draft, c: &Constrained) -> Result<Co
         Constrained::Parts(word, a, names) => {
             let parts = itvs_of(alloc, draft, names.as_slice())?;
             Ok(hierarchy_of(*word, draft.itv_of(a.as_slice()), parts))
+        }
+        Constrained::Alternative(a, names, count) => {
+            let parts = itvs_of(alloc, draft, names.as_slice())?;
+            Ok(Constraint::Alternative {
+                a: draft.itv_of(a.as_slice()),
+                parts,
+                count: count_or_one(*count),
+            })
         }
         Constrained::NoOverlap(over, spaced) => Ok(Constraint::NoOverlap {
             p: sequence_id(draft, over),

@@ -1,13 +1,14 @@
-ghost use Rattle.std.specs.Prelude.{◌≡◌, ◌+◌, ◌≤◌, ℕ, map, sum, length};
+ghost use Rattle.std.specs.Prelude.{◌≡◌, ◌+◌, ◌≤◌, ℕ, map, sum, sum_by, length};
 ghost use Rattle.sched_model.specs.Data.{parts_of};
 ghost use Rattle.sched_model.specs.Valid.{node_count, nodes_of, pair_count};
+ghost use Rattle.sched_model.specs.Rank.{criteria_of};
 ghost use Rattle.cpo_elab.specs.Elaborated.{plain_parts, parts_in};
 ghost use Rattle.cpo_elab.specs.code.Drafts.{capped, plus};
 
 use crate::draft::Draft;
 use cpo_text::{Cpart, Cumul};
 use sched_base::Cum;
-use sched_model::{Constraint, Expr, Model, Part};
+use sched_model::{Constraint, Expr, Model, Objective, Part};
 
 /// The sum of two counts, as far as it can be counted.
 #[tactic(auto, unfolding(crate::specs::code::Drafts::plus))]
@@ -87,6 +88,28 @@ pub fn constraint_nodes(c: &Constraint) -> u64
         Constraint::Logic(e) => nodes(e),
         _ => none(),
     }
+}
+
+/// The number of the nodes of some expressions together, as far as it can be counted.
+fn nodes_together(es: &[Expr]) -> u64
+    ensures { result ≡ capped (sum_by node_count es.now) }
+{
+    let mut total = none();
+    for e in es {
+        total = plus(total, nodes(e));
+    }
+    total
+}
+
+/// The number of the nodes of the criteria of an objective, which a plain one has as its expression.
+#[tactic(auto, using(crate::proofs::adding::Capped::plain_nodes, crate::proofs::adding::Capped::several_nodes))]
+pub fn criteria_nodes(o: &Objective) -> u64
+    ensures { result ≡ capped (sum_by node_count (criteria_of o.now)) }
+{
+    if o.criteria.is_empty() {
+        return nodes(&o.expr);
+    }
+    nodes_together(o.criteria.as_slice())
 }
 
 #[tactic(auto, unfolding(crate::specs::code::Drafts::capped))]

@@ -10,7 +10,7 @@ ghost use Rattle.calendar.specs.Rules.{rules_of, with_constraints};
 ghost use Rattle.cpo_elab.specs.Stages.{demand_of};
 ghost use Rattle.cpo_elab.specs.code.Items.{with_item, item_name, item_sort, next_id, with_any, IsUnnamed};
 
-use crate::counts::{constraint_nodes, nodes};
+use crate::counts::{constraint_nodes, criteria_nodes};
 use crate::item::{Item, any_cells, any_nodes};
 use crate::names::{Meaning, Names, Sort, same_sort};
 use crate::steps::Calendar;
@@ -333,7 +333,7 @@ impl Draft {
         requires first { self.objective ≡ None }
         ensures { result ≡ with_objective o self }
     {
-        let count = nodes(&o.expr) as usize;
+        let count = criteria_nodes(&o) as usize;
         let Draft {
             mut model,
             names,

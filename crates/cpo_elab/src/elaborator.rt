@@ -1,18 +1,17 @@
-ghost use Rattle.std.specs.Prelude.{◌≡◌, ◌+◌, true, None, option_map, IfOk};
+ghost use Rattle.std.specs.Prelude.{◌≡◌, ◌+◌, true, None, IfOk};
 ghost use Rattle.cpo_text.specs.declared.text.ReadFault.TheVariants as fault;
-ghost use Rattle.cpo_elab.specs.Held.{logic_in};
-ghost use Rattle.cpo_elab.specs.Elaborated.{expr_of};
 ghost use Rattle.cpo_elab.specs.Stages.{reached};
 ghost use Rattle.cpo_elab.specs.Judged.{number_in};
 ghost use Rattle.cpo_elab.specs.Shaped.{is_shaped, is_shaped_form};
-ghost use Rattle.cpo_elab.specs.code.Judging.{Judges};
+ghost use Rattle.cpo_elab.specs.code.Judging.{written_in, Judges};
 ghost use Rattle.cpo_elab.specs.code.Steps.{first_state, TakesStatement, Takes};
 
+use crate::holding::Written;
 use crate::judge::{Judgement, judgement_in};
 use crate::stage::Stage;
 use cpo_text::{Form, ReadFault, Reading, Refusal, Statement};
 use sched_base::NoMemory;
-use sched_model::{Expr, Model};
+use sched_model::Model;
 use std::alloc::Global;
 
 /// What stands behind the statements read so far, and their number.
@@ -71,15 +70,10 @@ impl Elaborator {
         judgement_in(alloc, &self.stage, self.statements, s)
     }
 
-    /// The elaborator with a statement that deserves no number, and with the expression that the
-    /// statement holds, if it holds one.
-    fn with(
-        self,
-        alloc: Global,
-        s: &Statement,
-        written: Option<Expr>,
-    ) -> Result<Elaborator, NoMemory>
-        requires written { written ≡ option_map (expr_of self.stage.model) (logic_in s.now) }
+    /// The elaborator with a statement that deserves no number, and with the expressions that the
+    /// statement holds.
+    fn with(self, alloc: Global, s: &Statement, written: Written) -> Result<Elaborator, NoMemory>
+        requires written { written ≡ written_in self.stage.model s.now }
         requires shaped { is_shaped s.now ≡ true }
         requires clear { number_in self.stage (self.statements + 1) s.now ≡ None }
         ensures { IfOk result (λ e. e ≡ record { stage = reached self.stage s.now; statements = self.statements + 1 }) }

@@ -110,7 +110,7 @@ fn boxed_of(alloc: Global, draft: &Draft, part: &Logic) -> Result<Boxed<Expr>, N
 }
 
 #[cycle(expr_of)]
-fn exprs_of(alloc: Global, draft: &Draft, parts: &[Logic]) -> Result<List<Expr>, NoMemory>
+pub fn exprs_of(alloc: Global, draft: &Draft, parts: &[Logic]) -> Result<List<Expr>, NoMemory>
     ensures { IfOk result (λ xs. xs ≡ map (expr_of draft.now) parts.now) }
 {
     let mut found = Vec::new(alloc);

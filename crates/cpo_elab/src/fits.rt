@@ -172,6 +172,7 @@ fn constraint_has_twice(alloc: Global, draft: &Draft, c: &Constrained) -> Result
 {
     match c {
         Constrained::Parts(_, _, names) => any_twice(alloc, draft, names.as_slice()),
+        Constrained::Alternative(_, names, _) => any_twice(alloc, draft, names.as_slice()),
         Constrained::NoOverlap(over, _) => over_has_twice(alloc, draft, over),
         Constrained::Ordered(_, _, a, b) => Ok(are_same(draft, a.as_slice(), b.as_slice())),
         _ => Ok(false),

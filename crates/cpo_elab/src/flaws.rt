@@ -1,4 +1,4 @@
-ghost use Rattle.std.specs.Prelude.{◌≡◌, not};
+ghost use Rattle.std.specs.Prelude.{◌≡◌, not, option_map};
 ghost use Rattle.std.specs.List.{list_any};
 ghost use Rattle.sched_model.specs.Words.{passes};
 ghost use Rattle.sched_model.specs.Bounds.{is_moment};
@@ -25,7 +25,8 @@ pub enum PairFlaw {
     Outside,
 }
 
-/// What may be wrong with a size, a height, a type, a distance, a state or a value of a step function.
+/// What may be wrong with a size, a count, a height, a type, a distance, a state or a value of a step
+/// function.
 #[derive(Clone, Copy, Debug, PartialEq, Eq)]
 pub enum AmountFlaw {
     Negative,
@@ -211,6 +212,16 @@ fn some_least_size(flaw: AmountFlaw, args: &[Ivarg]) -> bool
     args.iter().any(|a| amount_if_any(flaw, least_size(*a)))
 }
 
+/// Whether the count of an alternative has the flaw, where one is written.
+fn some_count(flaw: AmountFlaw, count: Option<Int>) -> bool
+    ensures { result ≡ passes (is_flawed flaw) (option_map int_of count) }
+{
+    match count {
+        None => false,
+        Some(n) => is_flawed(flaw, int_of(n)),
+    }
+}
+
 fn some_size(flaw: AmountFlaw, s: &Statement) -> bool
     ensures { result ≡ some_size (is_flawed flaw) s.now }
 {
@@ -218,6 +229,7 @@ fn some_size(flaw: AmountFlaw, s: &Statement) -> bool
         Statement::Define(_, Definition::IntervalVar(args)) => {
             some_least_size(flaw, args.as_slice())
         }
+        Statement::Constrain(Constrained::Alternative(_, _, count)) => some_count(flaw, *count),
         _ => false,
     }
 }
@@ -281,7 +293,7 @@ pub fn has_large(s: &Statement) -> bool
     some_amount(AmountFlaw::Large, s)
 }
 
-/// Whether a size, a height, a type, a distance or a state is negative.
+/// Whether a size, a count, a height, a type, a distance or a state is negative.
 pub fn has_negative(s: &Statement) -> bool
     ensures { result ≡ has_negative s.now }
 {

@@ -1,23 +1,19 @@
-ghost use Rattle.std.specs.Prelude.{◌≡◌, ◌+◌, ℕ, None, is_none, option_map, IfOk};
-ghost use Rattle.sched_model.specs.Words.{passes};
-ghost use Rattle.sched_model.specs.Hull.{hull_of};
-ghost use Rattle.cpo_elab.specs.Held.{logic_in};
-ghost use Rattle.cpo_elab.specs.Elaborated.{expr_of};
+ghost use Rattle.std.specs.Prelude.{◌≡◌, ◌+◌, ℕ, None, IfOk};
+ghost use Rattle.std.specs.List.{list_any};
 ghost use Rattle.cpo_elab.specs.Factors.{factor_of};
 ghost use Rattle.cpo_elab.specs.Judged.{aims_again, has_no_hull, is_crowded, has_crowded};
-ghost use Rattle.cpo_elab.specs.code.Judging.{early_number, late_number, Judges};
+ghost use Rattle.cpo_elab.specs.code.Judging.{early_number, late_number, written_in, Judges};
 
 use crate::draft::Draft;
-use crate::exprs::expr_of;
 use crate::factors::{Factor, factor_of};
 use crate::fits::{has_twice, misfits};
 use crate::flaws::{has_negative, has_reversed};
+use crate::holding::{Written, exprs_in, leaves_bound};
 use crate::limits::passes_limit;
 use crate::stage::Stage;
 use crate::uses::{defines_again, uses_unknown, uses_wrong};
 use cpo_text::{Cause, Constrained, Logic, Statement};
 use sched_base::NoMemory;
-use sched_model::{Expr, Model, hull};
 use std::alloc::Global;
 
 /// What a statement deserves.
@@ -25,19 +21,8 @@ use std::alloc::Global;
 pub enum Judgement {
     /// The number of a refusal.
     Refused(u32),
-    /// No refusal. The expression that it holds, if it holds one, is here.
-    Taken(Option<Expr>),
-}
-
-/// The expression of a statement, if it has one.
-fn written(alloc: Global, draft: &Draft, s: &Statement) -> Result<Option<Expr>, NoMemory>
-    ensures { IfOk result (λ o. o ≡ option_map (expr_of draft.now) (logic_in s.now)) }
-{
-    match s {
-        Statement::Constrain(Constrained::Holds(e)) => Ok(Some(expr_of(alloc, draft, e)?)),
-        Statement::Aim(_, e) => Ok(Some(expr_of(alloc, draft, e)?)),
-        _ => Ok(None),
-    }
+    /// No refusal. The expressions that it holds are here.
+    Taken(Written),
 }
 
 fn aims_again(draft: &Draft, s: &Statement) -> bool
@@ -45,32 +30,13 @@ fn aims_again(draft: &Draft, s: &Statement) -> bool
 {
     match s {
         Statement::Aim(_, _) => draft.model().objective().is_some(),
+        Statement::Rank(_, _) => draft.model().objective().is_some(),
         _ => false,
     }
 }
 
-/// Whether some part of an expression has no hull within the bound on literals.
-fn has_none(model: &Model, e: &Expr) -> bool
-    ensures { result ≡ is_none (hull_of model.now e.now) }
-{
-    match hull(model, e) {
-        None => true,
-        Some(_) => false,
-    }
-}
-
-fn leaves_bound(draft: &Draft, written: &Option<Expr>) -> bool
-    ensures { result ≡ passes (λ e. is_none (hull_of draft.now e)) written.now }
-{
-    match written {
-        None => false,
-        Some(e) => has_none(draft.model(), e),
-    }
-}
-
-#[tactic(auto, using(crate::proofs::judging::Written::no_hull))]
-fn has_no_hull(draft: &Draft, s: &Statement, written: &Option<Expr>) -> bool
-    requires { written.now ≡ option_map (expr_of draft.now) (logic_in s.now) }
+fn has_no_hull(draft: &Draft, s: &Statement, written: &Written) -> bool
+    requires { written.now ≡ written_in draft.now s.now }
     ensures { result ≡ has_no_hull draft.now s.now }
 {
     let _ = s;
@@ -86,6 +52,12 @@ fn is_crowded(e: &Logic) -> bool
     }
 }
 
+fn some_crowded(es: &[Logic]) -> bool
+    ensures { result ≡ list_any (λ e. is_crowded (factor_of e)) es.now }
+{
+    es.iter().any(|e| is_crowded(e))
+}
+
 /// Whether a product has two factors that name an interval.
 fn has_crowded(s: &Statement) -> bool
     ensures { result ≡ has_crowded s.now }
@@ -93,6 +65,7 @@ fn has_crowded(s: &Statement) -> bool
     match s {
         Statement::Constrain(Constrained::Holds(e)) => is_crowded(e),
         Statement::Aim(_, e) => is_crowded(e),
+        Statement::Rank(_, es) => some_crowded(es.as_slice()),
         _ => false,
     }
 }
@@ -138,9 +111,9 @@ fn early_number(
     Ok(None)
 }
 
-/// The number that the last two tests give a statement, whose expression is `written`.
-fn late_number(stage: &Stage, s: &Statement, written: &Option<Expr>) -> Option<u32>
-    requires { written.now ≡ option_map (expr_of stage.now.model) (logic_in s.now) }
+/// The number that the last two tests give a statement, whose expressions are `written`.
+fn late_number(stage: &Stage, s: &Statement, written: &Written) -> Option<u32>
+    requires { written.now ≡ written_in stage.now.model s.now }
     ensures { result ≡ late_number stage.now s.now }
 {
     if has_no_hull(stage.draft(), s, written) {
@@ -152,12 +125,12 @@ fn late_number(stage: &Stage, s: &Statement, written: &Option<Expr>) -> Option<u
     None
 }
 
-/// The expression of a statement, if it has one, where the last two tests give no number.
+/// The expressions of a statement, where the last two tests give no number.
 ///
 /// In a function of its own, since each way out of one that owns an expression lets it go.
 #[tactic(auto, using(crate::proofs::judging::Ordered::late_decides))]
-fn judgement_of(stage: &Stage, s: &Statement, written: Option<Expr>) -> Judgement
-    requires { written ≡ option_map (expr_of stage.now.model) (logic_in s.now) }
+fn judgement_of(stage: &Stage, s: &Statement, written: Written) -> Judgement
+    requires { written ≡ written_in stage.now.model s.now }
     ensures { (k : ℕ) → early_number stage.now k s.now ≡ None → Judges stage.now k s.now result }
 {
     match late_number(stage, s, &written) {
@@ -178,7 +151,7 @@ pub fn judgement_in(
     match early_number(alloc, stage, before, s)? {
         Some(number) => Ok(Judgement::Refused(number)),
         None => {
-            let written = written(alloc, stage.draft(), s)?;
+            let written = exprs_in(alloc, stage.draft(), s)?;
             Ok(judgement_of(stage, s, written))
         }
     }

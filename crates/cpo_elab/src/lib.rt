@@ -12,6 +12,7 @@ mod exprs;
 mod factors;
 mod fits;
 mod flaws;
+mod holding;
 mod interval;
 mod item;
 mod judge;

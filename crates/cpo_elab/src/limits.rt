@@ -9,7 +9,7 @@ ghost use Rattle.sched_model.specs.declared.types.CumulDef.{CumulDef};
 ghost use Rattle.sched_model.specs.declared.types.StateDef.{StateDef};
 ghost use Rattle.cpo_text.specs.declared.tree.Statement.TheVariants.{Define, Constrain, Forbid};
 ghost use Rattle.cpo_elab.specs.Named.{itv_of, name_defined};
-ghost use Rattle.cpo_elab.specs.Held.{listed_in, logic_held, members_defined, members_written, rows_in};
+ghost use Rattle.cpo_elab.specs.Held.{listed_in, logic_held, criteria_in, members_defined, members_written, rows_in};
 ghost use Rattle.cpo_elab.specs.Elaborated.{expr_of, named_itself, with_unnamed, with_listed, with_written, after};
 ghost use Rattle.sched_model.specs.declared.types.Constraint.{Constraint};
 ghost use Rattle.calendar.specs.Rules.{rules_of, with_constraints};
@@ -23,7 +23,7 @@ use crate::draft::{Draft, demand_of};
 use crate::flaws::{has_large, is_outside};
 use crate::stage::Stage;
 use crate::steps::Calendar;
-use crate::tree_nodes::tree_nodes;
+use crate::tree_nodes::{all_nodes, tree_nodes};
 use calendar::made_nodes;
 use cpo_text::{Constrained, Cumul, Definition, Forbidden, Logic, Over, Statement};
 
@@ -57,6 +57,9 @@ const FUNCTION_LIMIT: usize = 200;
 /// The most pairs of a step function.
 const PAIR_LIMIT: usize = 1_000;
 
+/// The most expressions of an objective.
+const CRITERIA_LIMIT: usize = 8;
+
 /// The most cells: five for each interval, and one for each two members of a sequence.
 const CELL_LIMIT: usize = 1_000_000;
 
@@ -87,11 +90,23 @@ fn has_many_pairs(s: &Statement) -> bool
     }
 }
 
-/// Whether a name is too long, a moment is outside the bounds, an amount is too large, a matrix has
-/// too many rows, or a step function too many pairs.
+fn has_many_criteria(s: &Statement) -> bool
+    ensures { result ≡ nat_lt 8 (length (criteria_in s.now)) }
+{
+    match s {
+        Statement::Rank(_, es) => CRITERIA_LIMIT < es.len(),
+        _ => false,
+    }
+}
+
+/// Whether an objective has too many expressions, a name is too long, a moment is outside the
+/// bounds, an amount is too large, a matrix has too many rows, or a step function too many pairs.
 fn is_wide(s: &Statement) -> bool
     ensures { result ≡ is_wide s.now }
 {
+    if has_many_criteria(s) {
+        return true;
+    }
     if has_many_pairs(s) {
         return true;
     }
@@ -285,6 +300,13 @@ fn expr_fits(draft: &Draft, e: &Logic) -> bool
     nodes_fit(draft, tree_nodes(e))
 }
 
+/// Whether there is room for the nodes of the expressions of an objective.
+fn criteria_fit(draft: &Draft, es: &[Logic]) -> bool
+    ensures { result ≡ nat_le (node_total draft.now + sum_by (λ e. node_count (expr_of draft.now e)) es.now) 100000 }
+{
+    nodes_fit(draft, all_nodes(es))
+}
+
 /// Whether there is room for the nodes of the expression of a constraint, if it is one.
 fn held_fits(draft: &Draft, c: &Constrained) -> bool
     ensures { result ≡ passes_if_any (λ e. nat_le (node_total draft.now + node_count (expr_of draft.now e)) 100000) (logic_held c.now) }
@@ -355,6 +377,7 @@ fn leaves_room(stage: &Stage, s: &Statement) -> bool
         Statement::Constrain(c) => constraint_fits(draft, c),
         Statement::Forbid(word, a, f) => sentence_fits(stage, *word, a.as_slice(), f.as_slice()),
         Statement::Aim(_, e) => expr_fits(draft, e),
+        Statement::Rank(_, es) => criteria_fit(draft, es.as_slice()),
     }
 }
 

@@ -1,5 +1,5 @@
 ghost use Rattle.std.specs.Prelude.{◌≡◌, ◌≤◌, ◌^◌};
-ghost use Rattle.cpo_elab.specs.Literals.{size_of, int_of, int_or_zero, range_of};
+ghost use Rattle.cpo_elab.specs.Literals.{size_of, int_of, int_or_zero, count_or_one, range_of};
 
 use cpo_text::{Int, Range};
 use sched_base::NUMBER_LIMIT;
@@ -30,6 +30,16 @@ pub fn int_or_zero(i: Option<Int>) -> i64
 {
     match i {
         None => 0,
+        Some(i) => int_of(i),
+    }
+}
+
+/// How many parts an alternative chooses: one where no number is written.
+pub fn count_or_one(i: Option<Int>) -> i64
+    ensures { result ≡ count_or_one i }
+{
+    match i {
+        None => 1,
         Some(i) => int_of(i),
     }
 }

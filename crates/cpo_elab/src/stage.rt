@@ -1,4 +1,4 @@
-ghost use Rattle.std.specs.Prelude.{◌≡◌, ℕ, [], ◌∷◌, ◌++◌, length, true, false, None, IfOk, OnOk, option_map, is_some, unwrap_or};
+ghost use Rattle.std.specs.Prelude.{◌≡◌, ℕ, [], ◌∷◌, ◌++◌, length, true, false, None, IfOk, OnOk, is_some, option_map, unwrap_or};
 ghost use Rattle.std.specs.Str.{bytes_eq};
 ghost use Rattle.std.specs.Map.{lookup};
 ghost use Rattle.sched_model.specs.Valid.{is_itv, is_within_limits};
@@ -6,8 +6,8 @@ ghost use Rattle.calendar.specs.Steps.{are_steps};
 ghost use Rattle.calendar.specs.Rules.{rules_of, with_constraints};
 ghost use Rattle.cpo_text.specs.declared.tree.Statement.TheVariants.{Define};
 ghost use Rattle.cpo_elab.specs.Named.{itv_of};
-ghost use Rattle.cpo_elab.specs.Held.{logic_in};
-ghost use Rattle.cpo_elab.specs.Elaborated.{expr_of, after};
+ghost use Rattle.cpo_elab.specs.Elaborated.{after};
+ghost use Rattle.cpo_elab.specs.code.Judging.{written_in};
 ghost use Rattle.cpo_elab.specs.Stages.{empty_stage, pairs_named, is_function, is_known, pairs_of, demand_of, made_in, reached};
 ghost use Rattle.cpo_elab.specs.Judged.{number_in};
 ghost use Rattle.cpo_elab.specs.Shaped.{is_shaped};
@@ -16,10 +16,11 @@ ghost use Rattle.cpo_elab.specs.code.Calendars.{is_of_calendars};
 use crate::build::with_statement;
 use crate::copies::pairs_of;
 use crate::draft::Draft;
+use crate::holding::Written;
 use crate::steps::{Calendar, Steps};
 use cpo_text::{Definition, Forbidden, Statement, StepPair};
 use sched_base::NoMemory;
-use sched_model::{Expr, Model};
+use sched_model::Model;
 use std::alloc::Global;
 
 /// What stands behind the statements read so far: the draft of their model and, since no model has
@@ -167,14 +168,9 @@ impl Stage {
     }
 
     /// The stage with a statement that is of no calendar.
-    fn with_plain(
-        self,
-        alloc: Global,
-        s: &Statement,
-        written: Option<Expr>,
-    ) -> Result<Stage, NoMemory>
+    fn with_plain(self, alloc: Global, s: &Statement, written: Written) -> Result<Stage, NoMemory>
         requires own { is_of_calendars s.now ≡ false }
-        requires written { written ≡ option_map (expr_of self.model) (logic_in s.now) }
+        requires written { written ≡ written_in self.model s.now }
         requires shaped { is_shaped s.now ≡ true }
         requires clear { (k : ℕ) × (number_in self k s.now ≡ None) }
         ensures { IfOk result (λ st. st ≡ record { model = after self.model s.now; steps = self.steps }) }
@@ -193,10 +189,10 @@ impl Stage {
         s: &Statement,
         name: &[u8],
         d: &Definition,
-        written: Option<Expr>,
+        written: Written,
     ) -> Result<Stage, NoMemory>
         requires is { s.now ≡ Define name.now d.now }
-        requires written { written ≡ option_map (expr_of self.model) (logic_in s.now) }
+        requires written { written ≡ written_in self.model s.now }
         requires shaped { is_shaped s.now ≡ true }
         requires clear { (k : ℕ) × (number_in self k s.now ≡ None) }
         ensures { IfOk result (λ st. st ≡ reached self s.now) }
@@ -207,15 +203,10 @@ impl Stage {
         }
     }
 
-    /// The stage with a statement that deserves no number behind some others. The expression that
-    /// the statement holds, if it holds one, is `written`.
-    pub fn with(
-        self,
-        alloc: Global,
-        s: &Statement,
-        written: Option<Expr>,
-    ) -> Result<Stage, NoMemory>
-        requires written { written ≡ option_map (expr_of self.model) (logic_in s.now) }
+    /// The stage with a statement that deserves no number behind some others. The expressions
+    /// that the statement holds are `written`.
+    pub fn with(self, alloc: Global, s: &Statement, written: Written) -> Result<Stage, NoMemory>
+        requires written { written ≡ written_in self.model s.now }
         requires shaped { is_shaped s.now ≡ true }
         requires clear { (k : ℕ) × (number_in self k s.now ≡ None) }
         ensures { IfOk result (λ st. st ≡ reached self s.now) }

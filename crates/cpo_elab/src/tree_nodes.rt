@@ -1,4 +1,4 @@
-ghost use Rattle.std.specs.Prelude.{◌≡◌, map, fold};
+ghost use Rattle.std.specs.Prelude.{◌≡◌, map, fold, sum_by};
 ghost use Rattle.sched_model.specs.Data.{Data};
 ghost use Rattle.sched_model.specs.Valid.{node_count};
 ghost use Rattle.cpo_elab.specs.Elaborated.{expr_of};
@@ -14,6 +14,24 @@ pub fn tree_nodes(e: &Logic) -> u64
     ensures { (m : Data) → result ≡ capped (node_count (expr_of m e.now)) }
 {
     counted(e)
+}
+
+/// The number of the nodes that the expressions of some trees have together, as far as it can be
+/// counted.
+pub fn all_nodes(es: &[Logic]) -> u64
+    ensures { (m : Data) → result ≡ capped (sum_by (λ e. node_count (expr_of m e)) es.now) }
+{
+    counted_all(es)
+}
+
+fn counted_all(es: &[Logic]) -> u64
+    ensures { result ≡ fold plus 0 (map counted es.now) }
+{
+    let mut total = 0;
+    for e in es {
+        total = plus(total, counted(e));
+    }
+    total
 }
 
 #[cycle(counted)]

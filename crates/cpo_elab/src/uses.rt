@@ -103,6 +103,12 @@ fn any_logic_fails(stage: &Stage, asked: Asked, parts: &[Logic]) -> bool
     false
 }
 
+fn some_logic_fails(stage: &Stage, asked: Asked, es: &[Logic]) -> bool
+    ensures { result ≡ list_any (some_in_logic (fails stage.now asked)) es.now }
+{
+    es.iter().any(|e| logic_fails(stage, asked, e))
+}
+
 fn cpart_fails(stage: &Stage, asked: Asked, part: &Cpart) -> bool
     ensures { result ≡ some_in_cpart (fails stage.now asked) part.now }
 {
@@ -178,6 +184,10 @@ fn constraint_fails(stage: &Stage, asked: Asked, c: &Constrained) -> bool
             fails(stage, asked, Sort::Interval, a.as_slice())
                 || any_fails(stage, asked, names.as_slice())
         }
+        Constrained::Alternative(a, names, _) => {
+            fails(stage, asked, Sort::Interval, a.as_slice())
+                || any_fails(stage, asked, names.as_slice())
+        }
         Constrained::NoOverlap(over, spaced) => {
             over_fails(stage, asked, over) || spacing_fails(stage, asked, spaced)
         }
@@ -216,6 +226,7 @@ fn statement_fails(stage: &Stage, asked: Asked, s: &Statement) -> bool
         Statement::Constrain(c) => constraint_fails(stage, asked, c),
         Statement::Forbid(_, a, _) => fails(stage, asked, Sort::Interval, a.as_slice()),
         Statement::Aim(_, e) => logic_fails(stage, asked, e),
+        Statement::Rank(_, es) => some_logic_fails(stage, asked, es.as_slice()),
     }
 }
 

@@ -1,5 +1,5 @@
 -- Expressions: the words of each, and how tightly it holds together.
-use Rattle.std.specs.Prelude.{ℕ, suc, nat_le, Bool, true, false, ◌&&◌, List, [], ◌∷◌, ◌++◌, length, codes, Option, Some, None, if◌then◌else◌}
+use Rattle.std.specs.Prelude.{ℕ, suc, nat_le, Bool, true, false, ◌&&◌, List, [], ◌∷◌, ◌++◌, map, length, codes, Option, Some, None, if◌then◌else◌}
 use Rattle.std.specs.List.{list_all}
 use Rattle.cpo_text.specs.Words.{Word, is_sign, size_word, between, round, call}
 pub use Rattle.cpo_text.specs.Words.{square}
@@ -114,3 +114,7 @@ level = fold-Logic (Option ℕ) level_step
 
 abbrev pub is_logic : Logic → Bool
 is_logic e = at_least 0 (level e)
+
+-- one at least, each an expression
+abbrev pub are_logics : List Logic → Bool
+are_logics es = nat_le 1 (length es) && all_at_least 0 (map level es)

@@ -32,7 +32,7 @@ offset (t ∷ ts) = t.at
 abbrev pub left_out_words : List (List ℕ)
 left_out_words = codes "intensity" ∷ codes "granularity" ∷ codes "forbidEnd"
     ∷ codes "heightAtStart" ∷ codes "heightAtEnd" ∷ codes "alwaysConstant" ∷ codes "isomorphism" ∷ codes "sameSequence" ∷ codes "sameCommonSubsequence"
-    ∷ codes "typeOfNext" ∷ codes "typeOfPrev" ∷ codes "staticLex" ∷ codes "intVar" ∷ codes "internals" ∷ codes "parameters" ∷ codes "search"
+    ∷ codes "typeOfNext" ∷ codes "typeOfPrev" ∷ codes "intVar" ∷ codes "internals" ∷ codes "parameters" ∷ codes "search"
     ∷ codes "startingPoint" ∷ codes "kpis" ∷ codes "KPIs" ∷ []
 
 abbrev pub is_left_out : Word → Bool

@@ -4,7 +4,7 @@ use Rattle.std.specs.List.{list_all}
 use Rattle.cpo_text.specs.Words.{Word, square, call}
 use Rattle.cpo_text.specs.Words.Word.{name, sign}
 pub use Rattle.cpo_text.specs.Parts.{minus_words, int_words, int_items, name_words, names_words, ints_words, flag_words, given}
-use Rattle.cpo_text.specs.Expressions.{logic_words, is_logic}
+use Rattle.cpo_text.specs.Expressions.{logic_words, is_logic, are_logics}
 use Rattle.cpo_text.specs.Cumulative.{cumul_words}
 use Rattle.cpo_text.specs.declared.tree.Int.{Int}
 use Rattle.cpo_text.specs.declared.tree.Range.{Range}
@@ -16,7 +16,7 @@ use Rattle.cpo_text.specs.declared.tree.Definition.TheVariants.{IntervalVar, Seq
 use Rattle.cpo_text.specs.declared.tree.Temporal.{Temporal}
 use Rattle.cpo_text.specs.declared.tree.Temporal.TheVariants.{StartBeforeStart, StartBeforeEnd, EndBeforeStart, EndBeforeEnd, StartAtStart, StartAtEnd, EndAtStart, EndAtEnd}
 use Rattle.cpo_text.specs.declared.tree.Hierarchy.{Hierarchy}
-use Rattle.cpo_text.specs.declared.tree.Hierarchy.TheVariants.{Span, Alternative, Synchronize}
+use Rattle.cpo_text.specs.declared.tree.Hierarchy.TheVariants.{Span, Synchronize}
 use Rattle.cpo_text.specs.declared.tree.Over.{Over}
 use Rattle.cpo_text.specs.declared.tree.Over.TheVariants.{Named, Listed}
 use Rattle.cpo_text.specs.declared.tree.Spaced.{Spaced}
@@ -35,7 +35,7 @@ use Rattle.cpo_text.specs.declared.tree.Forbidden.TheVariants as forbidden
 use Rattle.cpo_text.specs.declared.tree.Sense.{Sense}
 use Rattle.cpo_text.specs.declared.tree.Sense.TheVariants.{Minimize, Maximize}
 use Rattle.cpo_text.specs.declared.tree.Statement.{Statement}
-use Rattle.cpo_text.specs.declared.tree.Statement.TheVariants.{Empty, Define, Constrain, Forbid, Aim}
+use Rattle.cpo_text.specs.declared.tree.Statement.TheVariants.{Empty, Define, Constrain, Forbid, Aim, Rank}
 
 abbrev pub to_words : Option Int → List Word
 to_words None = []
@@ -79,7 +79,6 @@ temporal_word EndAtEnd = codes "endAtEnd"
 
 abbrev pub hierarchy_word : Hierarchy → List ℕ
 hierarchy_word Span = codes "span"
-hierarchy_word Alternative = codes "alternative"
 hierarchy_word Synchronize = codes "synchronize"
 
 abbrev pub extreme_word : Extreme → List ℕ
@@ -115,6 +114,7 @@ aligned_items (Some p) = flag_words p.0 ∷ flag_words p.1 ∷ []
 abbrev pub constraint_words : Constrained → List Word
 constraint_words (constrained.Between t a b z) = call (temporal_word t) (name_words a ∷ name_words b ∷ int_items z)
 constraint_words (constrained.Parts h a ns) = call (hierarchy_word h) (name_words a ∷ names_words ns ∷ [])
+constraint_words (constrained.Alternative a ns n) = call (codes "alternative") (name_words a ∷ names_words ns ∷ int_items n)
 constraint_words (constrained.NoOverlap p s) = call (codes "noOverlap") (over_words p ∷ spaced_items s)
 constraint_words (constrained.Extreme e p a) = call (extreme_word e) (name_words p ∷ name_words a ∷ [])
 constraint_words (constrained.Ordered o p a b) = call (order_word o) (name_words p ∷ name_words a ∷ name_words b ∷ [])
@@ -138,13 +138,14 @@ statement_body (Define n d) = name n ∷ sign (codes "=") ∷ definition_words d
 statement_body (Constrain c) = constraint_words c
 statement_body (Forbid w a f) = call (forbidden_word w) (name_words a ∷ name_words f ∷ [])
 statement_body (Aim s e) = call (sense_word s) (logic_words e ∷ [])
+statement_body (Rank s es) = call (sense_word s) (call (codes "staticLex") (square (map logic_words es) ∷ []) ∷ [])
 
 -- the words of a statement, with its semicolon
 abbrev pub spelling : Statement → List Word
 spelling s = statement_body s ++ sign (codes ";") ∷ []
 
--- what the spelling doesn't say: each kind of argument of an interval at most once, a pair at least of a step function, brackets
--- where an operand needs them
+-- what the spelling doesn't say: each kind of argument of an interval at most once, a pair at least of a step function, an
+-- expression at least of an objective, brackets where an operand needs them
 abbrev pub ivarg_sort : Ivarg → ℕ
 ivarg_sort Optional = 0
 ivarg_sort (Start r) = 1
@@ -160,6 +161,7 @@ is_formed (Define n (IntervalVar args)) = are_distinct (map ivarg_sort args)
 is_formed (Define n (StepFunction ps)) = nat_le 1 (length ps)
 is_formed (Constrain (constrained.Holds e)) = is_logic e
 is_formed (Aim s e) = is_logic e
+is_formed (Rank s es) = are_logics es
 is_formed _ = true
 
 -- the words are the statement

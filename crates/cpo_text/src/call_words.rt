@@ -33,6 +33,7 @@ pub enum DefinitionWord {
 pub enum ConstraintWord {
     Between(Temporal),
     Parts(Hierarchy),
+    Alternative,
     NoOverlap,
     Extreme(Extreme),
     Ordered(Order),
@@ -118,7 +119,7 @@ fn gathering_of(word: &[u8]) -> Option<ConstraintWord>
         return Some(ConstraintWord::Parts(Hierarchy::Span));
     }
     if word == b"alternative".as_slice() {
-        return Some(ConstraintWord::Parts(Hierarchy::Alternative));
+        return Some(ConstraintWord::Alternative);
     }
     if word == b"synchronize".as_slice() {
         return Some(ConstraintWord::Parts(Hierarchy::Synchronize));

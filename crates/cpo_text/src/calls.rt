@@ -1,11 +1,11 @@
 //! Definitions and constraints that are calls, each from behind the call's word.
 ghost use Rattle.cpo_text.specs.code.Rules.{name_at};
-ghost use Rattle.cpo_text.specs.code.Calls.{flag_at, types_given_at, types_at, sequence_at, matrix_at, state_function_at, step_function_at, parts_at, over_at, direct_at, spaced_at, spacing_at, no_overlap_at, pair_at, extreme_at, ordered_at, flags_at, aligned_at, state_at, always_equal_at, always_no_state_at};
+ghost use Rattle.cpo_text.specs.code.Calls.{flag_at, types_given_at, types_at, sequence_at, matrix_at, state_function_at, step_function_at, parts_at, alternative_at, over_at, direct_at, spaced_at, spacing_at, no_overlap_at, pair_at, extreme_at, ordered_at, flags_at, aligned_at, state_at, always_equal_at, always_no_state_at};
 ghost use Rattle.cpo_text.specs.code.Gives.{ahead, Gives};
 
 use crate::fault::Fault;
 use crate::lists::{ints, names, rows, steps};
-use crate::parts::{behind, copy, ended, int, name, owned_before, sign, size};
+use crate::parts::{behind, copy, ended, int, int_behind, name, owned_before, sign, size};
 use crate::place::Place;
 use crate::tree::{Constrained, Definition, Extreme, Hierarchy, Int, Order, Over, Spaced};
 use sched_base::List;
@@ -111,6 +111,17 @@ pub fn parts(
     let (whole, rest) = owned_before(alloc, b",", sign(b"(", place)?)?;
     let (parts, rest) = names(alloc, rest)?;
     ended(Constrained::Parts(hierarchy, whole, parts), b")", rest)
+}
+
+/// An interval, its parts and, where it is written, how many of them are chosen.
+#[tactic(auto, unfolding(crate::specs::code::Calls::alternative_at, crate::specs::code::Rules::name_before))]
+pub fn alternative(alloc: Global, place: Place<'_>) -> Result<(Constrained, Place<'_>), Fault>
+    ensures { Gives result (alternative_at (ahead place.entry)) }
+{
+    let (whole, rest) = owned_before(alloc, b",", sign(b"(", place)?)?;
+    let (parts, rest) = names(alloc, rest)?;
+    let (count, rest) = int_behind(b",", rest)?;
+    ended(Constrained::Alternative(whole, parts, count), b")", rest)
 }
 
 /// The name of a sequence, or the members of one without a name.

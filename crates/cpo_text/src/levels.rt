@@ -479,7 +479,7 @@ pub fn logic(alloc: Global, fuel: u32, place: Place<'_>) -> Result<(Logic, Place
 
 /// One or more expressions.
 #[cycle(levels)]
-fn items(alloc: Global, fuel: u32, place: Place<'_>) -> Result<(List<Logic>, Place<'_>), Fault>
+pub fn items(alloc: Global, fuel: u32, place: Place<'_>) -> Result<(List<Logic>, Place<'_>), Fault>
     ensures { Gives result (read fuel items_task (ahead place.entry)) }
 {
     let mut items = List::new(alloc);

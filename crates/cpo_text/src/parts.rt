@@ -1,7 +1,7 @@
 ghost use Rattle.std.specs.Prelude.{◌≡◌, option_map, IfOk};
 ghost use Rattle.cpo_text.specs.Words.{is_sign};
 ghost use Rattle.cpo_text.specs.code.Places.{said_word};
-ghost use Rattle.cpo_text.specs.code.Rules.{behind, ended_at, name_at, size_at, signed_at, int_at, name_before, int_before, int_behind, range_at};
+ghost use Rattle.cpo_text.specs.code.Rules.{behind, behind_word, ended_at, name_at, size_at, signed_at, int_at, name_before, int_before, int_behind, range_at};
 ghost use Rattle.cpo_text.specs.code.Gives.{ahead, Gives, GivesName, GivesPlace};
 
 use crate::fault::Fault;
@@ -74,6 +74,15 @@ pub fn next_name(place: Place<'_>) -> Option<(&[u8], Place<'_>)>
         Word::Name(bytes) => Some((bytes, rest.onto())),
         _ => None,
     }
+}
+
+/// The place behind a word, if it comes next.
+#[tactic(auto, unfolding(crate::specs::code::Rules::behind_word))]
+pub fn behind_word<'a>(word: &[u8], place: Place<'a>) -> Option<Place<'a>>
+    ensures { option_map ahead result ≡ behind_word word.now (ahead place.entry) }
+{
+    let (name, rest) = next_name(place)?;
+    if name == word { Some(rest) } else { None }
 }
 
 /// A name with a sign behind it.

@@ -1,6 +1,6 @@
 ghost use Rattle.std.specs.Prelude.{◌≡◌, option_map, codes};
 ghost use Rattle.cpo_text.specs.code.Rules.{name_before};
-ghost use Rattle.cpo_text.specs.code.Statements.{enough, logic_at, holds_at, aim_at, defined_at, definition_at, constraint_at, forbid_at, called_at, named_at, clause_at, body_at, statement_at};
+ghost use Rattle.cpo_text.specs.code.Statements.{enough, logic_at, holds_at, criteria_at, rank_at, aim_at, defined_at, definition_at, constraint_at, forbid_at, called_at, named_at, clause_at, body_at, statement_at};
 ghost use Rattle.cpo_text.specs.code.Gives.{ahead, Gives};
 
 use crate::call_words::{
@@ -8,17 +8,18 @@ use crate::call_words::{
     is_call, sense_of,
 };
 use crate::calls::{
-    always_equal, always_no_state, extreme, matrix, no_overlap, ordered, pair, parts, sequence,
-    state_function, step_function,
+    alternative, always_equal, always_no_state, extreme, matrix, no_overlap, ordered, pair, parts,
+    sequence, state_function, step_function,
 };
 use crate::contributions::{always_in, bounded, cumul};
 use crate::expression::Logic;
 use crate::fault::Fault;
 use crate::grammar::{between, interval};
-use crate::levels::logic;
-use crate::parts::{behind, copy, ended, next_name, sign};
+use crate::levels::{items, logic};
+use crate::parts::{behind, behind_word, copy, ended, next_name, sign};
 use crate::place::Place;
 use crate::tree::{Constrained, Definition, Forbidden, Sense, Statement};
+use sched_base::List;
 use std::alloc::Global;
 
 /// Fuel that no text within its limit uses up.
@@ -45,11 +46,34 @@ fn holds(alloc: Global, place: Place<'_>) -> Result<(Statement, Place<'_>), Faul
     Ok((Statement::Constrain(Constrained::Holds(logic)), rest))
 }
 
+/// One expression or more, behind the word of an objective that has several.
+#[tactic(auto, unfolding(crate::specs::code::Statements::criteria_at))]
+fn criteria(alloc: Global, place: Place<'_>) -> Result<(List<Logic>, Place<'_>), Fault>
+    ensures { Gives result (criteria_at enough (ahead place.entry)) }
+{
+    let open = sign(b"[", sign(b"(", place)?)?;
+    let (criteria, rest) = items(alloc, fuel(), open)?;
+    ended(criteria, b")", sign(b"]", rest)?)
+}
+
+/// An objective that has several expressions, behind their word.
+#[tactic(auto, unfolding(crate::specs::code::Statements::rank_at))]
+fn rank(alloc: Global, sense: Sense, place: Place<'_>) -> Result<(Statement, Place<'_>), Fault>
+    ensures { Gives result (rank_at enough sense (ahead place.entry)) }
+{
+    let (criteria, rest) = criteria(alloc, place)?;
+    ended(Statement::Rank(sense, criteria), b")", rest)
+}
+
 #[tactic(auto, unfolding(crate::specs::code::Statements::aim_at))]
 fn aim(alloc: Global, sense: Sense, place: Place<'_>) -> Result<(Statement, Place<'_>), Fault>
     ensures { Gives result (aim_at enough sense (ahead place.entry)) }
 {
-    let (logic, rest) = expression(alloc, sign(b"(", place)?)?;
+    let open = sign(b"(", place)?;
+    if let Some(rest) = behind_word(b"staticLex", open) {
+        return rank(alloc, sense, rest);
+    }
+    let (logic, rest) = expression(alloc, open)?;
     ended(Statement::Aim(sense, logic), b")", rest)
 }
 
@@ -95,6 +119,7 @@ fn constraint(
     match word {
         ConstraintWord::Between(temporal) => between(alloc, temporal, place),
         ConstraintWord::Parts(hierarchy) => parts(alloc, hierarchy, place),
+        ConstraintWord::Alternative => alternative(alloc, place),
         ConstraintWord::NoOverlap => no_overlap(alloc, place),
         ConstraintWord::Extreme(end) => extreme(alloc, end, place),
         ConstraintWord::Ordered(order) => ordered(alloc, order, place),

@@ -17,7 +17,7 @@ const MOST_OPEN: i64 = 200;
 const MOST_NESTINGS: u32 = 200;
 
 /// The words that the language leaves out.
-const LEFT_OUT: [&[u8]; 19] = [
+const LEFT_OUT: [&[u8]; 18] = [
     b"intensity",
     b"granularity",
     b"forbidEnd",
@@ -29,7 +29,6 @@ const LEFT_OUT: [&[u8]; 19] = [
     b"sameCommonSubsequence",
     b"typeOfNext",
     b"typeOfPrev",
-    b"staticLex",
     b"intVar",
     b"internals",
     b"parameters",

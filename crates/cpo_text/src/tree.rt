@@ -64,7 +64,6 @@ pub enum Temporal {
 #[derive(Clone, Copy)]
 pub enum Hierarchy {
     Span,
-    Alternative,
     Synchronize,
 }
 
@@ -112,15 +111,16 @@ pub enum Moments {
 }
 
 /// A constraint. `Between` has the names of two intervals and the delay that is asked between
-/// them, where one is written. `Parts` has an interval and its parts, `Extreme` a sequence and a
-/// member, `Ordered` a sequence and two members. `AlwaysIn` has the least and the greatest value,
-/// `AlwaysEqual` a state function, an interval, a state and, where they are written, whether start
-/// and end are aligned; `AlwaysNoState` a state function and an interval. `Holds` is an expression
-/// that has to hold.
+/// them, where one is written. `Parts` has an interval and its parts, `Alternative` also how many of
+/// them are chosen, where it is written. `Extreme` has a sequence and a member, `Ordered` a sequence
+/// and two members. `AlwaysIn` has the least and the greatest value, `AlwaysEqual` a state function,
+/// an interval, a state and, where they are written, whether start and end are aligned;
+/// `AlwaysNoState` a state function and an interval. `Holds` is an expression that has to hold.
 #[derive(Drop)]
 pub enum Constrained {
     Between(Temporal, List<u8>, List<u8>, Option<Int>),
     Parts(Hierarchy, List<u8>, List<List<u8>>),
+    Alternative(List<u8>, List<List<u8>>, Option<Int>),
     NoOverlap(Over, Option<Spaced>),
     Extreme(Extreme, List<u8>, List<u8>),
     Ordered(Order, List<u8>, List<u8>, List<u8>),
@@ -146,7 +146,8 @@ pub enum Forbidden {
 }
 
 /// A statement as it is written, without its semicolon. Names are the bytes of the text. `Forbid`
-/// has an interval and a step function.
+/// has an interval and a step function; `Rank` expressions of which an earlier one weighs more, one
+/// at least.
 #[derive(Drop)]
 pub enum Statement {
     Empty,
@@ -154,4 +155,5 @@ pub enum Statement {
     Constrain(Constrained),
     Forbid(Forbidden, List<u8>, List<u8>),
     Aim(Sense, Logic),
+    Rank(Sense, List<Logic>),
 }

@@ -59,7 +59,7 @@ shop_model seed jobs machines = record {
   cumuls = [];
   states = [];
   constraints = by_jobs jobs (λ j. map (order machines j) (range_with_len 1 (machines - 1))) ++ map (λ q. constraint.NoOverlap (record { 0 = q }) None false) (range_with_len 0 machines);
-  objective = Some (record { sense = aimed.Minimize; expr = roll-Expr (expr.Max (map (last_end machines) (range_with_len 0 jobs))) });
+  objective = Some (record { sense = aimed.Minimize; expr = roll-Expr (expr.Max (map (last_end machines) (range_with_len 0 jobs))); criteria = [] });
 }
 
 -- ---- its statements, as the generated text has them: a size that is one number, and no numbers that may be left out

@@ -45,7 +45,7 @@ tested m name bytes (Ok a) old new fetched tests = (
   tests.1,
   fetched.2,
 )
-tested m name bytes (Err (stop.ScheduleRefused r)) old new fetched tests = (if_file old name (λ bs. bytes ≡ schedule_bytes bs) (λ bs. IsUnfit m bs r) (λ bs is. unfit_all m r bytes bs is tests) fetched.1, fetched.2)
+tested m name bytes (Err (stop.ScheduleRefused r)) old new fetched tests = (if_file old name (λ bs. bytes ≡ schedule_bytes bs) (λ bs. IsUnfit m bs r) (λ bs is. unfit_all m r bytes bs is tests) fetched.1, fetched.2, fetched.0)
 tested m name bytes (Err stop.NoMemory) old new fetched tests = tt
 tested m name bytes (Err stop.Fault) old new fetched tests = absurd tests
 tested m name bytes (Err (stop.ModelRefused r)) old new fetched tests = absurd tests

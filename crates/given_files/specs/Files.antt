@@ -1,5 +1,5 @@
 -- The files of a run: what is in them, and how far they are read.
-use Rattle.std.specs.Prelude.{◌≡◌, ℕ, ◌+◌, List, take, Option, Some, option_and_then, IfSome, IsSome}
+use Rattle.std.specs.Prelude.{◌≡◌, ◌⊎◌, ℕ, ◌+◌, List, take, Option, Some, option_and_then, IfSome, IsSome}
 use Rattle.sched_base.specs.declared.desk.File.{File}
 use Rattle.sched_base.specs.State.{State, bytes_of}
 use Rattle.sched_base.specs.Calls.{ReadsAtMost}
@@ -37,3 +37,11 @@ ReadsModel name old new = ReadsAtMost 16777217 (file_of old name) new.model.left
 
 abbrev pub ReadsSchedule : Bytes → State → State → Type 0
 ReadsSchedule name old new = ReadsAtMost (schedule_limit + 1) (file_of old name) new.schedule.left
+
+-- However a run ends: nothing was read from this slot, or no more of the file than that.
+
+abbrev pub WithinModel : Bytes → State → State → Type 0
+WithinModel name old new = (new.model ≡ old.model) ⊎ ReadsModel name old new
+
+abbrev pub WithinSchedule : Bytes → State → State → Type 0
+WithinSchedule name old new = (new.schedule ≡ old.schedule) ⊎ ReadsSchedule name old new

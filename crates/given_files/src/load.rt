@@ -1,3 +1,4 @@
+ghost use Rattle.given_files.specs.Files.{WithinModel};
 ghost use Rattle.given_files.specs.code.Reading.{Fetches, OnlyReads, Reads};
 
 use crate::stop::Stop;
@@ -10,8 +11,10 @@ use std::alloc::Global;
 const MODEL_BYTES: usize = 16_777_217;
 
 /// The bytes of the model's file, at most `MODEL_BYTES` of them.
+#[tactic(auto, using(crate::proofs::Within::model_unopened, crate::proofs::Within::model_within))]
 fn fetch<D: Desk>(alloc: Global, desk: &mut D, name: &str) -> Result<List<u8>, Stop>
     ensures only { OnlyReads (D.state desk.old) (D.state desk.new) }
+    ensures within { WithinModel name.now (D.state desk.old) (D.state desk.new) }
     ensures fetches { Fetches name.now result (D.state desk.old) (D.state desk.new) }
 {
     desk.open_in(Inlet::Model, name)?;
@@ -22,6 +25,7 @@ fn fetch<D: Desk>(alloc: Global, desk: &mut D, name: &str) -> Result<List<u8>, S
 /// Reads the model's file, and the model that it holds.
 pub fn read_file<D: Desk>(alloc: Global, desk: &mut D, name: &str) -> Result<Model, Stop>
     ensures only { OnlyReads (D.state desk.old) (D.state desk.new) }
+    ensures within { WithinModel name.now (D.state desk.old) (D.state desk.new) }
     ensures reads { Reads name.now result (D.state desk.old) (D.state desk.new) }
 {
     let bytes = fetch(alloc, desk, name)?;

@@ -1,5 +1,6 @@
 ghost use Rattle.std.specs.Prelude.{◌≡◌, true};
 ghost use Rattle.sched_model.specs.Domain.{is_in_domain};
+ghost use Rattle.given_files.specs.Files.{WithinSchedule};
 ghost use Rattle.given_files.specs.code.Testing.{FetchesSchedule, FindsFailing, OnlyTests, Tests, TestsFile};
 
 use crate::stop::{ScheduleRefusal, Stop};
@@ -12,8 +13,10 @@ use std::alloc::Global;
 const MOST_BYTES: usize = 67_108_864;
 
 /// The bytes of the schedule's file, one more than it may have at most.
+#[tactic(auto, using(crate::proofs::Within::schedule_unopened, crate::proofs::Within::schedule_within))]
 fn fetch<D: Desk>(alloc: Global, desk: &mut D, name: &str) -> Result<List<u8>, Stop>
     ensures only { OnlyTests (D.state desk.old) (D.state desk.new) }
+    ensures within { WithinSchedule name.now (D.state desk.old) (D.state desk.new) }
     ensures fetches { FetchesSchedule name.now result (D.state desk.old) (D.state desk.new) }
 {
     desk.open_in(Inlet::Schedule, name)?;
@@ -57,6 +60,7 @@ pub fn test_file<D: Desk>(
     schedule: &str,
 ) -> Result<Assignment, Stop>
     ensures only { OnlyTests (D.state desk.old) (D.state desk.new) }
+    ensures within { WithinSchedule schedule.now (D.state desk.old) (D.state desk.new) }
     ensures tests { TestsFile model.now schedule.now result (D.state desk.old) (D.state desk.new) }
 {
     match fetch(alloc, desk, schedule) {

@@ -5,6 +5,7 @@ use Rattle.std.specs.Ordering.{int_eq}
 use Rattle.sched_base.specs.declared.ids.Itv.{Itv}
 use Rattle.sched_base.specs.declared.ids.Seq.{Seq}
 use Rattle.sched_base.specs.declared.ids.Cum.{Cum}
+use Rattle.sched_model.specs.Words.{is_empty}
 use Rattle.sched_model.specs.Data.{Data}
 use Rattle.sched_model.specs.declared.types.IntervalDef.{IntervalDef}
 use Rattle.sched_model.specs.declared.types.MatrixDef.{MatrixDef}
@@ -56,7 +57,7 @@ use Rattle.cpo_text.specs.declared.tree.Constrained.TheVariants as constrained
 use Rattle.cpo_text.specs.declared.tree.Sense.{Sense}
 use Rattle.cpo_text.specs.declared.tree.Sense.TheVariants as sense
 use Rattle.cpo_text.specs.declared.tree.Statement.{Statement}
-use Rattle.cpo_text.specs.declared.tree.Statement.TheVariants.{Define, Constrain, Aim}
+use Rattle.cpo_text.specs.declared.tree.Statement.TheVariants.{Define, Constrain, Aim, Rank}
 use Rattle.cpo_text.specs.declared.cumul.Cpart.{Cpart}
 use Rattle.cpo_text.specs.declared.cumul.Cpart.TheVariants as cpart
 use Rattle.cpo_text.specs.declared.cumul.Signed.{Signed}
@@ -234,11 +235,15 @@ within_tree m f window.Always lo hi = bounded_tree f lo hi
 within_tree m f (window.Moments u v) lo hi = constrained.AlwaysIn f (moments.From (int_tree u) (int_tree v)) (int_tree lo) (int_tree hi)
 within_tree m f (window.During x) lo hi = constrained.AlwaysIn f (moments.During (interval_name m x)) (int_tree lo) (int_tree hi)
 
+-- the count of an alternative is written where it isn't one
+abbrev pub count_tree : ℤ → Option Int
+count_tree n = if int_eq n (pos 1) then None else Some (int_tree n)
+
 abbrev pub constraint_tree : Data → Constraint → Constrained
 constraint_tree m (constraint.Temporal from to equal x y z) = constrained.Between (temporal_tree from to equal) (interval_name m x) (interval_name m y) (Some (int_tree z))
 constraint_tree m (constraint.Logic e) = constrained.Holds (logic_tree m e)
 constraint_tree m (constraint.Span x parts) = constrained.Parts hierarchy.Span (interval_name m x) (interval_names m parts)
-constraint_tree m (constraint.Alternative x parts) = constrained.Parts hierarchy.Alternative (interval_name m x) (interval_names m parts)
+constraint_tree m (constraint.Alternative x parts n) = constrained.Alternative (interval_name m x) (interval_names m parts) (count_tree n)
 constraint_tree m (constraint.Synchronize x parts) = constrained.Parts hierarchy.Synchronize (interval_name m x) (interval_names m parts)
 constraint_tree m (constraint.NoOverlap p matrix direct) = constrained.NoOverlap (over_tree m p) (option_map (λ x. spaced_tree m direct x.0) matrix)
 constraint_tree m (constraint.First p x) = constrained.Extreme extreme.First (sequence_name m p) (interval_name m x)
@@ -253,8 +258,13 @@ abbrev pub sense_tree : Aimed → Sense
 sense_tree aimed.Minimize = sense.Minimize
 sense_tree aimed.Maximize = sense.Maximize
 
+-- one expression, or the criteria
+abbrev pub aim_tree : Data → Bool → Objective → Statement
+aim_tree m true o = Aim (sense_tree o.sense) (logic_tree m o.expr)
+aim_tree m false o = Rank (sense_tree o.sense) (map (logic_tree m) o.criteria)
+
 abbrev pub objective_tree : Data → Objective → Statement
-objective_tree m o = Aim (sense_tree o.sense) (logic_tree m o.expr)
+objective_tree m o = aim_tree m (is_empty o.criteria) o
 
 -- intervals, matrices, named sequences, named functions, state functions, constraints, and the objective
 abbrev pub canonical_statements : Data → List Statement

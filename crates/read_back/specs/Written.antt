@@ -6,6 +6,7 @@ use Rattle.std.specs.Ordering.{int_eq}
 use Rattle.sched_base.specs.declared.ids.Seq.{Seq}
 use Rattle.sched_model.specs.Data.{Data}
 use Rattle.sched_model.specs.Words.{passes, is_empty, passes_if_any}
+use Rattle.sched_model.specs.Rank.{criteria_of}
 use Rattle.sched_model.specs.Valid.{all_names}
 use Rattle.sched_model.specs.declared.types.Window.{Window}
 use Rattle.sched_model.specs.declared.types.Window.TheVariants.{Always}
@@ -114,6 +115,6 @@ pub record IsWritten (m : Data) : Type 0 where
   pub untyped : IsTrue (list_all (λ d. is_named_sequence d || is_none d.types) m.sequences)
   pub parts : IsTrue (list_all (λ f. not (is_empty f.parts)) m.cumuls)
   pub constraints : IsTrue (list_all (is_written m) m.constraints)
-  pub objective : IsTrue (passes_if_any (λ o. is_written_expr o.expr) m.objective)
+  pub objective : IsTrue (passes_if_any (λ o. list_all is_written_expr (criteria_of o)) m.objective)
   -- no name is a word that the language leaves out
   pub names : IsTrue (list_all (λ n. not (list_any (bytes_eq n) left_out_words)) (all_names m))

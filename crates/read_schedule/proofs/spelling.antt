@@ -4,3 +4,4 @@ pub mod Rows
 pub mod Spelled
 pub mod Taken
 pub mod Texts
+pub mod Values

@@ -5,10 +5,10 @@ use Rattle.sched_model.specs.declared.types.Answer.TheVariants.{Optimal, Feasibl
 use Rattle.sched_model.specs.declared.types.Solved.{Solved}
 use Rattle.sched_model.specs.declared.types.Assignment.{Assignment}
 use Rattle.sched_model.specs.Data.{Data}
-use Rattle.sched_model.specs.Bounds.{is_small}
 use Rattle.sched_model.specs.Domain.{is_in_domain}
 use Rattle.sched_model.specs.Valid.{IsValid}
 use Rattle.textline.specs.Lines.{Bytes}
+use Rattle.sched_text.specs.Values.{IsValue}
 use Rattle.sched_text.specs.Answers.{answer_text}
 use Rattle.read_schedule.specs.Schedules.{Spells}
 
@@ -16,14 +16,14 @@ use Rattle.read_schedule.specs.Schedules.{Spells}
 abbrev pub SchedulesAreTold : Type 0
 SchedulesAreTold = (m : Data) (bytes : Bytes) (a b : Assignment) → IsValid m → Spells m bytes a → Spells m bytes b → a ≡ b
 
--- the answer shows this assignment, beside a value of magnitude at most 2^62 where it has one
-abbrev pub Shows : Answer → Assignment → Type 0
-Shows (Optimal v a) b = (is_small v ≡ true) × (a ≡ b)
-Shows (Feasible a) b = a ≡ b
-Shows Infeasible b = ⊥
-Shows (Unfinished None) b = ⊥
-Shows (Unfinished (Some va)) b = (is_small va.0 ≡ true) × (va.1 ≡ b)
+-- the answer shows this assignment, beside a value that the objective may have where it has one
+abbrev pub Shows : Data → Answer → Assignment → Type 0
+Shows m (Optimal v a) b = IsValue m v × (a ≡ b)
+Shows m (Feasible a) b = a ≡ b
+Shows m Infeasible b = ⊥
+Shows m (Unfinished None) b = ⊥
+Shows m (Unfinished (Some va)) b = IsValue m va.0 × (va.1 ≡ b)
 
 -- the text of such an answer is a schedule text
 abbrev pub AnswersAreSchedules : Type 0
-AnswersAreSchedules = (m : Data) (s : Solved) (a : Assignment) → s.nodes ≤ 2 ^ 62 → Shows s.answer a → is_in_domain m a ≡ true → Spells m (answer_text m s) a
+AnswersAreSchedules = (m : Data) (s : Solved) (a : Assignment) → IsValid m → s.nodes ≤ 2 ^ 62 → Shows m s.answer a → is_in_domain m a ≡ true → Spells m (answer_text m s) a

@@ -1,6 +1,6 @@
 -- Schedule texts of a model, and which line of other bytes is the first that no schedule text goes on with.
 use Rattle.std.specs.Prelude.{◌≡◌, ◌⊎◌, ℕ, ◌^◌, ◌<◌, ◌≤◌, ℤ, Bool, true, false, List, [], ◌∷◌, ◌++◌, length, codes, flat_map, Result, Ok, Err, ⊤}
-use Rattle.std.specs.Fmt.{decimal, signed_decimal}
+use Rattle.std.specs.Fmt.{decimal}
 use Rattle.std.specs.List.{list_all}
 use Rattle.sched_model.specs.declared.types.Assignment.{Assignment}
 use Rattle.sched_model.specs.Data.{Data}
@@ -8,13 +8,17 @@ use Rattle.sched_model.specs.Bounds.{is_small}
 use Rattle.sched_model.specs.Domain.{is_in_domain}
 use Rattle.textline.specs.Lines.{Bytes, line}
 use Rattle.textline.specs.Words.{are_words}
-use Rattle.sched_text.specs.Answers.{schedule_lines}
+use Rattle.sched_text.specs.Answers.{numbers_word, schedule_lines}
 use Rattle.read_schedule.specs.declared.fault.ScheduleFault.{ScheduleFault}
 use Rattle.read_schedule.specs.declared.fault.ScheduleFault.TheVariants.{Refused, NoMemory}
 
--- the first line of an answer that shows a schedule; its number is of magnitude at most 2^62
+-- a word of one number at least and of so many at most, with commas between them, each of magnitude at most 2^62
+abbrev pub AreNumbers : ℕ → Bytes → Type 0
+AreNumbers k w = (vs : List ℤ) × (1 ≤ length vs) × (length vs ≤ k) × (list_all is_small vs ≡ true) × (w ≡ numbers_word vs)
+
+-- the first line of an answer that shows a schedule: with a number for each criterion, of which an objective has eight at most
 abbrev pub IsVerdict : List Bytes → Type 0
-IsVerdict ws = (ws ≡ codes "feasible" ∷ []) ⊎ ((v : ℤ) × (is_small v ≡ true) × ((ws ≡ codes "optimal" ∷ signed_decimal v ∷ []) ⊎ (ws ≡ codes "unfinished" ∷ signed_decimal v ∷ [])))
+IsVerdict ws = (ws ≡ codes "feasible" ∷ []) ⊎ ((w : Bytes) × AreNumbers 8 w × ((ws ≡ codes "optimal" ∷ w ∷ []) ⊎ (ws ≡ codes "unfinished" ∷ w ∷ [])))
 
 -- the second line, which counts nodes
 abbrev pub IsCount : List Bytes → Type 0

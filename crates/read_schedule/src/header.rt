@@ -1,19 +1,64 @@
-ghost use Rattle.std.specs.Prelude.{◌≡◌, ◌∷◌, [], ℤ, true};
 ghost use Rattle.textline.specs.Lines.{words_of};
-ghost use Rattle.read_schedule.specs.Schedules.{IsCount, IsVerdict};
-ghost use Rattle.read_schedule.specs.code.Reads.{Decides, IsNumberAlone, IsCountAlone, TakesHeader};
+ghost use Rattle.read_schedule.specs.Schedules.{AreNumbers, IsCount, IsVerdict};
+ghost use Rattle.read_schedule.specs.code.Reads.{Decides, IsNumber, AreNumbersAlone, FindsComma, IsCountAlone, TakesHeader};
 
 use crate::lines::Lines;
-use crate::words::take_number;
+use memchr::memchr;
 use sched_base::NUMBER_LIMIT;
-use textline::{Words, read_count};
+use sched_model::is_small;
+use textline::{Words, read_count, read_number};
 
-fn is_number(words: &mut Words<'_>) -> bool
-    ensures { Decides (IsNumberAlone words.old) result }
+/// The most criteria that an objective has.
+const MOST_CRITERIA: u32 = 8;
+
+/// Whether a word is a number of magnitude at most 2^62.
+fn is_number(word: &[u8]) -> bool
+    ensures { Decides (IsNumber word.now) result }
 {
-    let Some(_) = take_number(words) else {
+    match read_number(word) {
+        None => false,
+        Some(z) => is_small(z),
+    }
+}
+
+/// The place of the first comma.
+fn find_comma(bytes: &[u8]) -> Option<usize>
+    ensures { FindsComma bytes.now result }
+{
+    memchr(b',', bytes)
+}
+
+/// Whether a word is a number for each criterion, with commas between them.
+#[tactic(auto, using(crate::proofs::spelling::Values::alike_first, crate::proofs::spelling::Values::comma_there, crate::proofs::spelling::Values::then_last, crate::proofs::spelling::Values::then_too_many))]
+fn are_numbers(word: &[u8]) -> bool
+    ensures { Decides (AreNumbers 8 word.now) result }
+{
+    let mut rest = word;
+    let mut left = MOST_CRITERIA;
+    while left > 0 {
+        left -= 1;
+        let Some(at) = find_comma(rest) else {
+            return is_number(rest);
+        };
+        let (first, _) = rest.split_at(at);
+        if !is_number(first) {
+            return false;
+        }
+        let (_, behind) = rest.split_at(at + 1);
+        rest = behind;
+    }
+    false
+}
+
+fn are_numbers_alone(words: &mut Words<'_>) -> bool
+    ensures { Decides (AreNumbersAlone words.old) result }
+{
+    let Some(word) = words.next() else {
         return false;
     };
+    if !are_numbers(word) {
+        return false;
+    }
     words.is_done()
 }
 
@@ -25,10 +70,10 @@ fn is_verdict(line: &[u8]) -> bool
         return words.is_done();
     }
     if words.take(b"optimal") {
-        return is_number(&mut words);
+        return are_numbers_alone(&mut words);
     }
     if words.take(b"unfinished") {
-        return is_number(&mut words);
+        return are_numbers_alone(&mut words);
     }
     false
 }

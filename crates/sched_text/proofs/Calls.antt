@@ -1,5 +1,5 @@
 -- Calls printed piece by piece: the word and its bracket, the first argument, the others, and the end.
-use Rattle.std.proofs.Common.{◌≡◌, ◌∙◌, List, [], ◌∷◌, ◌++◌, codes, sym, ap, append_assoc}
+use Rattle.std.proofs.Common.{◌≡◌, ◌∙◌, Bool, true, false, if◌then◌else◌, List, [], ◌∷◌, ◌++◌, codes, append-nil, sym, ap, append_assoc}
 use Rattle.sched_base.specs.State.{State}
 use Rattle.textline.specs.Lines.{Bytes}
 use Rattle.sched_text.specs.declared.page.Page.{Page}
@@ -26,6 +26,12 @@ first {word} {x} o item = record { is = «as» (both o.is item) (inside word [] 
 
 pub more : {word x : Bytes} {xs : List Bytes} {y : Bytes} {old mid new : Page} {s t u : State} → Opened word (x ∷ xs) old mid s t → Prints (codes "," ++ y) mid new t u → Opened word (x ∷ (xs ++ y ∷ [])) old new s u
 more {word} {x} {xs} {y} o item = record { is = «as» (both o.is item) (inside word (commas (x ∷ xs)) (codes "," ++ y) ∙ ap (λ t. word ++ (codes "(" ++ t)) (sym (last_item x xs y))) }
+
+-- one argument more, or none
+pub perhaps : {word x : Bytes} {xs : List Bytes} (y : Bytes) (none : Bool) {old mid new : Page} {s t u : State} → Opened word (x ∷ xs) old mid s t → Prints (if none then [] else codes "," ++ y) mid new t u
+    → Opened word (x ∷ (xs ++ (if none then [] else y ∷ []))) old new s u
+perhaps {word} {x} {xs} y true o item = record { is = «as» (both o.is item) (append-nil _ ∙ ap (λ ys. word ++ (codes "(" ++ commas (x ∷ ys))) (sym (append-nil xs))) }
+perhaps y false o item = more o item
 
 pub closed : {word : Bytes} {items : List Bytes} {old mid new : Page} {s t u : State} → Opened word items old mid s t → Prints (codes ")") mid new t u → Prints (call word items) old new s u
 closed {word} {items} o end = «as» (both o.is end) (inside word (commas items) (codes ")"))

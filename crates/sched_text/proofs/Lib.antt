@@ -4,5 +4,6 @@ pub mod Defined
 pub mod Lists
 pub mod Lines
 pub mod Printing
+pub mod Pushed
 pub mod Rows
 pub mod Terms

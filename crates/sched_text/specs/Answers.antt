@@ -1,5 +1,5 @@
 -- The text of an answer, and of a schedule: lines of words.
-use Rattle.std.specs.Prelude.{ℕ, List, [], ◌∷◌, ◌++◌, Option, Some, None, codes, flat_map, ℤ}
+use Rattle.std.specs.Prelude.{ℕ, List, [], ◌∷◌, ◌++◌, map, Option, Some, None, codes, flat_map, ℤ}
 use Rattle.std.specs.Fmt.{decimal, signed_decimal}
 use Rattle.sched_base.specs.declared.ids.Itv.{Itv}
 use Rattle.sched_model.specs.declared.types.IntervalDef.{IntervalDef}
@@ -17,7 +17,8 @@ use Rattle.sched_model.specs.declared.types.Verdict.TheVariants as verdict
 use Rattle.sched_model.specs.Answers.{verdict_in}
 use Rattle.sched_model.specs.Data.{Data}
 use Rattle.textline.specs.Lines.{Bytes, line}
-use Rattle.sched_text.specs.Pieces.{at_places, interval_names}
+use Rattle.sched_model.specs.Rank.{unranked_in}
+use Rattle.sched_text.specs.Pieces.{commas, at_places, interval_names}
 
 -- where an interval stands
 abbrev pub slot_words : Slot → List Bytes
@@ -46,15 +47,23 @@ segments_line i d ss = line (codes "state" ∷ d.name ∷ flat_map segment_words
 abbrev pub schedule_lines : Data → Assignment → Bytes
 schedule_lines m a = at_places slot_line 0 m.intervals a.slots ++ at_places (order_line m) 0 m.sequences a.orders ++ at_places segments_line 0 m.states a.segs
 
-abbrev pub unfinished_words : Option ℤ → List Bytes
-unfinished_words None = codes "unfinished" ∷ codes "none" ∷ []
-unfinished_words (Some v) = codes "unfinished" ∷ signed_decimal v ∷ []
+-- numbers in one word
+abbrev pub numbers_word : List ℤ → Bytes
+numbers_word vs = commas (map signed_decimal vs)
 
-abbrev pub verdict_words : Verdict → List Bytes
-verdict_words (verdict.Optimal v) = codes "optimal" ∷ signed_decimal v ∷ []
-verdict_words verdict.Feasible = codes "feasible" ∷ []
-verdict_words verdict.Infeasible = codes "infeasible" ∷ []
-verdict_words (verdict.Unclosed best) = unfinished_words best
+-- a value of the objective's expression, told by those of its criteria
+abbrev pub values_word : Data → ℤ → Bytes
+values_word m v = numbers_word (unranked_in m v)
+
+abbrev pub unfinished_words : Data → Option ℤ → List Bytes
+unfinished_words m None = codes "unfinished" ∷ codes "none" ∷ []
+unfinished_words m (Some v) = codes "unfinished" ∷ values_word m v ∷ []
+
+abbrev pub verdict_words : Data → Verdict → List Bytes
+verdict_words m (verdict.Optimal v) = codes "optimal" ∷ values_word m v ∷ []
+verdict_words m verdict.Feasible = codes "feasible" ∷ []
+verdict_words m verdict.Infeasible = codes "infeasible" ∷ []
+verdict_words m (verdict.Unclosed best) = unfinished_words m best
 
 abbrev pub nodes_line : ℕ → Bytes
 nodes_line n = line (codes "nodes" ∷ decimal n ∷ [])
@@ -74,12 +83,12 @@ shown_schedule m (Unfinished found) = found_schedule m found
 
 -- the verdict, the count of nodes, the schedule where there is one, and the end
 abbrev pub answer_text : Data → Solved → Bytes
-answer_text m s = line (verdict_words (verdict_in s.answer)) ++ nodes_line s.nodes ++ shown_schedule m s.answer ++ end_line
+answer_text m s = line (verdict_words m (verdict_in s.answer)) ++ nodes_line s.nodes ++ shown_schedule m s.answer ++ end_line
 
 -- the same without the schedule
-abbrev pub summary_text : Solved → Bytes
-summary_text s = line (verdict_words (verdict_in s.answer)) ++ nodes_line s.nodes ++ end_line
+abbrev pub summary_text : Data → Solved → Bytes
+summary_text m s = line (verdict_words m (verdict_in s.answer)) ++ nodes_line s.nodes ++ end_line
 
 -- that a log is accepted with this verdict, the count of nodes, and the end
-abbrev pub check_text : Verdict → ℕ → Bytes
-check_text v n = line (codes "accepted" ∷ verdict_words v) ++ nodes_line n ++ end_line
+abbrev pub check_text : Data → Verdict → ℕ → Bytes
+check_text m v n = line (codes "accepted" ∷ verdict_words m v) ++ nodes_line n ++ end_line

@@ -23,10 +23,11 @@ use Rattle.sched_model.specs.declared.types.Constraint.TheVariants.{Temporal, Lo
 use Rattle.sched_model.specs.declared.types.Sense.{Sense}
 use Rattle.sched_model.specs.declared.types.Sense.TheVariants.{Minimize, Maximize}
 use Rattle.sched_model.specs.declared.types.Objective.{Objective}
+use Rattle.sched_model.specs.Words.{is_empty}
 use Rattle.sched_model.specs.Data.{Data}
 use Rattle.textline.specs.Lines.{Bytes}
 use Rattle.sched_text.specs.Pieces.{listed, call, range_text, interval_name, matrix_name, state_name, interval_names}
-use Rattle.sched_text.specs.Shown.{shown}
+use Rattle.sched_text.specs.Shown.{shown, wholes}
 
 -- a statement in a line of its own
 abbrev pub statement : Bytes → Bytes
@@ -156,11 +157,15 @@ within_text m f Always lo hi = bounded_text f lo hi
 within_text m f (Moments u v) lo hi = call (codes "alwaysIn") (f ∷ signed_decimal u ∷ signed_decimal v ∷ signed_decimal lo ∷ signed_decimal hi ∷ [])
 within_text m f (During x) lo hi = call (codes "alwaysIn") (f ∷ interval_name m x ∷ signed_decimal lo ∷ signed_decimal hi ∷ [])
 
+-- how many parts an alternative chooses, where it isn't one
+abbrev pub count_items : ℤ → List Bytes
+count_items n = if int_eq n (pos 1) then [] else signed_decimal n ∷ []
+
 abbrev pub constraint_text : Data → Constraint → Bytes
 constraint_text m (Temporal from to equal x y z) = call (temporal_word from to equal) (interval_name m x ∷ interval_name m y ∷ signed_decimal z ∷ [])
 constraint_text m (Logic e) = (shown m e).whole
 constraint_text m (Span x parts) = call (codes "span") (interval_name m x ∷ list_text m parts ∷ [])
-constraint_text m (Alternative x parts) = call (codes "alternative") (interval_name m x ∷ list_text m parts ∷ [])
+constraint_text m (Alternative x parts n) = call (codes "alternative") (interval_name m x ∷ list_text m parts ∷ count_items n)
 constraint_text m (Synchronize x parts) = call (codes "synchronize") (interval_name m x ∷ list_text m parts ∷ [])
 constraint_text m (NoOverlap p matrix direct) = call (codes "noOverlap") ((over_text m p ++ distance_text m matrix direct) ∷ [])
 constraint_text m (First p x) = call (codes "first") (over_text m p ∷ interval_name m x ∷ [])
@@ -175,9 +180,13 @@ abbrev pub sense_word : Sense → Bytes
 sense_word Minimize = codes "minimize"
 sense_word Maximize = codes "maximize"
 
+-- the expression of an objective, or its criteria
+abbrev pub aim_text : Data → Objective → Bytes
+aim_text m o = if is_empty o.criteria then (shown m o.expr).whole else call (codes "staticLex") (listed (wholes (map (shown m) o.criteria)) ∷ [])
+
 abbrev pub objective_text : Data → Option Objective → Bytes
 objective_text m None = []
-objective_text m (Some o) = statement (call (sense_word o.sense) ((shown m o.expr).whole ∷ []))
+objective_text m (Some o) = statement (call (sense_word o.sense) (aim_text m o ∷ []))
 
 -- intervals, matrices, named sequences, named functions, state functions, constraints, and the objective
 abbrev pub canonical_text : Data → Bytes

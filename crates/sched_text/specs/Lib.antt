@@ -1,4 +1,5 @@
 pub mod Pieces
+pub mod Values
 pub mod Answers
 pub mod Shown
 pub mod Canonical

@@ -2,4 +2,5 @@ pub mod Places
 pub mod Words
 pub mod Names
 pub mod Lines
+pub mod Values
 pub mod Answers

@@ -3,24 +3,40 @@ ghost use Rattle.std.specs.Fmt.{decimal, signed_decimal};
 ghost use Rattle.sched_base.specs.Calls.{Writes};
 ghost use Rattle.sched_model.specs.Answers.{verdict_in};
 ghost use Rattle.textline.specs.Lines.{line, spaced};
-ghost use Rattle.sched_text.specs.Answers.{slot_words, slot_line, label, order_line, segment_words, segments_line, schedule_lines, unfinished_words, verdict_words, nodes_line, end_line, shown_schedule, answer_text, summary_text, check_text};
+ghost use Rattle.sched_text.specs.Answers.{slot_words, slot_line, label, order_line, segment_words, segments_line, schedule_lines, values_word, unfinished_words, verdict_words, nodes_line, end_line, shown_schedule, answer_text, summary_text, check_text};
 ghost use Rattle.sched_text.specs.Pieces.{at_places, interval_name};
 ghost use Rattle.sched_text.specs.code.Printing.{Prints};
 
 use crate::page::{Page, finish, new_page, put_text};
-use crate::pieces::{put_count, put_interval, put_number};
+use crate::pieces::{put_comma, put_count, put_interval, put_number};
 use sched_base::{Desk, Failed, Itv, List, Port};
 use sched_model::{
     Answer, Assignment, IntervalDef, Model, Segment, SequenceDef, Slot, Solved, StateDef, Verdict,
+    criteria_count, unrank,
 };
 
-/// A line of a word and a number.
-fn put_valued<D: Desk>(page: &mut Page, desk: &mut D, word: &[u8], v: i64)
-    ensures { Prints (line (word.now ∷ signed_decimal v ∷ [])) page.old page.new (D.state desk.old) (D.state desk.new) }
+/// The values of the criteria for which a value of the objective's expression stands, with commas
+/// between them.
+pub fn put_values<D: Desk>(page: &mut Page, desk: &mut D, model: &Model, v: i64)
+    ensures { Prints (values_word model.now v) page.old page.new (D.state desk.old) (D.state desk.new) }
+{
+    // Called for its clause alone.
+    let _ = model.intervals();
+    let mut is_first = true;
+    for i in 0..criteria_count(model) {
+        put_comma(page, desk, is_first);
+        put_number(page, desk, unrank(model, v, i));
+        is_first = false;
+    }
+}
+
+/// A line of a word and a value.
+fn put_valued<D: Desk>(page: &mut Page, desk: &mut D, model: &Model, word: &[u8], v: i64)
+    ensures { Prints (line (word.now ∷ values_word model.now v ∷ [])) page.old page.new (D.state desk.old) (D.state desk.new) }
 {
     put_text(page, desk, word);
     put_text(page, desk, b" ");
-    put_number(page, desk, v);
+    put_values(page, desk, model, v);
     put_text(page, desk, b"\n");
 }
 
@@ -172,24 +188,24 @@ fn put_schedule<D: Desk>(page: &mut Page, desk: &mut D, model: &Model, a: &Assig
     put_states(page, desk, model.states(), a.segs.as_slice());
 }
 
-fn put_found<D: Desk>(page: &mut Page, desk: &mut D, best: Option<i64>)
-    ensures { Prints (line (unfinished_words best)) page.old page.new (D.state desk.old) (D.state desk.new) }
+fn put_found<D: Desk>(page: &mut Page, desk: &mut D, model: &Model, best: Option<i64>)
+    ensures { Prints (line (unfinished_words model.now best)) page.old page.new (D.state desk.old) (D.state desk.new) }
 {
     match best {
         None => put_text(page, desk, b"unfinished none\n"),
-        Some(v) => put_valued(page, desk, b"unfinished", v),
+        Some(v) => put_valued(page, desk, model, b"unfinished", v),
     }
 }
 
 /// The line of a verdict.
-fn put_verdict<D: Desk>(page: &mut Page, desk: &mut D, verdict: Verdict)
-    ensures { Prints (line (verdict_words verdict)) page.old page.new (D.state desk.old) (D.state desk.new) }
+fn put_verdict<D: Desk>(page: &mut Page, desk: &mut D, model: &Model, verdict: Verdict)
+    ensures { Prints (line (verdict_words model.now verdict)) page.old page.new (D.state desk.old) (D.state desk.new) }
 {
     match verdict {
-        Verdict::Optimal(v) => put_valued(page, desk, b"optimal", v),
+        Verdict::Optimal(v) => put_valued(page, desk, model, b"optimal", v),
         Verdict::Feasible => put_text(page, desk, b"feasible\n"),
         Verdict::Infeasible => put_text(page, desk, b"infeasible\n"),
-        Verdict::Unclosed { best } => put_found(page, desk, best),
+        Verdict::Unclosed { best } => put_found(page, desk, model, best),
     }
 }
 
@@ -239,14 +255,14 @@ fn put_shown<D: Desk>(page: &mut Page, desk: &mut D, model: &Model, answer: &Ans
 fn put_answer<D: Desk>(page: &mut Page, desk: &mut D, model: &Model, solved: &Solved)
     ensures { Prints (answer_text model.now solved.now) page.old page.new (D.state desk.old) (D.state desk.new) }
 {
-    put_verdict(page, desk, verdict_of(&solved.answer));
+    put_verdict(page, desk, model, verdict_of(&solved.answer));
     put_nodes(page, desk, solved.nodes);
     put_shown(page, desk, model, &solved.answer);
     put_end(page, desk);
 }
 
-/// Writes the text of an answer to standard output, as one write does: a line with the verdict and a
-/// value, one with the count of nodes, the lines of the schedule where there is one, and `end`. It
+/// Writes the text of an answer to standard output, as one write does: a line with the verdict and
+/// the values of the criteria, one with the count of nodes, the lines of the schedule where there is one, and `end`. It
 /// takes no memory.
 pub fn write_answer<D: Desk>(model: &Model, solved: &Solved, desk: &mut D) -> Result<(), Failed>
     ensures { Writes Port.Out (answer_text model.now solved.now) result (D.state desk.old) (D.state desk.new) }
@@ -256,39 +272,44 @@ pub fn write_answer<D: Desk>(model: &Model, solved: &Solved, desk: &mut D) -> Re
     finish(page, desk)
 }
 
-fn put_summary<D: Desk>(page: &mut Page, desk: &mut D, solved: &Solved)
-    ensures { Prints (summary_text solved.now) page.old page.new (D.state desk.old) (D.state desk.new) }
+fn put_summary<D: Desk>(page: &mut Page, desk: &mut D, model: &Model, solved: &Solved)
+    ensures { Prints (summary_text model.now solved.now) page.old page.new (D.state desk.old) (D.state desk.new) }
 {
-    put_verdict(page, desk, verdict_of(&solved.answer));
+    put_verdict(page, desk, model, verdict_of(&solved.answer));
     put_nodes(page, desk, solved.nodes);
     put_end(page, desk);
 }
 
 /// Writes the text of an answer without the lines of its schedule to standard output, as one write
 /// does. It takes no memory.
-pub fn write_summary<D: Desk>(solved: &Solved, desk: &mut D) -> Result<(), Failed>
-    ensures { Writes Port.Out (summary_text solved.now) result (D.state desk.old) (D.state desk.new) }
+pub fn write_summary<D: Desk>(model: &Model, solved: &Solved, desk: &mut D) -> Result<(), Failed>
+    ensures { Writes Port.Out (summary_text model.now solved.now) result (D.state desk.old) (D.state desk.new) }
 {
     let mut page = new_page();
-    put_summary(&mut page, desk, solved);
+    put_summary(&mut page, desk, model, solved);
     finish(page, desk)
 }
 
-fn put_accepted<D: Desk>(page: &mut Page, desk: &mut D, verdict: Verdict, nodes: u64)
-    ensures { Prints (check_text verdict nodes) page.old page.new (D.state desk.old) (D.state desk.new) }
+fn put_accepted<D: Desk>(page: &mut Page, desk: &mut D, model: &Model, verdict: Verdict, nodes: u64)
+    ensures { Prints (check_text model.now verdict nodes) page.old page.new (D.state desk.old) (D.state desk.new) }
 {
     put_text(page, desk, b"accepted ");
-    put_verdict(page, desk, verdict);
+    put_verdict(page, desk, model, verdict);
     put_nodes(page, desk, nodes);
     put_end(page, desk);
 }
 
 /// Writes the text of a log's acceptance to standard output, as one write does: a line with `accepted`
 /// and the verdict, one with the count of nodes, and `end`. It takes no memory.
-pub fn write_accepted<D: Desk>(verdict: Verdict, nodes: u64, desk: &mut D) -> Result<(), Failed>
-    ensures { Writes Port.Out (check_text verdict nodes) result (D.state desk.old) (D.state desk.new) }
+pub fn write_accepted<D: Desk>(
+    model: &Model,
+    verdict: Verdict,
+    nodes: u64,
+    desk: &mut D,
+) -> Result<(), Failed>
+    ensures { Writes Port.Out (check_text model.now verdict nodes) result (D.state desk.old) (D.state desk.new) }
 {
     let mut page = new_page();
-    put_accepted(&mut page, desk, verdict, nodes);
+    put_accepted(&mut page, desk, model, verdict, nodes);
     finish(page, desk)
 }

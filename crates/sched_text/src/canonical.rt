@@ -1,19 +1,19 @@
 //! The canonical text of a model, statement by statement.
 ghost use Rattle.std.specs.Prelude.{◌≡◌, ◌++◌, ◌∷◌, [], codes, flat_map};
 ghost use Rattle.sched_base.specs.Calls.{Writes};
-ghost use Rattle.sched_text.specs.Canonical.{statement, interval_text, matrix_text, named_sequence_text, named_cumul_text, state_text, constraint_text, sense_word, objective_text, canonical_text};
+ghost use Rattle.sched_text.specs.Canonical.{statement, interval_text, matrix_text, named_sequence_text, named_cumul_text, state_text, constraint_text, sense_word, aim_text, objective_text, canonical_text};
 ghost use Rattle.sched_text.specs.code.Printing.{Prints};
 
 use crate::constraints::put_constraint;
 use crate::definitions::{
     put_cumul_def, put_interval_def, put_matrix_def, put_sequence_def, put_state_def,
 };
-use crate::expressions::put_whole;
+use crate::expressions::{put_gathered, put_whole};
 use crate::page::{Page, finish, new_page, put_text};
 use crate::pieces::put_open;
 use sched_base::{Desk, Failed, Port};
 use sched_model::{
-    Constraint, CumulDef, IntervalDef, MatrixDef, Model, Sense, SequenceDef, StateDef,
+    Constraint, CumulDef, IntervalDef, MatrixDef, Model, Objective, Sense, SequenceDef, StateDef,
 };
 
 fn put_intervals<D: Desk>(page: &mut Page, desk: &mut D, defs: &[IntervalDef])
@@ -80,6 +80,17 @@ fn word_of(sense: Sense) -> &'static [u8]
     }
 }
 
+/// The expression of an objective, or its criteria.
+fn put_aim<D: Desk>(page: &mut Page, desk: &mut D, model: &Model, o: &Objective)
+    ensures { Prints (aim_text model.now o.now) page.old page.new (D.state desk.old) (D.state desk.new) }
+{
+    if o.criteria.is_empty() {
+        put_whole(page, desk, model, &o.expr);
+        return;
+    }
+    put_gathered(page, desk, model, b"staticLex", o.criteria.as_slice());
+}
+
 fn put_objective<D: Desk>(page: &mut Page, desk: &mut D, model: &Model)
     ensures { Prints (objective_text model.now model.now.objective) page.old page.new (D.state desk.old) (D.state desk.new) }
 {
@@ -87,7 +98,7 @@ fn put_objective<D: Desk>(page: &mut Page, desk: &mut D, model: &Model)
         return;
     };
     put_open(page, desk, word_of(o.sense));
-    put_whole(page, desk, model, &o.expr);
+    put_aim(page, desk, model, o);
     put_text(page, desk, b");\n");
 }
 

@@ -1,8 +1,9 @@
 //! Constraints.
-ghost use Rattle.std.specs.Prelude.{◌≡◌, ◌++◌, ◌∷◌, [], codes, Some};
+ghost use Rattle.std.specs.Prelude.{◌≡◌, ◌++◌, ◌∷◌, [], codes, pos, if◌then◌else◌, Some};
+ghost use Rattle.std.specs.Ordering.{int_eq};
 ghost use Rattle.std.specs.Fmt.{signed_decimal};
 ghost use Rattle.sched_text.specs.Pieces.{call, interval_name, state_name};
-ghost use Rattle.sched_text.specs.Canonical.{flag, temporal_word, list_text, use_text, over_text, distance_text, bounded_text, within_text, function_text, constraint_text};
+ghost use Rattle.sched_text.specs.Canonical.{flag, temporal_word, list_text, count_items, use_text, over_text, distance_text, bounded_text, within_text, function_text, constraint_text};
 ghost use Rattle.sched_text.specs.code.Printing.{Prints};
 
 use crate::cumulative::put_function;
@@ -84,6 +85,40 @@ fn put_hierarchy<D: Desk>(
     put_open(page, desk, word);
     put_interval(page, desk, model, x);
     put_next_names(page, desk, model, parts);
+    put_text(page, desk, b")");
+}
+
+fn is_one(n: i64) -> bool
+    ensures { result ≡ int_eq n (pos 1) }
+{
+    n == 1
+}
+
+/// A comma and how many parts an alternative chooses, where it isn't one.
+fn put_next_chosen<D: Desk>(page: &mut Page, desk: &mut D, count: i64)
+    ensures { Prints (if int_eq count (pos 1) then [] else codes "," ++ signed_decimal count) page.old page.new (D.state desk.old) (D.state desk.new) }
+{
+    if is_one(count) {
+        return;
+    }
+    put_next_number(page, desk, count);
+}
+
+/// An interval and its parts, of which so many are chosen.
+fn put_alternative<D: Desk>(
+    page: &mut Page,
+    desk: &mut D,
+    model: &Model,
+    x: Itv,
+    parts: &[Itv],
+    count: i64,
+)
+    ensures { Prints (call (codes "alternative") (interval_name model.now x ∷ list_text model.now parts.now ∷ count_items count)) page.old page.new (D.state desk.old) (D.state desk.new) }
+{
+    put_open(page, desk, b"alternative");
+    put_interval(page, desk, model, x);
+    put_next_names(page, desk, model, parts);
+    put_next_chosen(page, desk, count);
     put_text(page, desk, b")");
 }
 
@@ -309,13 +344,13 @@ pub fn put_constraint<D: Desk>(page: &mut Page, desk: &mut D, model: &Model, c: 
             *a,
             parts.as_slice(),
         ),
-        Constraint::Alternative { a, parts } => put_hierarchy(
+        Constraint::Alternative { a, parts, count } => put_alternative(
             page,
             desk,
             model,
-            b"alternative",
             *a,
             parts.as_slice(),
+            *count,
         ),
         Constraint::Synchronize { a, parts } => put_hierarchy(
             page,

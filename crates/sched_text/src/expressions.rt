@@ -168,7 +168,7 @@ fn put_items<D: Desk>(page: &mut Page, desk: &mut D, model: &Model, xs: &[Expr])
 
 /// What a word makes of a list.
 #[cycle(put_whole)]
-fn put_gathered<D: Desk>(page: &mut Page, desk: &mut D, model: &Model, word: &[u8], xs: &[Expr])
+pub fn put_gathered<D: Desk>(page: &mut Page, desk: &mut D, model: &Model, word: &[u8], xs: &[Expr])
     ensures { Prints (call word.now (listed (wholes (map (shown model.now) xs.now)) ∷ [])) page.old page.new (D.state desk.old) (D.state desk.new) }
 {
     put_text(page, desk, word);

@@ -11,7 +11,9 @@ mod expressions;
 mod laws;
 mod page;
 mod pieces;
+mod values;
 
 pub use answers::{write_accepted, write_answer, write_summary};
 pub use canonical::print_model;
 pub use laws::answer_is_told;
+pub use values::push_values;

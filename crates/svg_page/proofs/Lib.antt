@@ -1,3 +1,5 @@
 pub mod Moments
 pub mod Rows
 pub mod Steps
+pub mod Shading
+pub mod Placing

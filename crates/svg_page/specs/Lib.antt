@@ -4,5 +4,6 @@ pub mod Cumuls
 pub mod Lanes
 pub mod Page
 pub mod Profiles
+pub mod Shades
 pub mod States
 pub mod Texts

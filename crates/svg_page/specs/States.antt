@@ -1,5 +1,5 @@
 -- The drawing of a state function: a box for each segment.
-use Rattle.std.specs.Prelude.{ℕ, ◌*◌, pos, List, [], ◌++◌, unwrap_or, slice_get, codes}
+use Rattle.std.specs.Prelude.{ℕ, ◌%◌, ◌*◌, pos, List, [], ◌++◌, unwrap_or, slice_get, codes}
 use Rattle.std.specs.Int.RustNames.{unsigned_abs}
 use Rattle.std.specs.List.{flat_map}
 use Rattle.sched_model.specs.declared.types.Segment.{Segment}
@@ -14,7 +14,7 @@ use Rattle.svg_page.specs.Bars.{outline, told}
 
 -- the box of a segment; its state chooses the colour
 abbrev pub segment_box : Segment → Bytes
-segment_box s = outline (unsigned_abs s.v) s.p s.q 0 ++ number [] s.v ++ told s.p s.q
+segment_box s = outline (unsigned_abs s.v % 8) s.p s.q 0 ++ number [] s.v ++ told s.p s.q
 
 -- the number of its state
 abbrev pub segment_name : Axis → Segment → Bytes

@@ -1,16 +1,24 @@
 ghost use Rattle.std.specs.Prelude.{◌≡◌, ◌++◌, OnOk};
 ghost use Rattle.std.specs.List.{flat_map};
-ghost use Rattle.svg_page.specs.Bars.{bar, bar_of, bar_text, bars, lane_bars, name_at, order_at, outline, slot_at, told};
+ghost use Rattle.svg_page.specs.Bars.{bar, bar_of, bar_text, bars, lane_bars, order_at, outline, slot_at, told};
+ghost use Rattle.svg_page.specs.Shades.{shade, shade_in};
 
 use crate::lanes::Lane;
+use crate::shades::{name_at, shade, shade_in};
 use crate::text::{push, push_count, push_name, push_number};
 use sched_base::{Itv, NoMemory};
 use sched_model::{Assignment, Model, Slot};
 
-pub fn push_outline(page: &mut Vec<u8>, i: u64, s: i64, e: i64, row: usize) -> Result<(), NoMemory>
-    ensures { OnOk result (page.new.items ≡ page.old.items ++ outline i s e row) }
+pub fn push_outline(
+    page: &mut Vec<u8>,
+    shade: u128,
+    s: i64,
+    e: i64,
+    row: usize,
+) -> Result<(), NoMemory>
+    ensures { OnOk result (page.new.items ≡ page.old.items ++ outline shade s e row) }
 {
-    push_count(page, b"<path class='c", u128::from(i % 8))?;
+    push_count(page, b"<path class='c", shade)?;
     push_number(page, b"' d='M", s)?;
     push_count(page, b" ", row as u128)?;
     push_number(page, b".1H", e)?;
@@ -29,15 +37,15 @@ pub fn push_told(page: &mut Vec<u8>, s: i64, e: i64) -> Result<(), NoMemory>
 /// The bar of an interval.
 fn push_bar_text(
     page: &mut Vec<u8>,
-    i: usize,
+    shade: u128,
     s: i64,
     e: i64,
     row: usize,
     name: &[u8],
 ) -> Result<(), NoMemory>
-    ensures { OnOk result (page.new.items ≡ page.old.items ++ bar_text i s e row name.now) }
+    ensures { OnOk result (page.new.items ≡ page.old.items ++ bar_text shade s e row name.now) }
 {
-    push_outline(page, i as u64, s, e, row)?;
+    push_outline(page, shade, s, e, row)?;
     push_name(page, name)?;
     push_told(page, s, e)
 }
@@ -47,15 +55,6 @@ pub fn slot_at(a: &Assignment, i: usize) -> Slot
 {
     let slots = a.slots.as_slice();
     slots.get(i).copied().unwrap_or(Slot::Absent)
-}
-
-pub fn name_at(model: &Model, i: usize) -> &[u8]
-    ensures { result.now ≡ name_at model.now i }
-{
-    match model.intervals().get(i) {
-        None => b"",
-        Some(d) => d.name.as_slice(),
-    }
 }
 
 pub fn order_at(a: &Assignment, i: usize) -> &[Itv]
@@ -70,15 +69,15 @@ pub fn order_at(a: &Assignment, i: usize) -> &[Itv]
 fn push_bar_of(
     page: &mut Vec<u8>,
     row: usize,
-    i: usize,
+    shade: u128,
     name: &[u8],
     slot: Slot,
 ) -> Result<(), NoMemory>
-    ensures { OnOk result (page.new.items ≡ page.old.items ++ bar_of row i name.now slot) }
+    ensures { OnOk result (page.new.items ≡ page.old.items ++ bar_of row shade name.now slot) }
 {
     match slot {
         Slot::Absent => Ok(()),
-        Slot::Present { s, e } => push_bar_text(page, i, s, e, row, name),
+        Slot::Present { s, e } => push_bar_text(page, shade, s, e, row, name),
     }
 }
 
@@ -87,11 +86,12 @@ fn push_bar(
     model: &Model,
     a: &Assignment,
     row: usize,
+    shade: u128,
     i: usize,
 ) -> Result<(), NoMemory>
-    ensures { OnOk result (page.new.items ≡ page.old.items ++ bar model.now a.now row i) }
+    ensures { OnOk result (page.new.items ≡ page.old.items ++ bar model.now a.now row shade i) }
 {
-    push_bar_of(page, row, i, name_at(model, i), slot_at(a, i))
+    push_bar_of(page, row, shade, name_at(model, i), slot_at(a, i))
 }
 
 fn push_order_bars(
@@ -99,12 +99,14 @@ fn push_order_bars(
     model: &Model,
     a: &Assignment,
     row: usize,
+    p: usize,
     order: &[Itv],
 ) -> Result<(), NoMemory>
-    ensures { OnOk result (page.new.items ≡ page.old.items ++ flat_map (λ x. bar model.now a.now row x.0) order.now) }
+    ensures { OnOk result (page.new.items ≡ page.old.items ++ flat_map (λ x. bar model.now a.now row (shade_in model.now p x.0) x.0) order.now) }
 {
     for x in order {
-        push_bar(page, model, a, row, x.0 as usize)?;
+        let i = x.0 as usize;
+        push_bar(page, model, a, row, shade_in(model, p, i), i)?;
     }
     Ok(())
 }
@@ -119,8 +121,8 @@ fn push_lane_bars(
     ensures { OnOk result (page.new.items ≡ page.old.items ++ lane_bars model.now a.now row lane) }
 {
     match lane {
-        Lane::Sequence(i) => push_order_bars(page, model, a, row, order_at(a, i)),
-        Lane::Interval(i) => push_bar(page, model, a, row, i),
+        Lane::Sequence(i) => push_order_bars(page, model, a, row, i, order_at(a, i)),
+        Lane::Interval(i) => push_bar(page, model, a, row, shade(model, i), i),
     }
 }
 

@@ -4,8 +4,10 @@ ghost use Rattle.std.specs.List.{flat_map};
 ghost use Rattle.svg_page.specs.Bars.{given_name, lane_name, absent_name, absent_names, bar_name, bar_name_of, bar_names, lane_bar_names, lane_label, lane_labels};
 
 use crate::axis::{Axis, place, width};
-use crate::bars::{name_at, order_at, slot_at};
+use crate::bars::{order_at, slot_at};
 use crate::lanes::{Lane, down_to, row_height};
+use crate::places::sequence_name;
+use crate::shades::name_at;
 use crate::text::{Room, push_count, push_framed, push_label};
 use sched_base::{Itv, NoMemory};
 use sched_model::{Assignment, Model, Name, Slot};
@@ -120,7 +122,7 @@ fn lane_name(alloc: Global, model: &Model, lane: Lane) -> Result<Vec<u8>, NoMemo
     match lane {
         Lane::Sequence(i) => match model.sequences().get(i) {
             None => Ok(Vec::new(alloc)),
-            Some(d) => given_name(alloc, i, &d.name),
+            Some(d) => sequence_name(alloc, model, i, &d.name),
         },
         Lane::Interval(i) => {
             let name = Vec::from_slice(alloc, name_at(model, i))?;

@@ -42,7 +42,7 @@ fn push_sequence_lanes(lanes: &mut Vec<Lane>, defs: &[SequenceDef]) -> Result<()
     Ok(())
 }
 
-fn is_member(xs: &[Itv], i: usize) -> bool
+pub fn is_member(xs: &[Itv], i: usize) -> bool
     ensures { result ≡ is_member xs.now i }
 {
     xs.iter().any(|x| x.0 as usize == i)

@@ -17,7 +17,7 @@ use std::alloc::Global;
 fn push_segment_box(page: &mut Vec<u8>, s: Segment) -> Result<(), NoMemory>
     ensures { OnOk result (page.new.items ≡ page.old.items ++ segment_box s) }
 {
-    push_outline(page, s.v.unsigned_abs(), s.p, s.q, 0)?;
+    push_outline(page, u128::from(s.v.unsigned_abs() % 8), s.p, s.q, 0)?;
     push_number(page, b"", s.v)?;
     push_told(page, s.p, s.q)
 }

@@ -1,5 +1,5 @@
 -- Counts as far as the code counts, and pairs.
-use Rattle.std.proofs.Common.{◌≡◌, ℕ, ◌+◌, ◌<◌, ◌≤◌, List, ◌∷◌, ◌++◌, map, flat_map, length, drop, sum, get_or, sym, ap, ◌∙◌, arith}
+use Rattle.std.proofs.Common.{◌≡◌, ℕ, ◌+◌, ◌<◌, ◌≤◌, true, false, List, [], ◌∷◌, ◌++◌, map, flat_map, length, drop, sum, sum_by, get_or, sym, ap, ◌∙◌, arith}
 use Rattle.std.proofs.lemmas.List.{at_drop_more, at_drop_all, length-map, length-append}
 use Rattle.std.proofs.lemmas.List.Sums.{sum_by-cons}
 use Rattle.sched_model.specs.Data.{Data}
@@ -9,6 +9,9 @@ use Rattle.sched_model.specs.declared.types.Expr.TheVariants as whole
 use Rattle.sched_model.specs.declared.types.Expr.TheVariants.{rolls-Compare, rolls-Implies}
 use Rattle.sched_model.specs.declared.types.Expr.TheOpen.Expr-F.{Compare, Implies}
 use Rattle.sched_model.specs.declared.types.Expr.TheFolds.{fold-roll-Expr}
+use Rattle.sched_model.specs.declared.types.Objective.{Objective}
+use Rattle.sched_model.specs.Words.{is_empty}
+use Rattle.sched_model.specs.Rank.{criteria_of}
 use Rattle.sched_model.specs.Valid.{count_step, node_count}
 use Rattle.cpo_text.specs.declared.cumul.Signed.{Signed}
 use Rattle.cpo_elab.specs.Elaborated.{turned, plain_parts, parts_signed}
@@ -69,3 +72,25 @@ compare_nodes e a b c d op x y r whole_is first second x_is y_is is = two_nodes 
 
 pub implies_nodes : (e a b c d : Expr) (x y r : ℕ) → e ≡ whole.Implies a b → c ≡ a → d ≡ b → x ≡ capped (1 + node_count c) → y ≡ capped (node_count d) → r ≡ plus x y → r ≡ capped (node_count e)
 implies_nodes e a b c d x y r whole_is first second x_is y_is is = two_nodes a b c d x y r first second x_is y_is is ∙ ap capped (sym (ap node_count whole_is ∙ count_implies a b))
+
+-- the sum over the items from a place on
+
+pub by_none : {X : Type 0} (f : X → ℕ) (xs : List X) → 0 + sum_by f (drop 0 xs) ≡ sum_by f xs
+by_none f xs = omega arith
+
+pub by_turn : {X : Type 0} (f : X → ℕ) (xs : List X) (i : ℕ) (x : X) → i < length xs → x ≡ get_or xs i x → sum_by f (drop i xs) ≡ f x + sum_by f (drop (i + 1) xs)
+by_turn f xs i x within at_i =
+    at_drop_more (sum_by f) xs i x within
+    ∙ sum_by-cons f (get_or xs i x) (drop (i + 1) xs)
+    ∙ ap (λ y. f y + sum_by f (drop (i + 1) xs)) (sym at_i)
+
+pub by_end : {X : Type 0} (f : X → ℕ) (xs : List X) (i : ℕ) → length xs ≤ i → sum_by f (drop i xs) ≡ 0
+by_end f xs i done = at_drop_all (sum_by f) xs i done
+
+-- the nodes of an objective
+
+pub plain_nodes : (o : Objective) (n : ℕ) → true ≡ is_empty o.criteria → n ≡ capped (node_count o.expr) → n ≡ capped (sum_by node_count (criteria_of o))
+plain_nodes o n plain is = rw (sym plain) (is ∙ ap capped (omega (arith, sum_by-cons node_count o.expr [])))
+
+pub several_nodes : (o : Objective) (n : ℕ) → false ≡ is_empty o.criteria → n ≡ capped (sum_by node_count o.criteria) → n ≡ capped (sum_by node_count (criteria_of o))
+several_nodes o n many is = rw (sym many) is

@@ -81,7 +81,7 @@ level m n more (And ps) h = let parts = some_grow m n ps h in (parts.0, ap truth
 level m n more (Or ps) h = let parts = some_grow m n ps h in (parts.0, ap truth_of parts.1)
 level m n more (Implies p q) h = two_grow m n p q h
 
-tree_grows : (m n : Data) → Extends m n → (e : Expr) → Grows m n e
+pub tree_grows : (m n : Data) → Extends m n → (e : Expr) → Grows m n e
 tree_grows m n more = ind-Expr (Grows m n) (λ x y is. subst (λ z. Grows m n (roll-Expr z)) is (λ h.
     rw (fold-roll-Expr Bool (expr_step n), fold-roll-Expr (Option Ends) (hull_step n), fold-roll-Expr (Option Ends) (hull_step m), composed (Grows m n) Bool (is_tree n) y, composed (Grows m n) (Option Ends) (hull_of n) y, composed (Grows m n) (Option Ends) (hull_of m) y)
     (level m n more y (rw (fold-roll-Expr Bool (expr_step m), composed (Grows m n) Bool (is_tree m) y) at h))))
@@ -135,7 +135,9 @@ constraint_grows m n more states (constraint.Temporal from to equal a b z) h =
     all_three (is_itv n a) (is_itv n b) (is_small z) (itv_grows m n more a parts.0) (itv_grows m n more b parts.1) parts.2
 constraint_grows m n more states (constraint.Logic e) h = expr_grows m n more e h
 constraint_grows m n more states (constraint.Span a xs) h = over_grows m n more a xs h
-constraint_grows m n more states (constraint.Alternative a xs) h = over_grows m n more a xs h
+constraint_grows m n more states (constraint.Alternative a xs k) h =
+    let parts = four_true (is_itv m a) (are_parts m xs) (is_small k) (int_le (pos 0) k) h in
+    all_four (is_itv n a) (are_parts n xs) (is_small k) (int_le (pos 0) k) (itv_grows m n more a parts.0) (parts_grow m n more xs parts.1) parts.2 parts.3
 constraint_grows m n more states (constraint.Synchronize a xs) h = over_grows m n more a xs h
 constraint_grows m n more states (constraint.NoOverlap p matrix direct) h =
     let parts = and_parts (is_seq m p) (passes_if_any (fits_types m p) matrix) h in

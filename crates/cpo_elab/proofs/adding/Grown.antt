@@ -17,6 +17,7 @@ use Rattle.sched_model.specs.declared.types.StateDef.{StateDef}
 use Rattle.sched_model.specs.declared.types.Constraint.{Constraint}
 use Rattle.sched_model.specs.declared.types.Objective.{Objective}
 use Rattle.sched_model.specs.Data.{Data, with_interval, with_matrix, with_sequence, with_cumul, with_state, with_constraint, with_objective}
+use Rattle.sched_model.specs.Rank.{criteria_of}
 use Rattle.sched_model.specs.Valid.{IsValid, is_sequence_def, are_parts, pair_count, nodes_of, node_count, node_total}
 use Rattle.sched_model.specs.laws.Limits.{limits_of}
 use Rattle.cpo_elab.specs.declared.names.Sort.TheVariants.{Interval, Matrix, Sequence, Cumulated, State}
@@ -126,26 +127,26 @@ pub room_for_parts : (room count : ℕ) (m : Data) (d : CumulDef) → room + nod
 room_for_parts room count m d sums valid counted =
     let l = limits_of (with_cumul d m) valid.limits in omega (arith, counted, sums, l.nodes, nodes_cumul m d)
 
-nodes_objective : (m : Data) (o : Objective) → m.objective ≡ None → node_total (with_objective o m) ≡ node_total m + node_count o.expr
-nodes_objective m o none = let none_yet = ap (λ (p : Option Objective). sum_by (λ (q : Objective). node_count q.expr) (option_to_list p)) none in omega (arith, none_yet)
+nodes_objective : (m : Data) (o : Objective) → m.objective ≡ None → node_total (with_objective o m) ≡ node_total m + sum_by node_count (criteria_of o)
+nodes_objective m o none = let none_yet = ap (λ (p : Option Objective). sum_by (λ (q : Objective). sum_by node_count (criteria_of q)) (option_to_list p)) none in omega (arith, none_yet)
 
-few_objective : (m : Data) (o : Objective) → m.objective ≡ None → IsValid (with_objective o m) → node_count o.expr ≤ 100000
+few_objective : (m : Data) (o : Objective) → m.objective ≡ None → IsValid (with_objective o m) → sum_by node_count (criteria_of o) ≤ 100000
 few_objective m o none valid = let l = limits_of (with_objective o m) valid.limits in omega (arith, l.nodes, nodes_objective m o none)
 
 pub grown_objective : (table : Table) (cells room count : ℕ) (m m' : Data) (o : Objective) → IsDraft table cells room m → m.objective ≡ None → m' ≡ with_objective o m → IsValid (with_objective o m)
-    → count ≡ capped (node_count o.expr) → IsDraft table cells (room - count) m'
+    → count ≡ capped (sum_by node_count (criteria_of o)) → IsDraft table cells (room - count) m'
 unfolding number_of
 grown_objective table cells room count m m' o old none after valid counted = subst (IsDraft table cells (room - count)) (sym after) (record {
   names = old.names;
   cell_sum = old.cell_sum;
   room_sum = left_room room (node_total m) (node_total (with_objective o m)) count old.room_sum
-      (nodes_objective m o none ∙ ap (λ n. node_total m + n) (sym (exact count (node_count o.expr) counted (few_objective m o none valid)))) (limits_of (with_objective o m) valid.limits).nodes;
+      (nodes_objective m o none ∙ ap (λ n. node_total m + n) (sym (exact count (sum_by node_count (criteria_of o)) counted (few_objective m o none valid)))) (limits_of (with_objective o m) valid.limits).nodes;
   valid = valid;
 })
 
-pub room_for_objective : (room count : ℕ) (m : Data) (o : Objective) → room + node_total m ≡ 100000 → m.objective ≡ None → IsValid (with_objective o m) → count ≡ capped (node_count o.expr) → count ≤ room
+pub room_for_objective : (room count : ℕ) (m : Data) (o : Objective) → room + node_total m ≡ 100000 → m.objective ≡ None → IsValid (with_objective o m) → count ≡ capped (sum_by node_count (criteria_of o)) → count ≤ room
 room_for_objective room count m o sums none valid counted =
-    let l = limits_of (with_objective o m) valid.limits in let is = exact count (node_count o.expr) counted (few_objective m o none valid) in omega (arith, is, sums, l.nodes, nodes_objective m o none)
+    let l = limits_of (with_objective o m) valid.limits in let is = exact count (sum_by node_count (criteria_of o)) counted (few_objective m o none valid) in omega (arith, is, sums, l.nodes, nodes_objective m o none)
 
 -- the last of the members that are valid
 

@@ -1,6 +1,7 @@
 -- What is in a valid model is well made in every larger model, and a model with less in it keeps within the limits.
-use Rattle.std.proofs.Common.{◌≡◌, ℕ, ◌+◌, true, ◌&&◌, [], ◌∷◌, ◌++◌, length, nat_le, sym, ap, ◌∙◌, arith}
+use Rattle.std.proofs.Common.{◌≡◌, ℕ, ◌+◌, true, ◌&&◌, [], ◌∷◌, ◌++◌, length, nat_le, refl, sym, ap, ◌∙◌, arith}
 use Rattle.std.specs.List.{list_all}
+use Rattle.std.specs.Option.{IfSome}
 use Rattle.std.proofs.lemmas.Bool.Decides.{nat_tests}
 use Rattle.std.proofs.lemmas.List.{length_push}
 use Rattle.std.proofs.lemmas.List.Sums.{sum_by_push}
@@ -9,9 +10,11 @@ use Rattle.base_laws.specs.laws.Items.{all_push, all_weaker}
 use Rattle.sched_model.specs.declared.types.Constraint.{Constraint}
 use Rattle.sched_model.specs.Words.{passes_if_any}
 use Rattle.sched_model.specs.Data.{Data, with_constraint}
+use Rattle.sched_model.specs.Rank.{IsRanked}
 use Rattle.sched_model.specs.Valid.{IsValid, is_sequence_def, is_cumul_def, is_state_def, is_constraint, is_expr, is_within_limits, node_total, nodes_of, cell_count}
 use Rattle.cpo_elab.proofs.adding.Extends.{Extends, sequence_def_grows, cumul_def_grows, state_def_grows}
 use Rattle.cpo_elab.proofs.adding.Growing.{constraints_grow, objective_grows}
+use Rattle.cpo_elab.proofs.adding.Ranked.{criteria_stay, criteria_grow}
 
 pub record Kept (m n : Data) : Type 0 where
   pub sequences : list_all (is_sequence_def n) m.sequences ≡ true
@@ -19,6 +22,7 @@ pub record Kept (m n : Data) : Type 0 where
   pub states : list_all (is_state_def n) m.states ≡ true
   pub constraints : list_all (is_constraint n) m.constraints ≡ true
   pub objective : passes_if_any (λ o. is_expr n o.expr) m.objective ≡ true
+  pub criteria : IfSome m.objective (IsRanked n)
 
 pub kept : (m n : Data) → Extends m n → IsValid m → Kept m n
 kept m n more valid = record {
@@ -27,6 +31,7 @@ kept m n more valid = record {
   states = all_weaker (is_state_def m) (is_state_def n) (state_def_grows m n more) m.states valid.states;
   constraints = constraints_grow m n more valid.states m.constraints valid.constraints;
   objective = objective_grows m n more m.objective valid.objective;
+  criteria = criteria_grow m n more m.objective valid.objective valid.criteria;
 }
 
 -- limits
@@ -59,5 +64,6 @@ with_constraint_valid m c valid here limits = record {
   states = valid.states;
   constraints = all_push (is_constraint m) m.constraints c valid.constraints here;
   objective = valid.objective;
+  criteria = criteria_stay m (with_constraint c m) (λ e. refl) m.objective valid.criteria;
   limits = limits;
 }

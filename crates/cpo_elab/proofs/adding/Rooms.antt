@@ -15,7 +15,7 @@ use Rattle.sched_model.specs.Words.{passes_if_any}
 use Rattle.sched_model.specs.Data.{Data, with_interval, with_matrix, with_sequence, with_cumul, with_state, with_constraint}
 use Rattle.sched_model.specs.Valid.{pair_count, nodes_of, node_count, cell_count, node_total, is_within_limits}
 use Rattle.sched_model.specs.laws.Limits.{limits_of, within_limits}
-use Rattle.cpo_text.specs.declared.tree.Hierarchy.TheVariants.{Span, Alternative, Synchronize}
+use Rattle.cpo_text.specs.declared.tree.Hierarchy.TheVariants.{Span, Synchronize}
 use Rattle.cpo_text.specs.declared.tree.Extreme.TheVariants.{First, Last}
 use Rattle.cpo_text.specs.declared.tree.Order.TheVariants.{Before, Prev}
 use Rattle.cpo_text.specs.declared.tree.Bound.TheVariants.{AtMost, AtLeast}
@@ -23,7 +23,7 @@ use Rattle.cpo_text.specs.declared.tree.Over.TheVariants as over
 use Rattle.cpo_text.specs.declared.cumul.Cumul.{Cumul}
 use Rattle.cpo_text.specs.declared.expression.Logic.{Logic}
 use Rattle.cpo_text.specs.declared.tree.Constrained.{Constrained}
-use Rattle.cpo_text.specs.declared.tree.Constrained.TheVariants.{Between, Parts, NoOverlap, Extreme, Ordered, Bounded, AlwaysIn, AlwaysEqual, AlwaysNoState, Holds}
+use Rattle.cpo_text.specs.declared.tree.Constrained.TheVariants.{Between, Parts, Alternative, NoOverlap, Extreme, Ordered, Bounded, AlwaysIn, AlwaysEqual, AlwaysNoState, Holds}
 use Rattle.cpo_text.specs.declared.tree.Statement.TheVariants.{Constrain}
 use Rattle.cpo_elab.specs.Held.{logic_held, members_written}
 use Rattle.cpo_elab.specs.Elaborated.{expr_of, constraint_of, named_itself, with_unnamed, with_written, after}
@@ -224,8 +224,8 @@ pub constraint_rooms : (m : Data) (c : Constrained)
     ≡ (nat_le (length (members_written c)) 500 && is_within_limits (after m (Constrain c)))
 constraint_rooms m (Between t a b z) = plain m (constraint_of m (Between t a b z)) true refl
 constraint_rooms m (Parts Span a ns) = plain m (constraint_of m (Parts Span a ns)) true refl
-constraint_rooms m (Parts Alternative a ns) = plain m (constraint_of m (Parts Alternative a ns)) true refl
 constraint_rooms m (Parts Synchronize a ns) = plain m (constraint_of m (Parts Synchronize a ns)) true refl
+constraint_rooms m (Alternative a ns n) = plain m (constraint_of m (Alternative a ns n)) true refl
 constraint_rooms m (NoOverlap (over.Named p) s) = plain m (constraint_of m (NoOverlap (over.Named p) s)) true refl
 constraint_rooms m (NoOverlap (over.Listed ns) s) = plain (with_written m (NoOverlap (over.Listed ns) s)) (constraint_of m (NoOverlap (over.Listed ns) s)) (nat_le (length ns) 500) refl
 constraint_rooms m (Extreme First p a) = plain m (constraint_of m (Extreme First p a)) true refl

@@ -1,5 +1,5 @@
 -- The nodes counted on a tree are those of its expression.
-use Rattle.std.proofs.Common.{◌≡◌, ℕ, ◌+◌, List, [], ◌∷◌, Option, map, fold, sum, pos, refl, sym, ap, subst, ◌∙◌, arith}
+use Rattle.std.proofs.Common.{◌≡◌, ℕ, ◌+◌, List, [], ◌∷◌, Option, map, fold, sum, sum_by, pos, refl, sym, ap, subst, ◌∙◌, arith}
 use Rattle.std.proofs.lemmas.List.Sums.{sum_by-cons}
 use Rattle.sched_model.specs.declared.types.Expr.{Expr}
 use Rattle.sched_model.specs.declared.types.Expr.TheOpen.{Expr-F}
@@ -86,3 +86,18 @@ level m (Implies p q) = rolled (Expr-F.Implies (expr_of m p.0) (expr_of m q.0)) 
 pub counted_nodes : (m : Data) (e : Logic) → counted e ≡ capped (node_count (expr_of m e))
 counted_nodes m = ind-Logic (Same m) (λ x y is. subst (λ z. Same m (roll-Logic z)) is
     (rw (fold-roll-Logic ℕ counted_step, composed (Same m) ℕ counted y, fold-roll-Logic Expr (expr_step m), composed (Same m) Expr (expr_of m) y) (level m y)))
+
+-- of several trees together
+
+all_counted : (m : Data) (a x : ℕ) (es : List Logic) → a ≡ capped x → fold plus a (map counted es) ≡ capped (x + sum_by (λ e. node_count (expr_of m e)) es)
+all_counted m a x [] is = is ∙ ap capped (omega arith)
+all_counted m a x (e ∷ es) is =
+    all_counted m (plus a (counted e)) (x + node_count (expr_of m e)) es (plus_more a (counted e) x (node_count (expr_of m e)) (plus a (counted e)) is (counted_nodes m e) refl)
+    ∙ ap capped (regroup x (node_count (expr_of m e)) (sum_by (λ e. node_count (expr_of m e)) es) (sum_by (λ e. node_count (expr_of m e)) (e ∷ es)) (sum_by-cons (λ e. node_count (expr_of m e)) e es))
+
+none_capped : 0 ≡ capped 0
+unfolding capped
+none_capped = omega arith
+
+pub counted_together : (m : Data) (es : List Logic) → fold plus 0 (map counted es) ≡ capped (sum_by (λ e. node_count (expr_of m e)) es)
+counted_together m es = all_counted m 0 0 es none_capped ∙ ap capped (omega arith)

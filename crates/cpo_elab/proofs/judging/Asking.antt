@@ -19,9 +19,9 @@ use Rattle.cpo_text.specs.declared.cumul.Cumul.{Cumul}
 use Rattle.cpo_text.specs.declared.tree.Definition.TheVariants.{IntervalVar, SequenceVar, TransitionMatrix, StateFunction, StepFunction, Cumulative}
 use Rattle.cpo_text.specs.declared.tree.Over.TheVariants as over
 use Rattle.cpo_text.specs.declared.tree.Constrained.{Constrained}
-use Rattle.cpo_text.specs.declared.tree.Constrained.TheVariants.{Between, Parts, NoOverlap, Extreme, Ordered, Bounded, AlwaysIn, AlwaysEqual, AlwaysNoState, Holds as Held}
+use Rattle.cpo_text.specs.declared.tree.Constrained.TheVariants.{Between, Parts, Alternative, NoOverlap, Extreme, Ordered, Bounded, AlwaysIn, AlwaysEqual, AlwaysNoState, Holds as Held}
 use Rattle.cpo_text.specs.declared.tree.Statement.{Statement}
-use Rattle.cpo_text.specs.declared.tree.Statement.TheVariants.{Empty, Define, Constrain, Forbid, Aim}
+use Rattle.cpo_text.specs.declared.tree.Statement.TheVariants.{Empty, Define, Constrain, Forbid, Aim, Rank}
 use Rattle.cpo_text.specs.declared.text.Form.{Form}
 use Rattle.cpo_text.specs.declared.text.Form.TheVariants.{Tree as Parsed, Number}
 use Rattle.cpo_text.specs.declared.text.Reading.{Reading}
@@ -52,6 +52,7 @@ unnamed_adds_none m f (Some n) = refl
 written_adds_none : (m : Data) (c : Constrained) → (with_written m c).constraints ≡ m.constraints
 written_adds_none m (Between t a b z) = refl
 written_adds_none m (Parts h a ns) = refl
+written_adds_none m (Alternative a ns n) = refl
 written_adds_none m (NoOverlap (over.Named p) s) = refl
 written_adds_none m (NoOverlap (over.Listed ns) s) = refl
 written_adds_none m (Extreme e p a) = refl
@@ -73,6 +74,7 @@ adds st (Define n (Cumulative c)) = sym (append-nil st.model.constraints)
 adds st (Constrain c) = ap (λ cs. cs ++ constraint_of st.model c ∷ []) (written_adds_none st.model c)
 adds st (Forbid w a f) = ap (λ cs. st.model.constraints ++ cs) (sym (append-nil (rules_of (demand_of w) (itv_of st.model a) (function_of st f))))
 adds st (Aim sense e) = sym (append-nil st.model.constraints)
+adds st (Rank sense es) = sym (append-nil st.model.constraints)
 
 adds_form : (st : Stage) (f : Form) → (after_form st f).model.constraints ≡ st.model.constraints ++ flat_map made_of (asked_by_form st f)
 adds_form st (Parsed s) = adds st s
@@ -131,6 +133,7 @@ over_steps st (Define n d) stage = refl
 over_steps st (Constrain c) stage = refl
 over_steps st (Forbid w a f) stage = and_from (is_over_steps (Calendar (demand_of w) (itv_of st.model a) (function_of st f))) true (function_is st f stage) refl
 over_steps st (Aim sense e) stage = refl
+over_steps st (Rank sense es) stage = refl
 
 all_append : (xs ys : List Sentence) → list_all is_over_steps xs ≡ true → list_all is_over_steps ys ≡ true → list_all is_over_steps (xs ++ ys) ≡ true
 all_append [] ys h k = k
@@ -165,7 +168,7 @@ accepted st k (x ∷ xs) m stage shaped is = let both = and_parts (is_shaped_for
 
 empty_is : IsStage empty_stage
 empty_is = record {
-  valid = record { names = refl; intervals = refl; matrices = refl; sequences = refl; cumuls = refl; states = refl; constraints = refl; objective = refl; limits = refl };
+  valid = record { names = refl; intervals = refl; matrices = refl; sequences = refl; cumuls = refl; states = refl; constraints = refl; objective = refl; criteria = tt; limits = refl };
   steps = refl;
 }
 

@@ -21,7 +21,7 @@ use Rattle.cpo_text.specs.declared.tree.StepPair.{StepPair}
 use Rattle.cpo_text.specs.declared.tree.Definition.TheVariants.{IntervalVar, SequenceVar, TransitionMatrix, StateFunction, StepFunction, Cumulative}
 use Rattle.cpo_text.specs.declared.tree.Forbidden.{Forbidden}
 use Rattle.cpo_text.specs.declared.tree.Statement.{Statement}
-use Rattle.cpo_text.specs.declared.tree.Statement.TheVariants.{Empty, Define, Constrain, Forbid, Aim}
+use Rattle.cpo_text.specs.declared.tree.Statement.TheVariants.{Empty, Define, Constrain, Forbid, Aim, Rank}
 use Rattle.cpo_elab.specs.declared.names.Sort.TheVariants.{Interval}
 use Rattle.cpo_elab.specs.Literals.{int_of}
 use Rattle.cpo_elab.specs.Named.{is_defined, itv_of}
@@ -130,6 +130,7 @@ stage_kept st k (Define n (Cumulative c)) stage shaped none = with_model st _ st
 stage_kept st k (Constrain c) stage shaped none = with_model st _ stage (valid_after st.model (Constrain c) stage.valid shaped (of_model st k _ none))
 stage_kept st k (Forbid w a f) stage shaped none = with_model st _ stage (calendar_valid st k w a f stage (clear st k (Forbid w a f) none))
 stage_kept st k (Aim sense e) stage shaped none = with_model st _ stage (valid_after st.model (Aim sense e) stage.valid shaped (of_model st k _ none))
+stage_kept st k (Rank sense es) stage shaped none = with_model st _ stage (valid_after st.model (Rank sense es) stage.valid shaped (of_model st k _ none))
 
 -- said of a statement that is one of these
 

@@ -68,6 +68,7 @@ define_interval m name args before spelt facts =
       states = rest.states;
       constraints = rest.constraints;
       objective = rest.objective;
+      criteria = rest.criteria;
       limits = facts.room;
     }
 
@@ -85,6 +86,7 @@ with_sequence_valid m d before names here limits =
       states = rest.states;
       constraints = rest.constraints;
       objective = rest.objective;
+      criteria = rest.criteria;
       limits = limits;
     }
 
@@ -149,6 +151,7 @@ define_matrix m name rows before spelt facts =
       states = rest.states;
       constraints = rest.constraints;
       objective = rest.objective;
+      criteria = rest.criteria;
       limits = facts.room;
     }
 
@@ -171,6 +174,7 @@ define_state m name x before spelt facts =
       states = all_push (is_state_def m) m.states d before.states (state_made m name x facts);
       constraints = rest.constraints;
       objective = rest.objective;
+      criteria = rest.criteria;
       limits = facts.room;
     }
 
@@ -188,6 +192,7 @@ with_cumul_valid m d before names here limits =
       states = rest.states;
       constraints = rest.constraints;
       objective = rest.objective;
+      criteria = rest.criteria;
       limits = limits;
     }
 

@@ -6,9 +6,9 @@ use Rattle.sched_model.specs.Data.{Data}
 use Rattle.sched_model.specs.Valid.{IsValid, are_distinct}
 use Rattle.cpo_text.specs.declared.tree.Definition.TheVariants.{IntervalVar, SequenceVar, TransitionMatrix, StateFunction, StepFunction, Cumulative}
 use Rattle.cpo_text.specs.declared.tree.Statement.{Statement}
-use Rattle.cpo_text.specs.declared.tree.Statement.TheVariants.{Empty, Define, Constrain, Forbid, Aim}
+use Rattle.cpo_text.specs.declared.tree.Statement.TheVariants.{Empty, Define, Constrain, Forbid, Aim, Rank}
 use Rattle.cpo_elab.specs.Named.{is_defined, itvs_of, some_name, name_defined}
-use Rattle.cpo_elab.specs.Held.{some_bound, levels_in, some_size, some_amount, list_in, members_in, rows_in}
+use Rattle.cpo_elab.specs.Held.{criteria_in, some_bound, levels_in, some_size, some_amount, list_in, members_in, rows_in}
 use Rattle.cpo_elab.specs.Judged.{is_of_other_sort, lacks_member, is_reversed, is_negative, is_outside, is_large, is_wide, statement_limit, has_room, fits, leaves_room, misfits, aims_again, has_no_hull}
 use Rattle.cpo_elab.specs.Stages.{Stage, is_function, is_known, function_in, steps_in, pairs_of}
 use Rattle.calendar.specs.Steps.{rises}
@@ -25,6 +25,7 @@ pub record Facts (m : Data) (s : Statement) : Type 0 where
   pub signs : some_amount is_negative s ≡ false
   pub fitting : misfits m s ≡ false
   pub once : are_distinct (itvs_of m (list_in s)) ≡ true
+  pub few : nat_lt 8 (length (criteria_in s)) ≡ false
   pub short : passes (λ n. nat_lt 64 (length n)) (name_defined s) ≡ false
   pub inside : some_bound is_outside s ≡ false
   pub small : some_amount is_large s ≡ false
@@ -50,6 +51,7 @@ room_of st (Define n (Cumulative c)) valid room = room
 room_of st (Constrain c) valid room = room
 room_of st (Forbid w a f) valid room = valid.limits
 room_of st (Aim sense e) valid room = room
+room_of st (Rank sense es) valid room = room
 
 pub facts : (st : Stage) (k : ℕ) (s : Statement) → IsValid st.model → Clear st k s → Facts st.model s
 facts st k s valid clear =
@@ -61,7 +63,8 @@ facts st k s valid clear =
     let sign = or_parts (some_size is_negative s) (some_amount is_negative s) clear.signs in
     let limits = or_parts (nat_lt statement_limit k) (is_wide s || not (leaves_room st s)) clear.room in
     let both_limits = or_parts (is_wide s) (not (leaves_room st s)) limits.1 in
-    let pairs = or_parts (nat_lt 1000 (length (steps_in s))) _ both_limits.0 in
+    let wide = or_parts (nat_lt 8 (length (criteria_in s))) _ both_limits.0 in
+    let pairs = or_parts (nat_lt 1000 (length (steps_in s))) _ wide.1 in
     let first = or_parts (passes (λ n. nat_lt 64 (length n)) (name_defined s)) _ pairs.1 in
     let second = or_parts (some_bound is_outside s) _ first.1 in
     let third = or_parts (some_amount is_large s) (nat_lt 200 (length (rows_in s))) second.1 in
@@ -76,6 +79,7 @@ facts st k s valid clear =
       signs = sign.1;
       fitting = clear.fitting;
       once = not_true _ clear.once;
+      few = wide.0;
       short = first.0;
       inside = second.0;
       small = third.0;

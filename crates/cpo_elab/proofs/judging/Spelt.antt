@@ -1,5 +1,5 @@
 -- The trees of a text are as the grammar has them: names are names of the language, and nodes have their operands.
-use Rattle.std.proofs.Common.{◌≡◌, ℕ, zero, suc, ◌+◌, Bool, true, false, if◌then◌else◌, List, [], ◌∷◌, take, drop, Option, Some, None, refl, sym, subst}
+use Rattle.std.proofs.Common.{◌≡◌, ℕ, zero, suc, ◌+◌, Bool, true, false, not, ◌&&◌, nat_le, if◌then◌else◌, List, [], ◌∷◌, map, length, take, drop, Option, Some, None, refl, sym, subst}
 use Rattle.std.specs.List.{list_all}
 use Rattle.std.proofs.lemmas.Bool.{and_parts, and_from}
 use Rattle.cpo_text.specs.Words.{Word, size_word}
@@ -10,13 +10,16 @@ use Rattle.cpo_text.specs.Spelling.{spelling, IsStatement}
 use Rattle.cpo_text.specs.Reads.{HasForm, AreReadings, told_limit, told}
 use Rattle.cpo_text.specs.declared.piece.Piece.{Piece}
 use Rattle.cpo_text.specs.declared.piece.Piece.TheVariants as piece
-use Rattle.cpo_text.specs.declared.tree.Constrained.TheVariants.{Between, Parts, NoOverlap, Extreme, Ordered, Bounded, AlwaysIn, AlwaysEqual, AlwaysNoState, Holds}
+use Rattle.cpo_text.specs.declared.tree.Constrained.TheVariants.{Between, Parts, Alternative, NoOverlap, Extreme, Ordered, Bounded, AlwaysIn, AlwaysEqual, AlwaysNoState, Holds}
 use Rattle.cpo_text.specs.declared.tree.Statement.{Statement}
-use Rattle.cpo_text.specs.declared.tree.Statement.TheVariants.{Empty, Define, Constrain, Forbid, Aim}
+use Rattle.cpo_text.specs.declared.tree.Statement.TheVariants.{Empty, Define, Constrain, Forbid, Aim, Rank}
 use Rattle.cpo_text.specs.declared.text.Form.{Form}
 use Rattle.cpo_text.specs.declared.text.Form.TheVariants.{Tree as Parsed, Number}
 use Rattle.cpo_text.specs.declared.text.Reading.{Reading}
-use Rattle.cpo_elab.specs.Shaped.{is_spelt, is_shaped, is_shaped_form, are_shaped}
+use Rattle.cpo_text.specs.Expressions.{at_least, all_at_least, level, are_logics}
+use Rattle.cpo_text.specs.declared.expression.Logic.{Logic}
+use Rattle.sched_model.specs.Words.{is_empty}
+use Rattle.cpo_elab.specs.Shaped.{is_spelt, has_operands, is_shaped, is_shaped_form, are_shaped}
 use Rattle.cpo_elab.specs.Laws.{TextsAreShaped}
 use Rattle.cpo_elab.proofs.values.Operands.{grammar_operands}
 
@@ -95,6 +98,14 @@ all_told rs all = told_first told_limit rs all
 
 -- statements
 
+all_operands : (es : List Logic) → all_at_least 0 (map level es) ≡ true → list_all has_operands es ≡ true
+all_operands [] h = refl
+all_operands (e ∷ es) h = let parts = and_parts (at_least 0 (level e)) _ h in and_from (has_operands e) (list_all has_operands es) (grammar_operands e 0 parts.0) (all_operands es parts.1)
+
+logics_told : (es : List Logic) → are_logics es ≡ true → (not (is_empty es) && list_all has_operands es) ≡ true
+logics_told [] h = cc
+logics_told (e ∷ es) h = all_operands (e ∷ es) (and_parts (nat_le 1 (length (e ∷ es))) (all_at_least 0 (map level (e ∷ es))) h).1
+
 statement_told : (ws : List Word) (s : Statement) → IsStatement ws s → list_all is_told ws ≡ true → is_shaped s ≡ true
 statement_told ws Empty is told = refl
 statement_told ws (Define n d) is told =
@@ -102,6 +113,7 @@ statement_told ws (Define n d) is told =
     and_from (is_spelt n) true (and_parts (is_spelt n) _ words).0 refl
 statement_told ws (Constrain (Between t a b z)) is told = refl
 statement_told ws (Constrain (Parts h a ns)) is told = refl
+statement_told ws (Constrain (Alternative a ns n)) is told = refl
 statement_told ws (Constrain (NoOverlap p s)) is told = refl
 statement_told ws (Constrain (Extreme e p a)) is told = refl
 statement_told ws (Constrain (Ordered o p a b)) is told = refl
@@ -109,9 +121,10 @@ statement_told ws (Constrain (Bounded f b c)) is told = refl
 statement_told ws (Constrain (AlwaysIn f w lo hi)) is told = refl
 statement_told ws (Constrain (AlwaysEqual g a v aligned)) is told = refl
 statement_told ws (Constrain (AlwaysNoState g a)) is told = refl
-statement_told ws (Constrain (Holds e)) is told = grammar_operands e 0 is.formed
+statement_told ws (Constrain (Holds e)) is told = and_from (has_operands e) true (grammar_operands e 0 is.formed) refl
 statement_told ws (Forbid w a f) is told = refl
-statement_told ws (Aim sense e) is told = grammar_operands e 0 is.formed
+statement_told ws (Aim sense e) is told = and_from (has_operands e) true (grammar_operands e 0 is.formed) refl
+statement_told ws (Rank sense es) is told = logics_told es is.formed
 
 form_told : (ws : List Word) (f : Form) → HasForm ws f → list_all is_told ws ≡ true → is_shaped_form f ≡ true
 form_told ws (Parsed s) has told = statement_told ws s has.1 told

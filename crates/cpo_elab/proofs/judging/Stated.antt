@@ -13,7 +13,7 @@ use Rattle.sched_model.specs.Valid.{IsValid, is_within_limits, is_constraint, is
 use Rattle.cpo_text.specs.declared.tree.Int.{Int}
 use Rattle.cpo_text.specs.declared.cumul.Cumul.{Cumul}
 use Rattle.cpo_text.specs.declared.tree.Hierarchy.{Hierarchy}
-use Rattle.cpo_text.specs.declared.tree.Hierarchy.TheVariants.{Span, Alternative, Synchronize}
+use Rattle.cpo_text.specs.declared.tree.Hierarchy.TheVariants.{Span, Synchronize}
 use Rattle.cpo_text.specs.declared.tree.Over.{Over}
 use Rattle.cpo_text.specs.declared.tree.Over.TheVariants as over
 use Rattle.cpo_text.specs.declared.tree.Spaced.{Spaced}
@@ -26,12 +26,12 @@ use Rattle.cpo_text.specs.declared.tree.Bound.TheVariants.{AtMost, AtLeast}
 use Rattle.cpo_text.specs.declared.tree.Moments.{Moments}
 use Rattle.cpo_text.specs.declared.tree.Moments.TheVariants as moments
 use Rattle.cpo_text.specs.declared.tree.Constrained.{Constrained}
-use Rattle.cpo_text.specs.declared.tree.Constrained.TheVariants.{Between, Parts, NoOverlap, Extreme, Ordered, Bounded, AlwaysIn, AlwaysEqual, AlwaysNoState, Holds}
+use Rattle.cpo_text.specs.declared.tree.Constrained.TheVariants.{Between, Parts, Alternative, NoOverlap, Extreme, Ordered, Bounded, AlwaysIn, AlwaysEqual, AlwaysNoState, Holds}
 use Rattle.cpo_text.specs.declared.tree.Statement.TheVariants.{Constrain}
 use Rattle.cpo_elab.specs.declared.names.Sort.TheVariants.{Interval, Sequence, State}
 use Rattle.cpo_elab.specs.Named.{itv_of, itvs_of, mat_of, seq_of, stf_of, some_in_cumul}
-use Rattle.cpo_elab.specs.Literals.{int_of, int_or_zero}
-use Rattle.cpo_elab.specs.Held.{some_moments, some_height, logic_in}
+use Rattle.cpo_elab.specs.Literals.{int_of, int_or_zero, count_or_one}
+use Rattle.cpo_elab.specs.Held.{some_moments, some_height, some_size, logic_held}
 use Rattle.cpo_elab.specs.Elaborated.{sequence_named, cumul_named, hierarchy_of, extreme_of, order_of, bound_of, window_of, named_itself, cumul_id, constraint_of, with_unnamed, with_listed, with_written}
 use Rattle.cpo_elab.specs.Judged.{is_of_other_sort, is_no_member, is_reversed, is_outside, is_negative, is_large}
 use Rattle.cpo_elab.specs.Shaped.{has_operands}
@@ -75,6 +75,7 @@ written_valid m (AlwaysIn f w lo hi) before facts =
     cumul_written m f (named_itself f) before (always_right m f w lo hi facts) (limits_without (with_written m (AlwaysIn f w lo hi)) (constraint_of m (AlwaysIn f w lo hi)) facts.room)
 written_valid m (Between t a b z) before facts = before
 written_valid m (Parts h a ns) before facts = before
+written_valid m (Alternative a ns n) before facts = before
 written_valid m (Extreme e p a) before facts = before
 written_valid m (Ordered o p a b) before facts = before
 written_valid m (AlwaysEqual g a v aligned) before facts = before
@@ -85,8 +86,16 @@ written_valid m (Holds e) before facts = before
 
 parts_made : (m : Data) (h : Hierarchy) (a : List ℕ) (ns : List (List ℕ)) → (is_itv m (itv_of m a) && are_parts m (itvs_of m ns)) ≡ true → is_constraint m (hierarchy_of h (itv_of m a) (itvs_of m ns)) ≡ true
 parts_made m Span a ns h = h
-parts_made m Alternative a ns h = h
 parts_made m Synchronize a ns h = h
+
+-- a count that isn't negative
+count_small : (n : Option Int) → is_small (count_or_one n) ≡ true
+count_small None = refl
+count_small (Some i) = int_small i
+
+count_there : (a : List ℕ) (ns : List (List ℕ)) (n : Option Int) → some_size is_negative (Constrain (Alternative a ns n)) ≡ false → int_le (pos 0) (count_or_one n) ≡ true
+count_there a ns None h = refl
+count_there a ns (Some i) h = ordered (pos 0) (int_of i) h
 
 next_there : (n : ℕ) → nat_lt n (n + 1) ≡ true
 next_there n = grind (arith, nat_tests)
@@ -154,13 +163,17 @@ always_made m f w lo hi facts =
     (window_grows m n (extends_written m f (named_itself f)) (window_of m w) (window_made m w f lo hi facts))
     (int_small lo) (int_small hi) (ordered (int_of lo) (int_of hi) facts.levels)
 
-constraint_made : (m : Data) (c : Constrained) → IsValid m → passes_if_any has_operands (logic_in (Constrain c)) ≡ true → Facts m (Constrain c) → is_constraint (with_written m c) (constraint_of m c) ≡ true
+constraint_made : (m : Data) (c : Constrained) → IsValid m → passes_if_any has_operands (logic_held c) ≡ true → Facts m (Constrain c) → is_constraint (with_written m c) (constraint_of m c) ≡ true
 constraint_made m (Between t a b z) before shaped facts =
     let uses = or_parts (is_of_other_sort m Interval a) (is_of_other_sort m Interval b) facts.uses in
     all_three (is_itv m (itv_of m a)) (is_itv m (itv_of m b)) (is_small (int_or_zero z)) (right_itv m a uses.0) (right_itv m b uses.1) (delay_small z)
 constraint_made m (Parts h a ns) before shaped facts =
     let uses = or_parts (is_of_other_sort m Interval a) (list_any (is_of_other_sort m Interval) ns) facts.uses in
     parts_made m h a ns (and_from (is_itv m (itv_of m a)) (are_parts m (itvs_of m ns)) (right_itv m a uses.0) (and_from (list_all (is_itv m) (itvs_of m ns)) (are_distinct (itvs_of m ns)) (right_itvs m ns uses.1) facts.once))
+constraint_made m (Alternative a ns n) before shaped facts =
+    let uses = or_parts (is_of_other_sort m Interval a) (list_any (is_of_other_sort m Interval) ns) facts.uses in
+    all_four (is_itv m (itv_of m a)) (are_parts m (itvs_of m ns)) (is_small (count_or_one n)) (int_le (pos 0) (count_or_one n))
+    (right_itv m a uses.0) (and_from (list_all (is_itv m) (itvs_of m ns)) (are_distinct (itvs_of m ns)) (right_itvs m ns uses.1) facts.once) (count_small n) (count_there a ns n facts.sizes)
 constraint_made m (NoOverlap p s) before shaped facts = overlap_made m p s facts
 constraint_made m (Extreme e p a) before shaped facts = extreme_made m e p a (member_made m p a (or_parts (is_of_other_sort m Sequence p) (is_of_other_sort m Interval a) facts.uses).0 facts.joins)
 constraint_made m (Ordered o p a b) before shaped facts = ordered_made m o p a b facts
@@ -175,5 +188,5 @@ constraint_made m (AlwaysNoState g a) before shaped facts =
     and_from (nat_lt (stf_of m g).0 (length m.states)) (is_itv m (itv_of m a)) (right_stf m g uses.0) (right_itv m a uses.1)
 constraint_made m (Holds e) before shaped facts = expr_made m e facts.uses shaped facts.hull
 
-pub constrain_valid : (m : Data) (c : Constrained) → IsValid m → passes_if_any has_operands (logic_in (Constrain c)) ≡ true → Facts m (Constrain c) → IsValid (with_constraint (constraint_of m c) (with_written m c))
+pub constrain_valid : (m : Data) (c : Constrained) → IsValid m → passes_if_any has_operands (logic_held c) ≡ true → Facts m (Constrain c) → IsValid (with_constraint (constraint_of m c) (with_written m c))
 constrain_valid m c before shaped facts = with_constraint_valid (with_written m c) (constraint_of m c) (written_valid m c before facts) (constraint_made m c before shaped facts) facts.room

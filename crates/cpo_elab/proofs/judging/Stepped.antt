@@ -1,5 +1,5 @@
 -- One statement after another.
-use Rattle.std.proofs.Common.{◌≡◌, ℕ, ◌+◌, ◌<◌, ◌≤◌, true, false, not, ◌&&◌, ◌||◌, List, length, drop, get_or, None, nat_lt, sym, ap, subst, ◌∙◌, arith}
+use Rattle.std.proofs.Common.{◌≡◌, ℕ, ◌+◌, ◌<◌, ◌≤◌, true, false, not, ◌&&◌, ◌||◌, List, ◌∷◌, length, drop, get_or, None, Ok, nat_lt, sym, ap, subst, ◌∙◌, arith}
 use Rattle.std.proofs.lemmas.List.{at_drop_more}
 use Rattle.std.proofs.lemmas.Bool.Decides.{nat_tests}
 use Rattle.std.proofs.lemmas.Bool.{and_parts, or_parts}
@@ -13,10 +13,12 @@ use Rattle.cpo_text.specs.declared.text.Reading.{Reading}
 use Rattle.cpo_elab.specs.Named.{is_defined}
 use Rattle.cpo_elab.specs.Held.{some_amount, rows_in}
 use Rattle.cpo_elab.specs.Elaborated.{defined, constraint_of, with_written, after}
-use Rattle.cpo_elab.specs.Judged.{is_large, is_negative, is_wide, leaves_room, statement_limit, aims_again, number_in}
+use Rattle.cpo_elab.specs.Judged.{is_large, is_negative, is_wide, leaves_room, statement_limit, aims_again, has_no_hull, number_in}
 use Rattle.cpo_elab.specs.Stages.{Stage}
 use Rattle.cpo_elab.specs.code.Calendars.{is_of_calendars}
+use Rattle.cpo_elab.specs.Answers.{Answer, after_form, refused_or, judged}
 use Rattle.cpo_elab.specs.code.Judging.{IsClear}
+use Rattle.cpo_elab.specs.code.Steps.{State, Takes}
 use Rattle.cpo_elab.specs.Shaped.{is_shaped, is_shaped_form, are_shaped}
 use Rattle.cpo_elab.proofs.judging.Clear.{clear}
 use Rattle.cpo_elab.proofs.judging.Facts.{Facts}
@@ -72,6 +74,9 @@ can_step m s before shaped clear = valid_after m s before shaped clear
 pub first_aim : (m : Data) (s : Statement) → IsValid m → IsClear m s → aims_again m s ≡ false
 first_aim m s before clear = let f = known m s before clear in f.single
 
+pub hull_there : (m : Data) (s : Statement) → IsValid m → IsClear m s → has_no_hull m s ≡ false
+hull_there m s before clear = let f = known m s before clear in f.hull
+
 -- the trees that are left are as the grammar has them
 
 split : (xs : List Reading) (i : ℕ) (x : Reading) → i < length xs → x ≡ get_or xs i x → are_shaped (drop i xs) ≡ true → (is_shaped_form x.form ≡ true) × (are_shaped (drop (i + 1) xs) ≡ true)
@@ -84,3 +89,15 @@ next_shaped xs i x within at_i shaped = (split xs i x within at_i shaped).0
 
 pub rest_shaped : (xs : List Reading) (i : ℕ) (x : Reading) → i < length xs → x ≡ get_or xs i x → are_shaped (drop i xs) ≡ true → are_shaped (drop (i + 1) xs) ≡ true
 rest_shaped xs i x within at_i shaped = (split xs i x within at_i shaped).1
+
+-- and what is left is judged as before
+
+pub rest_judged : (xs : List Reading) (i : ℕ) (x : Reading) (e next : State) (whole : Answer) → i < length xs → x ≡ get_or xs i x → Takes e x (Ok next)
+    → judged e.stage (e.statements + 1) (drop i xs) ≡ whole → judged next.stage (next.statements + 1) (drop (i + 1) xs) ≡ whole
+rest_judged xs i x e next whole within at_i takes is =
+    let rest : List Reading = drop (i + 1) xs in
+    ap (λ (s : State). judged s.stage (s.statements + 1) rest) takes.1
+    ∙ sym (ap (λ o. refused_or o (e.statements + 1) x.at (judged (after_form e.stage x.form) (e.statements + 1 + 1) rest)) takes.0)
+    ∙ ap (λ y. judged e.stage (e.statements + 1) (y ∷ rest)) at_i
+    ∙ sym (at_drop_more (judged e.stage (e.statements + 1)) xs i x within)
+    ∙ is

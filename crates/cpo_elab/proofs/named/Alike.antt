@@ -29,7 +29,7 @@ constraint_alike : (m : Data) (f g k j : ℕ → ℕ) → Agree (length m.sequen
 constraint_alike m f g k j seqs cums (Temporal from to equal a b z) h = refl
 constraint_alike m f g k j seqs cums (Logic x) h = refl
 constraint_alike m f g k j seqs cums (Span a parts) h = refl
-constraint_alike m f g k j seqs cums (Alternative a parts) h = refl
+constraint_alike m f g k j seqs cums (Alternative a parts n) h = refl
 constraint_alike m f g k j seqs cums (Synchronize a parts) h = refl
 constraint_alike m f g k j seqs cums (NoOverlap p matrix direct) h = ap (λ q. NoOverlap q matrix direct) (seq_alike m f g seqs p (and_parts (is_seq m p) _ h).0)
 constraint_alike m f g k j seqs cums (First p a) h = ap (λ q. First q a) (seq_alike m f g seqs p (seq_of_member m p a h))
@@ -53,7 +53,7 @@ constraint_same : (c : Constraint) → renumbered (λ i. i) (λ i. i) c ≡ c
 constraint_same (Temporal from to equal a b z) = refl
 constraint_same (Logic x) = refl
 constraint_same (Span a parts) = refl
-constraint_same (Alternative a parts) = refl
+constraint_same (Alternative a parts n) = refl
 constraint_same (Synchronize a parts) = refl
 constraint_same (NoOverlap p matrix direct) = refl
 constraint_same (First p a) = refl

@@ -66,7 +66,7 @@ no_table = record {
   names = no_names;
   cell_sum = refl;
   room_sum = refl;
-  valid = record { names = refl; intervals = refl; matrices = refl; sequences = refl; cumuls = refl; states = refl; constraints = refl; objective = refl; limits = refl };
+  valid = record { names = refl; intervals = refl; matrices = refl; sequences = refl; cumuls = refl; states = refl; constraints = refl; objective = refl; criteria = tt; limits = refl };
 }
 
 pub first_draft : (table : List (List ℕ × Meaning)) (m : Data) → table ≡ [] → m ≡ empty_model → IsDraft table 0 100000 m

@@ -15,6 +15,8 @@ use Rattle.sched_model.specs.declared.types.Constraint.{Constraint}
 use Rattle.sched_model.specs.declared.types.Constraint.TheVariants.{Temporal, Logic, Span, Alternative, Synchronize, NoOverlap, First, Last, Before, Prev, CumulIn, AlwaysEqual, AlwaysNoState}
 use Rattle.sched_model.specs.Words.{passes, passes_if_any}
 use Rattle.sched_model.specs.Data.{Data, same, has, sequence_of, parts_of, matrix_of}
+use Rattle.sched_model.specs.Rank.{criteria_of}
+use Rattle.cpo_elab.proofs.adding.Ranked.{criteria_stay}
 use Rattle.sched_model.specs.Valid.{IsValid, is_within_limits, is_constraint, is_seq, is_mat, is_member, is_window, is_small, is_sequence_def, is_cumul_def, all_names, are_names, cell_count, node_total, nodes_of, node_count, pair_count}
 use Rattle.cpo_elab.specs.NamedFirst.{is_named_sequence, is_named_cumul, parted, sequence_place, cumul_place, new_seq, new_cum, renumbered, named_first}
 use Rattle.cpo_elab.proofs.adding.Parted.{sum_parted, length_parted, names_parted}
@@ -53,7 +55,7 @@ constraint_stays : (m : Data) (c : Constraint) → is_constraint (named_first m)
 constraint_stays m (Temporal from to equal a b z) = refl
 constraint_stays m (Logic x) = refl
 constraint_stays m (Span a parts) = refl
-constraint_stays m (Alternative a parts) = refl
+constraint_stays m (Alternative a parts n) = refl
 constraint_stays m (Synchronize a parts) = refl
 constraint_stays m (NoOverlap p matrix direct) =
     λ i. seq_stays m p i && passes_if_any (λ x. is_mat m x && passes (λ ts. passes (λ d. list_all (λ t. nat_lt t d.size) ts) (matrix_of m (Some x))) (sequence_stays m p i).types) matrix
@@ -73,7 +75,7 @@ nodes_stay : (m : Data) (c : Constraint) → nodes_of (renumbered (sequence_plac
 nodes_stay m (Temporal from to equal a b z) = refl
 nodes_stay m (Logic x) = refl
 nodes_stay m (Span a parts) = refl
-nodes_stay m (Alternative a parts) = refl
+nodes_stay m (Alternative a parts n) = refl
 nodes_stay m (Synchronize a parts) = refl
 nodes_stay m (NoOverlap p matrix direct) = refl
 nodes_stay m (First p a) = refl
@@ -98,7 +100,7 @@ cells_stay : (m : Data) → cell_count (named_first m) ≡ cell_count m
 cells_stay m = ap (λ n. 5 * length m.intervals + n) (sum_parted (λ d. pair_count (length d.members)) is_named_sequence m.sequences)
 
 total_stays : (m : Data) → node_total (named_first m) ≡ node_total m
-total_stays m = λ i. all_nodes_stay m m.constraints i + sum_by (λ o. node_count o.expr) (option_to_list m.objective) + sum_parted (λ f. length f.parts) is_named_cumul m.cumuls i
+total_stays m = λ i. all_nodes_stay m m.constraints i + sum_by (λ o. sum_by node_count (criteria_of o)) (option_to_list m.objective) + sum_parted (λ f. length f.parts) is_named_cumul m.cumuls i
 
 limits_stay : (m : Data) → is_within_limits (named_first m) ≡ is_within_limits m
 limits_stay m = λ i.
@@ -116,5 +118,6 @@ stays_valid m before = record {
   states = before.states;
   constraints = constraints_stay m m.constraints ∙ before.constraints;
   objective = before.objective;
+  criteria = criteria_stay m (named_first m) (λ e. refl) m.objective before.criteria;
   limits = limits_stay m ∙ before.limits;
 }

@@ -34,7 +34,7 @@ use Rattle.cpo_elab.proofs.adding.Growing.{is_tree}
 use Rattle.cpo_elab.proofs.named.Ids.{right_itv}
 use Rattle.cpo_elab.proofs.values.Amounts.{literal_small, delay_small}
 
-abbrev Made : Data → Logic → Type 0
+abbrev pub Made : Data → Logic → Type 0
 Made m e = some_in_logic (is_of_other_sort m) e ≡ false → has_operands e ≡ true → is_tree m (expr_of m e) ≡ true
 
 abbrev Part : Data → Type 0
@@ -96,7 +96,7 @@ level m (Compare op p q) right shaped = rolled m (Expr-F.Compare (compare_of op)
 level m (Not p) right shaped = rolled m (Expr-F.Not (expr_of m p.0)) (p.1 right shaped)
 level m (Implies p q) right shaped = rolled m (Expr-F.Implies (expr_of m p.0) (expr_of m q.0)) (two_trees m p q right shaped)
 
-made : (m : Data) (e : Logic) → Made m e
+pub made : (m : Data) (e : Logic) → Made m e
 made m = ind-Logic (Made m) (λ x y is. subst (λ z. Made m (roll-Logic z)) is (λ right shaped.
     rw (fold-roll-Logic Expr (expr_step m), composed (Made m) Expr (expr_of m) y)
     (level m y (rw (fold-roll-Logic Bool (logic_step (is_of_other_sort m)), composed (Made m) Bool (some_in_logic (is_of_other_sort m)) y) at right)

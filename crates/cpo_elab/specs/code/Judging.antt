@@ -1,11 +1,15 @@
 -- What judging a statement answers.
-use Rattle.std.specs.Prelude.{◌≡◌, ℕ, [], ◌∷◌, Option, Some, None, option_map}
+use Rattle.std.specs.Prelude.{◌≡◌, ℕ, List, [], ◌∷◌, map, Option, Some, None}
 use Rattle.sched_model.specs.Data.{Data}
 use Rattle.cpo_elab.specs.Stages.{Stage}
 use Rattle.cpo_text.specs.declared.tree.Statement.{Statement}
 use Rattle.cpo_elab.specs.declared.judge.Judgement.{Judgement}
 use Rattle.cpo_elab.specs.declared.judge.Judgement.TheVariants.{Refused, Taken}
-use Rattle.cpo_elab.specs.Held.{logic_in}
+use Rattle.cpo_elab.specs.declared.holding.Written.{Written}
+use Rattle.cpo_elab.specs.declared.holding.Written.TheVariants.{Nothing, One, Several}
+use Rattle.sched_model.specs.declared.types.Expr.{Expr}
+use Rattle.sched_model.specs.Rank.{rank_within}
+use Rattle.cpo_elab.specs.Held.{logics_in}
 use Rattle.cpo_elab.specs.Elaborated.{expr_of}
 use Rattle.cpo_elab.specs.Judged.{defines_again, uses_unknown, uses_wrong, has_reversed, has_negative, misfits, has_twice, passes_limit, aims_again, has_no_hull, has_crowded, first_of, number_in}
 
@@ -22,7 +26,16 @@ late_number st s = first_of ((has_no_hull st.model s, 13) ∷ (has_crowded s, 14
 abbrev pub IsClear : Data → Statement → Type 0
 IsClear m s = (st : Stage) × (k : ℕ) × (st.model ≡ m) × (number_in st k s ≡ None)
 
--- the number that the statement deserves, or that it deserves none, and the expression that it holds
+-- the expressions that a statement holds: none, one, or several with their rank, if they have one
+abbrev pub written_of : Data → List Expr → Written
+written_of m [] = Nothing
+written_of m (e ∷ []) = One e
+written_of m es = Several es (rank_within m es)
+
+abbrev pub written_in : Data → Statement → Written
+written_in m s = written_of m (map (expr_of m) (logics_in s))
+
+-- the number that the statement deserves, or that it deserves none, and the expressions that it holds
 abbrev pub Judges : Stage → ℕ → Statement → Judgement → Type 0
 Judges st k s (Refused n) = number_in st k s ≡ Some n
-Judges st k s (Taken written) = (number_in st k s ≡ None) × (written ≡ option_map (expr_of st.model) (logic_in s))
+Judges st k s (Taken written) = (number_in st k s ≡ None) × (written ≡ written_in st.model s)

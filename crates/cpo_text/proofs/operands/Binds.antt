@@ -5,7 +5,7 @@ use Rattle.std.proofs.lemmas.Slice.Eq.{bytes_eq-Decides}
 use Rattle.std.proofs.lemmas.Option.{same_Some}
 use Rattle.cpo_text.specs.Words.{Word, is_sign}
 use Rattle.cpo_text.specs.Words.Word.{name, number, large, sign, quoted}
-use Rattle.cpo_text.specs.code.Rules.{Found, bound, behind, if_behind, name_at}
+use Rattle.cpo_text.specs.code.Rules.{Found, bound, behind, behind_word, if_behind, name_at}
 
 pub record Bound {X Y : Type 0} (o : Found X) (f : X → List Word → Found Y) (y : Y) (rest : List Word) : Type 0 where
   pub tree : X
@@ -63,3 +63,20 @@ name_takes (number b ∷ ws) n r h = cc
 name_takes (large ∷ ws) n r h = cc
 name_takes (sign b ∷ ws) n r h = cc
 name_takes (quoted ∷ ws) n r h = cc
+
+pub word_takes : (n : List ℕ) (ws r : List Word) → behind_word n ws ≡ Some r → ws ≡ name n ∷ r
+unfolding behind_word
+word_takes n [] r h = cc
+word_takes n (number m ∷ ws) r h = cc
+word_takes n (large ∷ ws) r h = cc
+word_takes n (sign s ∷ ws) r h = cc
+word_takes n (quoted ∷ ws) r h = cc
+word_takes n (name b ∷ ws) r h = decided (bytes_eq b n) refl h
+  where
+    decided : (t : Bool) → bytes_eq b n ≡ t → cond t (Some ws) None ≡ Some r → name b ∷ ws ≡ name n ∷ r
+    decided true is h = let e : ws ≡ r = cc in both (λ x xs. name x ∷ xs) (bytes_same b n is) e
+    decided false is h = cc
+
+pub word_again : (n : List ℕ) (r : List Word) → behind_word n (name n ∷ r) ≡ Some r
+unfolding behind_word
+word_again n r = rw (bytes_self n) refl

@@ -253,7 +253,7 @@ gathered_again g (p ∷ ps) rest f some tight big =
     subst (λ xs. behind (codes "]") xs ≡ None) (sym (ap (λ xs. xs ++ closing) front.1 ∙ append_assoc (logic_words p.0) front.0 closing))
     (no_square (logic_words p.0 ++ (front.0 ++ closing)) (front_append (logic_words p.0) (front.0 ++ closing) 0 (words_open p.0 0 (and_first _ _ tight)))) in
     let got = items_again p ps closing f tight refl refl big in
-    ap (gathered_at g (read f items)) (gathered_words g (trees (p ∷ ps)) rest) ∙ rw (open', got) refl
+    ap (gathered_at g (read f items)) (gathered_words (trees (p ∷ ps)) rest) ∙ rw (open', got) refl
 
 own_gathered : (g : Gather) (ps : List Known) → gathers g (map level (trees ps)) ≡ true → all_tight 0 (trees ps) ≡ true → Own (gathered g (trees ps)) 7
 own_gathered g ps some tight = subst (λ ws. (rest : List Word) → ends (signs 7) rest ≡ true → Gets atom (ws ++ rest) (gathered g (trees ps)) rest (20 * length ws + 0)) (sym (Nodes.words_gathered g (trees ps))) got
@@ -387,3 +387,20 @@ step_again (Implies p q) = at_level (implies p.0 q.0) 0 _ (Nodes.level_implies p
 
 pub again : (e : Logic) → Again e
 again = ind-Logic Again (λ x y is. subst (λ z. Again (roll-Logic z)) is (step_again y))
+
+-- a list of expressions is read as it is spelled
+
+known : List Logic → List Known
+known es = map (λ e. (e, again e)) es
+
+trees_known : (es : List Logic) → trees (known es) ≡ es
+unfolding known
+trees_known [] = refl
+trees_known (e ∷ es) = ap (λ xs. e ∷ xs) (trees_known es)
+
+pub list_again : (e : Logic) (es : List Logic) (rest : List Word) (f : ℕ) → all_tight 0 (e ∷ es) ≡ true → ends (signs 0) rest ≡ true → behind (codes ",") rest ≡ None
+    → 20 * length (commas (map logic_words (e ∷ es))) + 12 ≤ f → ◌≡◌ {A = Trees} (read f items (commas (map logic_words (e ∷ es)) ++ rest)) (Some (e ∷ es, rest))
+list_again e es rest f =
+    let Reread : List Logic → Type 0 = λ xs. all_tight 0 (e ∷ xs) ≡ true → ends (signs 0) rest ≡ true → behind (codes ",") rest ≡ None
+    → 20 * length (commas (map logic_words (e ∷ xs))) + 12 ≤ f → ◌≡◌ {A = Trees} (read f items (commas (map logic_words (e ∷ xs)) ++ rest)) (Some (e ∷ xs, rest)) in
+    subst Reread (trees_known es) (items_again (e, again e) (known es) rest f)

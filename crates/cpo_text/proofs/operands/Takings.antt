@@ -162,10 +162,10 @@ gather_is n g h = by_word (bytes_eq n (codes "max")) refl (bytes_eq n (codes "mi
     by_word false is false e true f h = bytes_same n (codes "sum") f ∙ ap gather_word (same_Some gather.Sum g h)
     by_word false is false e false f h = cc
 
--- what stands behind a gather's brackets
-pub gathered_words : (g : Gather) (es : List Logic) (rest : List Word)
+-- what stands behind a list's brackets
+pub gathered_words : (es : List Logic) (rest : List Word)
     → round (commas (square (map logic_words es) ∷ [])) ++ rest ≡ sign (codes "(") ∷ sign (codes "[") ∷ commas (map logic_words es) ++ sign (codes "]") ∷ sign (codes ")") ∷ rest
-gathered_words g es rest =
+gathered_words es rest =
     ap (λ xs. sign (codes "(") ∷ sign (codes "[") ∷ xs) (append_assoc (commas (map logic_words es) ++ sign (codes "]") ∷ []) (sign (codes ")") ∷ []) rest ∙ append_assoc (commas (map logic_words es)) (sign (codes "]") ∷ []) (sign (codes ")") ∷ rest))
 
 gathers_some : (g : Gather) (x : Logic) (xs : List Logic) → gathers g (map level (x ∷ xs)) ≡ true
@@ -208,7 +208,7 @@ behind_took list lists g ws es rest h = by_close (behind (codes "]") ws) refl h
         let some : List Logic = all.first ∷ all.others in
         known (gathered g some) _ (name (gather_word g) ∷ sign (codes "(") ∷ sign (codes "[") ∷ ws) es r.words rest (gathered_tight g some (gathers_some g all.first all.others) all.tight) (Nodes.words_gathered g some)
         (ap (λ xs. name (gather_word g) ∷ xs) (ap (λ xs. sign (codes "(") ∷ sign (codes "[") ∷ xs) (all.spelt ∙ ap (λ xs. commas (map logic_words some) ++ xs)
-        (behind_takes (codes "]") p.words q.words q.first ∙ ap (λ xs. sign (codes "]") ∷ xs) (behind_takes (codes ")") q.words r.words r.first))) ∙ sym (gathered_words g some r.words)))
+        (behind_takes (codes "]") p.words q.words q.first ∙ ap (λ xs. sign (codes "]") ∷ xs) (behind_takes (codes ")") q.words r.words r.first))) ∙ sym (gathered_words some r.words)))
         (ap (λ (xs : List Logic). let x : List Logic × List Word = (gathered g xs ∷ [], r.words) in Some x) (sym all.are) ∙ r.then)
 
 gathered_took : (list : List Word → Trees) → Lists list → (g : Gather) (ws : List Word) (es : List Logic) (rest : List Word) → gathered_at g list ws ≡ Some (es, rest) → One 7 (name (gather_word g) ∷ ws) es rest

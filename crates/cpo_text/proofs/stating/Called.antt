@@ -4,10 +4,10 @@ use Rattle.std.specs.Prelude.{codes, bytes_eq, option_to_list}
 use Rattle.std.proofs.lemmas.Bool.{eqb-true}
 use Rattle.cpo_text.specs.Words.{Word, commas, square, round}
 use Rattle.cpo_text.specs.Words.Word.{name, number, large, sign, quoted}
-use Rattle.cpo_text.specs.Spelling.{int_words, name_words, names_words, ints_words, flag_words, given, types_items, step_words, definition_words, hierarchy_word, extreme_word, order_word, over_words, spaced_items, aligned_items, constraint_words, is_formed}
-use Rattle.cpo_text.specs.code.Rules.{Found, bound, behind, if_behind, name_at, int_at}
+use Rattle.cpo_text.specs.Spelling.{int_words, int_items, name_words, names_words, ints_words, flag_words, given, types_items, step_words, definition_words, hierarchy_word, extreme_word, order_word, over_words, spaced_items, aligned_items, constraint_words, is_formed}
+use Rattle.cpo_text.specs.code.Rules.{Found, bound, behind, if_behind, name_at, int_at, int_behind}
 use Rattle.cpo_text.specs.code.Lists.{names_at, ints_at, rows_at, steps_at}
-use Rattle.cpo_text.specs.code.Calls.{maybe_at, flag_at, types_given_at, types_at, sequence_at, matrix_at, state_function_at, step_function_at, parts_at, over_at, direct_at, spaced_at, spacing_at, no_overlap_at, pair_at, extreme_at, ordered_at, flags_at, aligned_at, always_equal_at, always_no_state_at}
+use Rattle.cpo_text.specs.code.Calls.{maybe_at, flag_at, types_given_at, types_at, sequence_at, matrix_at, state_function_at, step_function_at, parts_at, alternative_at, over_at, direct_at, spaced_at, spacing_at, no_overlap_at, pair_at, extreme_at, ordered_at, flags_at, aligned_at, always_equal_at, always_no_state_at}
 use Rattle.cpo_text.specs.declared.tree.Int.{Int}
 use Rattle.cpo_text.specs.declared.tree.StepPair.{StepPair}
 use Rattle.cpo_text.specs.declared.tree.Definition.{Definition}
@@ -22,7 +22,7 @@ use Rattle.cpo_text.specs.declared.tree.Constrained.{Constrained}
 use Rattle.cpo_text.specs.declared.tree.Constrained.TheVariants as constrained
 use Rattle.cpo_text.specs.declared.tree.Statement.TheVariants.{Define, Constrain}
 use Rattle.cpo_text.proofs.operands.Binds.{both, bound_parts, need_parts, some_pair, bytes_same, behind_takes, name_takes}
-use Rattle.cpo_text.proofs.operands.Takes.{int_takes}
+use Rattle.cpo_text.proofs.operands.Takes.{int_takes, behind_words, int_behind_takes}
 use Rattle.cpo_text.proofs.listing.Listed.{names_spells, ints_spells, rows_spells, steps_spells}
 
 -- words in a row
@@ -31,7 +31,7 @@ then_words : (ws x mid y rest : List Word) → ws ≡ x ++ mid → mid ≡ y ++ 
 then_words ws x mid y rest a b = a ∙ ap (λ xs. x ++ xs) b ∙ sym (append_assoc x y rest)
 
 -- between round brackets
-closed_words : (ws r inner words r2 rest : List Word) → ws ≡ sign (codes "(") ∷ r → r ≡ inner ++ words → words ≡ sign (codes ")") ∷ r2 → r2 ≡ rest → ws ≡ round inner ++ rest
+pub closed_words : (ws r inner words r2 rest : List Word) → ws ≡ sign (codes "(") ∷ r → r ≡ inner ++ words → words ≡ sign (codes ")") ∷ r2 → r2 ≡ rest → ws ≡ round inner ++ rest
 closed_words ws r inner words r2 rest a b c d = a ∙ ap (λ xs. sign (codes "(") ∷ xs) (b ∙ ap (λ xs. inner ++ xs) (c ∙ ap (λ xs. sign (codes ")") ∷ xs) d) ∙ sym (append_assoc inner (sign (codes ")") ∷ []) rest))
 
 -- behind a comma, or nothing
@@ -199,6 +199,27 @@ parts_takes t ws c rest h =
     let words : ws ≡ round (commas (name_words a.tree ∷ names_words n.tree ∷ [])) ++ rest =
     closed_words ws p.words (commas (name_words a.tree ∷ names_words n.tree ∷ [])) n.words r.words rest (behind_takes (codes "(") ws p.words p.first) inner (behind_takes (codes ")") n.words r.words r.first) e.1 in
     subst (λ x. IsConstraint (hierarchy_word t) ws x rest) e.0 (refl, ap (λ xs. name (hierarchy_word t) ∷ xs) words)
+
+pub counted_words : (ns : List (List ℕ)) (o : Option Int) → commas (names_words ns ∷ int_items o) ≡ names_words ns ++ behind_words (codes ",") o
+counted_words ns None = sym (append-nil (names_words ns))
+counted_words ns (Some n) = refl
+
+pub alternative_takes : (ws : List Word) (c : Constrained) (rest : List Word) → alternative_at ws ≡ Some (c, rest) → IsConstraint (codes "alternative") ws c rest
+unfolding alternative_at
+alternative_takes ws c rest h =
+    let p = need_parts (behind (codes "(") ws) _ c rest h in
+    let a = bound_parts (name_at p.words) _ c rest p.then in
+    let q = need_parts (behind (codes ",") a.words) _ c rest a.then in
+    let n = bound_parts (names_at q.words) _ c rest q.then in
+    let o = bound_parts (int_behind (codes ",") n.words) _ c rest n.then in
+    let r = need_parts (behind (codes ")") o.words) _ c rest o.then in
+    let e = some_pair (constrained.Alternative a.tree n.tree o.tree) c r.words rest r.then in
+    let counted = then_words q.words (names_words n.tree) n.words (behind_words (codes ",") o.tree) o.words (names_spells.takes q.words n.tree n.words n.first) (int_behind_takes (codes ",") n.words o.tree o.words o.first)
+    ∙ ap (λ xs. xs ++ o.words) (sym (counted_words n.tree o.tree)) in
+    let inner = name_comma p.words a.tree a.words q.words a.first q.first ∙ ap (λ xs. name a.tree ∷ sign (codes ",") ∷ xs) counted in
+    let words : ws ≡ round (commas (name_words a.tree ∷ names_words n.tree ∷ int_items o.tree)) ++ rest =
+    closed_words ws p.words (commas (name_words a.tree ∷ names_words n.tree ∷ int_items o.tree)) o.words r.words rest (behind_takes (codes "(") ws p.words p.first) inner (behind_takes (codes ")") o.words r.words r.first) e.1 in
+    subst (λ x. IsConstraint (codes "alternative") ws x rest) e.0 (refl, ap (λ xs. name (codes "alternative") ∷ xs) words)
 
 over_takes : (ws : List Word) (p : Over) (rest : List Word) → over_at ws ≡ Some (p, rest) → ws ≡ over_words p ++ rest
 unfolding over_at

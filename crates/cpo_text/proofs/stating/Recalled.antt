@@ -3,9 +3,9 @@ use Rattle.std.proofs.Common.{◌≡◌, ℕ, Bool, true, false, List, [], ◌�
 use Rattle.std.specs.Prelude.{codes, option_to_list}
 use Rattle.cpo_text.specs.Words.{Word, commas, square, round}
 use Rattle.cpo_text.specs.Words.Word.{name, sign}
-use Rattle.cpo_text.specs.Spelling.{int_words, name_words, names_words, ints_words, flag_words, types_items, step_words, over_words, spaced_items, aligned_items}
+use Rattle.cpo_text.specs.Spelling.{int_words, int_items, name_words, names_words, ints_words, flag_words, types_items, step_words, over_words, spaced_items, aligned_items}
 use Rattle.cpo_text.specs.code.Rules.{Found, behind}
-use Rattle.cpo_text.specs.code.Calls.{maybe_at, flag_at, types_given_at, types_at, sequence_at, matrix_at, state_function_at, step_function_at, parts_at, over_at, direct_at, spaced_at, spacing_at, no_overlap_at, pair_at, extreme_at, ordered_at, flags_at, aligned_at, always_equal_at, always_no_state_at}
+use Rattle.cpo_text.specs.code.Calls.{maybe_at, flag_at, types_given_at, types_at, sequence_at, matrix_at, state_function_at, step_function_at, parts_at, alternative_at, over_at, direct_at, spaced_at, spacing_at, no_overlap_at, pair_at, extreme_at, ordered_at, flags_at, aligned_at, always_equal_at, always_no_state_at}
 use Rattle.cpo_text.specs.declared.tree.Int.{Int}
 use Rattle.cpo_text.specs.declared.tree.StepPair.{StepPair}
 use Rattle.cpo_text.specs.declared.tree.Definition.TheVariants.{SequenceVar, TransitionMatrix, StateFunction, StepFunction}
@@ -16,9 +16,10 @@ use Rattle.cpo_text.specs.declared.tree.Spaced.{Spaced}
 use Rattle.cpo_text.specs.declared.tree.Extreme.{Extreme}
 use Rattle.cpo_text.specs.declared.tree.Order.{Order}
 use Rattle.cpo_text.specs.declared.tree.Constrained.TheVariants as constrained
-use Rattle.cpo_text.proofs.stating.Again.{int_again}
+use Rattle.cpo_text.proofs.operands.Takes.{behind_words}
+use Rattle.cpo_text.proofs.stating.Again.{int_again, int_behind_again}
 use Rattle.cpo_text.proofs.listing.Listed.{names_spells, ints_spells, rows_spells, steps_spells}
-use Rattle.cpo_text.proofs.stating.Called.{maybe_words, flags_words, types_words, spaced_words, sequence_words, no_overlap_words, state_words}
+use Rattle.cpo_text.proofs.stating.Called.{maybe_words, flags_words, types_words, spaced_words, sequence_words, counted_words, no_overlap_words, state_words}
 
 -- the closing bracket and what follows
 abbrev close : List Word → List Word
@@ -83,6 +84,16 @@ step_function_again ps rest some = ap step_function_at (opened (square (map step
 pub parts_again : (t : Hierarchy) (a : List ℕ) (ns : List (List ℕ)) (rest : List Word) → parts_at t (round (commas (name_words a ∷ names_words ns ∷ [])) ++ rest) ≡ Some (constrained.Parts t a ns, rest)
 unfolding parts_at
 parts_again t a ns rest = ap (parts_at t) (opened (commas (name_words a ∷ names_words ns ∷ [])) rest) ∙ rw (names_spells.again ns (close rest)) refl
+
+pub alternative_again : (a : List ℕ) (ns : List (List ℕ)) (o : Option Int) (rest : List Word)
+    → alternative_at (round (commas (name_words a ∷ names_words ns ∷ int_items o)) ++ rest) ≡ Some (constrained.Alternative a ns o, rest)
+unfolding alternative_at
+alternative_again a ns o rest =
+    let counted = counted_words ns o in
+    let words : round (commas (name_words a ∷ names_words ns ∷ int_items o)) ++ rest ≡ sign (codes "(") ∷ name a ∷ sign (codes ",") ∷ names_words ns ++ (behind_words (codes ",") o ++ close rest) =
+    opened (commas (name_words a ∷ names_words ns ∷ int_items o)) rest
+    ∙ ap (λ xs. sign (codes "(") ∷ name a ∷ sign (codes ",") ∷ xs) (ap (λ xs. xs ++ close rest) counted ∙ append_assoc (names_words ns) (behind_words (codes ",") o) (close rest)) in
+    ap alternative_at words ∙ rw (names_spells.again ns (behind_words (codes ",") o ++ close rest)) (rw (int_behind_again (codes ",") o (close rest) refl) refl)
 
 over_again : (p : Over) (rest : List Word) → over_at (over_words p ++ rest) ≡ Some (p, rest)
 unfolding over_at

@@ -1,14 +1,14 @@
 -- What is spelled as a statement is read as that statement.
 use Rattle.std.proofs.Common.{◌≡◌, ℕ, ◌+◌, ◌*◌, ◌≤◌, Bool, true, false, ◌&&◌, ◌||◌, cond, List, [], ◌∷◌, ◌++◌, length, map, Option, Some, None, refl, sym, ap, subst, ◌∙◌, arith, append_assoc, length-append}
 use Rattle.std.specs.Prelude.{codes, bytes_eq, if◌then◌else◌}
-use Rattle.cpo_text.specs.Words.{Word, is_sign, between, commas, round}
+use Rattle.cpo_text.specs.Words.{Word, is_sign, between, commas, round, call}
 use Rattle.cpo_text.specs.Words.Word.{name, number, large, sign, quoted}
-use Rattle.cpo_text.specs.Expressions.{measure_word, gather_word, link_sign, link_level, sum_words, logic_step, logic_words, level_step, level, at_least, all_at_least, are_many, is_logic}
+use Rattle.cpo_text.specs.Expressions.{measure_word, gather_word, link_sign, link_level, square, sum_words, logic_step, logic_words, level_step, level, at_least, all_at_least, are_many, is_logic, are_logics}
 use Rattle.cpo_text.specs.Cumulative.{cumul_words}
 use Rattle.cpo_text.specs.Spelling.{int_words, int_items, name_words, names_words, over_words, spaced_items, moments_items, aligned_items, bound_sign, definition_words, constraint_words, forbidden_word, sense_word, statement_body, spelling, is_formed}
-use Rattle.cpo_text.specs.code.Rules.{behind, if_found, name_at, name_before}
+use Rattle.cpo_text.specs.code.Rules.{behind, behind_word, if_found, name_at, name_before}
 use Rattle.cpo_text.specs.code.CallWords.{is_call, definition_word_at, behind_minus, begins_part, begins_cumul}
-use Rattle.cpo_text.specs.code.Statements.{one_of, logic_at, holds_at, aim_at, defined_at, definition_at, constraint_at, forbid_at, called_at, named_at, clause_at, body_at, statement_at}
+use Rattle.cpo_text.specs.code.Statements.{one_of, logic_at, holds_at, criteria_at, rank_at, aim_at, defined_at, definition_at, constraint_at, forbid_at, called_at, named_at, clause_at, body_at, statement_at}
 use Rattle.cpo_text.specs.declared.expression.Measure.{Measure}
 use Rattle.cpo_text.specs.declared.expression.Measure.TheVariants.{StartOf, EndOf, SizeOf, LengthOf}
 use Rattle.cpo_text.specs.declared.expression.Gather.{Gather}
@@ -30,16 +30,17 @@ use Rattle.cpo_text.specs.declared.tree.Constrained.TheVariants as constrained
 use Rattle.cpo_text.specs.declared.tree.Forbidden.{Forbidden}
 use Rattle.cpo_text.specs.declared.tree.Sense.{Sense}
 use Rattle.cpo_text.specs.declared.tree.Statement.{Statement}
-use Rattle.cpo_text.specs.declared.tree.Statement.TheVariants.{Empty, Define, Constrain, Forbid, Aim}
-use Rattle.cpo_text.proofs.operands.Binds.{sign_same}
+use Rattle.cpo_text.specs.declared.tree.Statement.TheVariants.{Empty, Define, Constrain, Forbid, Aim, Rank}
+use Rattle.cpo_text.proofs.operands.Binds.{bytes_same, sign_same, word_again}
 use Rattle.cpo_text.proofs.stating.Again.{interval_again, between_again}
 use Rattle.cpo_text.proofs.stating.Tables.{definition_name, definition_found, part_no_call, constraint_name, IsOther, constraint_other, constraint_found, sense_other, sense_found, forbidden_other, forbidden_found}
 use Rattle.cpo_text.proofs.levelled.PartsAgain.{cumul_again, cumul_long, cumul_sign, cumul_begins, cumul_undefined, cumul_no_definition, bound_after, bound_no_equals, bounded_again, always_in_again}
-use Rattle.cpo_text.proofs.stating.Recalled.{sequence_again, matrix_again, state_function_again, step_function_again, parts_again, no_overlap_again, pair_again, extreme_again, ordered_again, always_equal_again, always_no_state_again}
+use Rattle.cpo_text.proofs.stating.Recalled.{sequence_again, matrix_again, state_function_again, step_function_again, parts_again, alternative_again, no_overlap_again, pair_again, extreme_again, ordered_again, always_equal_again, always_no_state_again}
 use Rattle.cpo_text.proofs.operands.Nodes.{and_first, and_second, is_so}
 use Rattle.cpo_text.proofs.operands.Openings.{front_between, front_sum}
 use Rattle.cpo_text.proofs.operands.Ends.{signs, ends}
-use Rattle.cpo_text.proofs.operands.Owns.{again}
+use Rattle.cpo_text.proofs.operands.Owns.{again, list_again}
+use Rattle.cpo_text.proofs.operands.Takings.{gathered_words}
 use Rattle.cpo_text.specs.lemmas.Folds.{composed}
 
 -- how an expression begins, with no minus: with no name, or with one of its call words and a bracket
@@ -202,10 +203,44 @@ holds_again : (f : ℕ) (e : Logic) (rest : List Word) → is_logic e ≡ true �
 unfolding holds_at
 holds_again f e rest tight end big = rw (logic_again f e rest tight end big) refl
 
+-- no expression begins with the word of an objective that has several
+front_single : (ws : List Word) → front ws ≡ true → behind_word (codes "staticLex") ws ≡ None
+unfolding behind_word
+front_single [] h = cc
+front_single (name n ∷ []) h = cc
+front_single (number n ∷ ws) h = refl
+front_single (large ∷ ws) h = refl
+front_single (sign s ∷ ws) h = refl
+front_single (quoted ∷ ws) h = cc
+front_single (name n ∷ w ∷ ws) h = decided (bytes_eq n (codes "staticLex")) refl
+  where
+    decided : (b : Bool) → bytes_eq n (codes "staticLex") ≡ b → cond b (Some (w ∷ ws)) None ≡ None
+    decided false is = refl
+    decided true is = let wrong = subst (λ m. is_call m ≡ true) (bytes_same n (codes "staticLex") is) (and_first (is_call n) (is_sign (codes "(") w) h) in cc
+
 aim_again : (f : ℕ) (s : Sense) (e : Logic) (rest : List Word) → is_logic e ≡ true → 20 * length (logic_words e) + 11 ≤ f → aim_at f s (round (logic_words e) ++ rest) ≡ Some (Aim s e, rest)
 unfolding aim_at
 aim_again f s e rest tight big =
-    ap (λ xs. aim_at f s (sign (codes "(") ∷ xs)) (append_assoc (logic_words e) (sign (codes ")") ∷ []) rest) ∙ rw (logic_again f e (sign (codes ")") ∷ rest) tight refl big) refl
+    let close : List Word = sign (codes ")") ∷ rest in
+    let start = starts_append (logic_words e) close (words_start e 0 tight) in
+    let single = front_single (logic_words e ++ close) start.first in
+    ap (λ xs. aim_at f s (sign (codes "(") ∷ xs)) (append_assoc (logic_words e) (sign (codes ")") ∷ []) rest) ∙ rw single (rw (logic_again f e close tight refl big) refl)
+
+criteria_again : (f : ℕ) (es : List Logic) (rest : List Word) → are_logics es ≡ true → 20 * length (commas (map logic_words es)) + 12 ≤ f → criteria_at f (round (square (map logic_words es)) ++ rest) ≡ Some (es, rest)
+unfolding criteria_at
+criteria_again f [] rest formed big = cc
+criteria_again f (e ∷ es) rest formed big =
+    let got = list_again e es (sign (codes "]") ∷ sign (codes ")") ∷ rest) f (and_second _ _ formed) refl refl big in
+    ap (criteria_at f) (gathered_words (e ∷ es) rest) ∙ rw got refl
+
+rank_again : (f : ℕ) (s : Sense) (es : List Logic) (rest : List Word) → are_logics es ≡ true → 20 * length (commas (map logic_words es)) + 12 ≤ f
+    → aim_at f s (round (call (codes "staticLex") (square (map logic_words es) ∷ [])) ++ rest) ≡ Some (Rank s es, rest)
+unfolding aim_at rank_at
+rank_again f s es rest formed big =
+    let inner : List Word = round (square (map logic_words es)) in
+    let close : List Word = sign (codes ")") ∷ rest in
+    let words : (inner ++ sign (codes ")") ∷ []) ++ rest ≡ inner ++ close = append_assoc inner (sign (codes ")") ∷ []) rest in
+    ap (λ xs. aim_at f s (sign (codes "(") ∷ name (codes "staticLex") ∷ xs)) words ∙ rw (word_again (codes "staticLex") (inner ++ close)) (rw (criteria_again f es close formed big) refl)
 
 -- definitions
 
@@ -249,6 +284,11 @@ aim_called : (f : ℕ) (s : Sense) (e : Logic) (rest : List Word) → is_logic e
 unfolding called_at
 aim_called f s e rest tight big = let found = sense_found s in rw (found.0, found.1) (aim_again f s e rest tight big)
 
+rank_called : (f : ℕ) (s : Sense) (es : List Logic) (rest : List Word) → are_logics es ≡ true → 20 * length (commas (map logic_words es)) + 12 ≤ f
+    → called_at f (sense_word s) (round (call (codes "staticLex") (square (map logic_words es) ∷ [])) ++ rest) ≡ Some (Rank s es, rest)
+unfolding called_at
+rank_called f s es rest formed big = let found = sense_found s in rw (found.0, found.1) (rank_again f s es rest formed big)
+
 forbid_again : (w : Forbidden) (a s : List ℕ) (rest : List Word) → forbid_at w (round (commas (name_words a ∷ name_words s ∷ [])) ++ rest) ≡ Some (Forbid w a s, rest)
 unfolding forbid_at
 forbid_again w a s rest = rw (pair_again a s rest) refl
@@ -269,6 +309,8 @@ constraint_again : (f : ℕ) (c : Constrained) (rest : List Word) → is_formed 
 unfolding constraint_at body_at clause_at
 constraint_again f (constrained.Between t a b z) rest formed big = call_again f (words.Between t) (constrained.Between t a b z) (commas (name_words a ∷ name_words b ∷ int_items z)) (sign (codes ";") ∷ rest) (between_again t a b z (sign (codes ";") ∷ rest))
 constraint_again f (constrained.Parts h a ns) rest formed big = call_again f (words.Parts h) (constrained.Parts h a ns) (commas (name_words a ∷ names_words ns ∷ [])) (sign (codes ";") ∷ rest) (parts_again h a ns (sign (codes ";") ∷ rest))
+constraint_again f (constrained.Alternative a ns n) rest formed big =
+    call_again f words.Alternative (constrained.Alternative a ns n) (commas (name_words a ∷ names_words ns ∷ int_items n)) (sign (codes ";") ∷ rest) (alternative_again a ns n (sign (codes ";") ∷ rest))
 constraint_again f (constrained.NoOverlap p s) rest formed big = call_again f words.NoOverlap (constrained.NoOverlap p s) (commas (over_words p ∷ spaced_items s)) (sign (codes ";") ∷ rest) (no_overlap_again p s (sign (codes ";") ∷ rest))
 constraint_again f (constrained.Extreme e p a) rest formed big = call_again f (words.Extreme e) (constrained.Extreme e p a) (commas (name_words p ∷ name_words a ∷ [])) (sign (codes ";") ∷ rest) (extreme_again e p a (sign (codes ";") ∷ rest))
 constraint_again f (constrained.Ordered o p a b) rest formed big =
@@ -307,11 +349,20 @@ body_again f (Aim s e) rest formed big some =
     let size = length-append (logic_words e) (sign (codes ")") ∷ []) in
     let r : List Word = (logic_words e ++ sign (codes ")") ∷ []) ++ sign (codes ";") ∷ rest in
     call_body f (sense_word s) r ∙ call_clause f (sense_word s) r (sense_other s) ∙ aim_called f s e (sign (codes ";") ∷ rest) formed (omega arith)
+body_again f (Rank s es) rest formed big some =
+    let inner : List Word = commas (map logic_words es) in
+    let list : List Word = inner ++ sign (codes "]") ∷ [] in
+    let size = length-append inner (sign (codes "]") ∷ []) in
+    let size' = length-append list (sign (codes ")") ∷ []) in
+    let size'' = length-append (list ++ sign (codes ")") ∷ []) (sign (codes ")") ∷ []) in
+    let r : List Word = (call (codes "staticLex") (square (map logic_words es) ∷ []) ++ sign (codes ")") ∷ []) ++ sign (codes ";") ∷ rest in
+    call_body f (sense_word s) r ∙ call_clause f (sense_word s) r (sense_other s) ∙ rank_called f s es (sign (codes ";") ∷ rest) formed (omega arith)
 
 -- no statement but the empty one begins with its semicolon
 constraint_open : (c : Constrained) (rest : List Word) → is_formed (Constrain c) ≡ true → behind (codes ";") (constraint_words c ++ rest) ≡ None
 constraint_open (constrained.Between t a b z) rest formed = refl
 constraint_open (constrained.Parts h a ns) rest formed = refl
+constraint_open (constrained.Alternative a ns n) rest formed = refl
 constraint_open (constrained.NoOverlap p s) rest formed = refl
 constraint_open (constrained.Extreme e p a) rest formed = refl
 constraint_open (constrained.Ordered o p a b) rest formed = refl
@@ -328,6 +379,7 @@ body_open (Define n d) rest formed some = refl
 body_open (Constrain c) rest formed some = constraint_open c rest formed
 body_open (Forbid w a s) rest formed some = refl
 body_open (Aim s e) rest formed some = refl
+body_open (Rank s es) rest formed some = refl
 
 some_again : (f : ℕ) (s : Statement) (rest : List Word) → is_formed s ≡ true → 20 * length (statement_body s) + 11 ≤ f → (s ≡ Empty → ⊥) → statement_at f (spelling s ++ rest) ≡ Some (s, rest)
 unfolding statement_at
@@ -343,4 +395,5 @@ statement_again f Empty rest formed big = refl
 statement_again f (Define n d) rest formed big = some_again f (Define n d) rest formed (let size = length-append (statement_body (Define n d)) (sign (codes ";") ∷ []) in omega arith) (λ e. cc e)
 statement_again f (Constrain c) rest formed big = some_again f (Constrain c) rest formed (let size = length-append (statement_body (Constrain c)) (sign (codes ";") ∷ []) in omega arith) (λ e. cc e)
 statement_again f (Forbid w a x) rest formed big = some_again f (Forbid w a x) rest formed (let size = length-append (statement_body (Forbid w a x)) (sign (codes ";") ∷ []) in omega arith) (λ e. cc e)
+statement_again f (Rank s xs) rest formed big = some_again f (Rank s xs) rest formed (let size = length-append (statement_body (Rank s xs)) (sign (codes ";") ∷ []) in omega arith) (λ e. cc e)
 statement_again f (Aim s x) rest formed big = some_again f (Aim s x) rest formed (let size = length-append (statement_body (Aim s x)) (sign (codes ";") ∷ []) in omega arith) (λ e. cc e)

@@ -1,18 +1,20 @@
 -- What is read as a statement is the spelling of that statement.
-use Rattle.std.proofs.Common.{◌≡◌, ℕ, Bool, true, false, cond, List, [], ◌∷◌, ◌++◌, Option, Some, None, refl, sym, ap, subst, ◌∙◌, append_assoc}
+use Rattle.std.proofs.Common.{◌≡◌, ℕ, nat_le, Bool, true, false, cond, List, [], ◌∷◌, ◌++◌, map, length, Option, Some, None, refl, sym, ap, subst, ◌∙◌, arith, append_assoc}
 use Rattle.std.specs.Prelude.{codes}
-use Rattle.cpo_text.specs.Words.{Word, commas, round}
+use Rattle.std.proofs.lemmas.Bool.{and_from}
+use Rattle.std.proofs.lemmas.Bool.Decides.{nat_tests}
+use Rattle.cpo_text.specs.Words.{Word, commas, square, round, call}
 use Rattle.cpo_text.specs.Words.Word.{name, sign}
-use Rattle.cpo_text.specs.Expressions.{logic_words, is_logic}
+use Rattle.cpo_text.specs.Expressions.{logic_words, is_logic, are_logics}
 use Rattle.cpo_text.specs.Cumulative.{cumul_words}
 use Rattle.cpo_text.specs.Spelling.{name_words, definition_words, constraint_words, forbidden_word, sense_word, statement_body, spelling, is_formed}
-use Rattle.cpo_text.specs.code.Rules.{Found, bound, behind, if_behind, if_found, with_rest, find_word, name_at, name_before, int_behind, between_at}
+use Rattle.cpo_text.specs.code.Rules.{Found, bound, behind, behind_word, if_behind, if_found, with_rest, find_word, name_at, name_before, int_behind, between_at}
 use Rattle.cpo_text.specs.code.Levels.{Trees, read}
-use Rattle.cpo_text.specs.code.Levels.Task.{logic}
+use Rattle.cpo_text.specs.code.Levels.Task.{logic, items}
 use Rattle.cpo_text.specs.code.CallWords.{definitions, senses, prohibitions, constraint_of, is_call, definition_word_at, begins_cumul}
 use Rattle.cpo_text.specs.code.Calls.{pair_at}
 use Rattle.cpo_text.specs.code.Contributions.{cumul_at, bounded_at}
-use Rattle.cpo_text.specs.code.Statements.{one_of, logic_at, holds_at, aim_at, defined_at, definition_at, constraint_at, forbid_at, by_constraint, called_at, named_at, clause_at, body_at, statement_at}
+use Rattle.cpo_text.specs.code.Statements.{one_of, logic_at, holds_at, criteria_at, rank_at, aim_at, defined_at, definition_at, constraint_at, forbid_at, by_constraint, called_at, named_at, clause_at, body_at, statement_at}
 use Rattle.cpo_text.specs.declared.expression.Logic.{Logic}
 use Rattle.cpo_text.specs.declared.call_words.DefinitionWord.{DefinitionWord}
 use Rattle.cpo_text.specs.declared.call_words.DefinitionWord.TheVariants as definition
@@ -26,14 +28,15 @@ use Rattle.cpo_text.specs.declared.tree.Constrained.TheVariants.{Between, Holds}
 use Rattle.cpo_text.specs.declared.tree.Forbidden.{Forbidden}
 use Rattle.cpo_text.specs.declared.tree.Sense.{Sense}
 use Rattle.cpo_text.specs.declared.tree.Statement.{Statement}
-use Rattle.cpo_text.specs.declared.tree.Statement.TheVariants.{Empty, Define, Constrain, Forbid, Aim}
-use Rattle.cpo_text.proofs.operands.Binds.{both, bound_parts, need_parts, some_pair, behind_takes, name_takes}
+use Rattle.cpo_text.specs.declared.tree.Statement.TheVariants.{Empty, Define, Constrain, Forbid, Aim, Rank}
+use Rattle.cpo_text.proofs.operands.Binds.{both, bound_parts, need_parts, some_pair, behind_takes, name_takes, word_takes}
 use Rattle.cpo_text.proofs.operands.Takes.{name_before_takes}
 use Rattle.cpo_text.proofs.stating.Spelt.{interval_defined, IsSpelt, between_takes}
-use Rattle.cpo_text.proofs.operands.Takings.{takes}
+use Rattle.cpo_text.proofs.operands.Nodes.{all_tight}
+use Rattle.cpo_text.proofs.operands.Takings.{takes, gathered_words}
 use Rattle.cpo_text.proofs.stating.Tables.{found_is, definition_name, definition_table, constraint_name, constraint_is, sense_table, prohibition_table}
 use Rattle.cpo_text.proofs.levelled.PartsTaken.{cumul_takes, bounded_takes, always_in_takes}
-use Rattle.cpo_text.proofs.stating.Called.{IsDefinition, IsConstraint, sequence_takes, matrix_takes, state_function_takes, step_function_takes, parts_takes, no_overlap_takes, pair_takes, extreme_takes, ordered_takes, always_equal_takes, always_no_state_takes}
+use Rattle.cpo_text.proofs.stating.Called.{IsDefinition, IsConstraint, closed_words, sequence_takes, matrix_takes, state_function_takes, step_function_takes, parts_takes, alternative_takes, no_overlap_takes, pair_takes, extreme_takes, ordered_takes, always_equal_takes, always_no_state_takes}
 
 pub logic_takes : (f : ℕ) (ws : List Word) (e : Logic) (rest : List Word) → logic_at f ws ≡ Some (e, rest) → (is_logic e ≡ true) × (ws ≡ logic_words e ++ rest)
 unfolding logic_at
@@ -58,19 +61,54 @@ holds_takes f ws x rest h =
     let e = some_pair (Constrain (Holds p.tree)) x p.words rest p.then in
     subst (λ y. IsSpelt y ws rest) e.0 (l.0, l.1 ∙ ap (λ xs. logic_words p.tree ++ xs) e.1)
 
+some_logics : (e : Logic) (es : List Logic) → all_tight 0 (e ∷ es) ≡ true → are_logics (e ∷ es) ≡ true
+some_logics e es tight = let n = length es in let some : nat_le 1 (length (e ∷ es)) ≡ true = grind (arith, nat_tests) in and_from _ _ some tight
+
+abbrev AreCriteria : List Logic → List Word → List Word → Type 0
+AreCriteria es ws rest = (are_logics es ≡ true) × (ws ≡ round (square (map logic_words es)) ++ rest)
+
+criteria_takes : (f : ℕ) (ws : List Word) (es : List Logic) (rest : List Word) → criteria_at f ws ≡ Some (es, rest) → AreCriteria es ws rest
+unfolding criteria_at
+criteria_takes f ws es rest h =
+    let p = need_parts (behind (codes "(") ws) _ es rest h in
+    let q = need_parts (behind (codes "[") p.words) _ es rest p.then in
+    let l = bound_parts (read f items q.words) _ es rest q.then in
+    let r = need_parts (behind (codes "]") l.words) _ es rest l.then in
+    let t = need_parts (behind (codes ")") r.words) _ es rest r.then in
+    let e = some_pair l.tree es t.words rest t.then in
+    let all = takes f items q.words l.tree l.words l.first in
+    let some : List Logic = all.first ∷ all.others in
+    let is : some ≡ es = sym all.are ∙ e.0 in
+    let list : q.words ≡ commas (map logic_words some) ++ sign (codes "]") ∷ sign (codes ")") ∷ t.words =
+    all.spelt ∙ ap (λ xs. commas (map logic_words some) ++ xs) (behind_takes (codes "]") l.words r.words r.first ∙ ap (λ xs. sign (codes "]") ∷ xs) (behind_takes (codes ")") r.words t.words t.first)) in
+    let words : ws ≡ round (square (map logic_words some)) ++ t.words =
+    behind_takes (codes "(") ws p.words p.first ∙ ap (λ xs. sign (codes "(") ∷ xs) (behind_takes (codes "[") p.words q.words q.first ∙ ap (λ xs. sign (codes "[") ∷ xs) list) ∙ sym (gathered_words some t.words) in
+    (subst (λ xs. are_logics xs ≡ true) is (some_logics all.first all.others all.tight), words ∙ both (λ xs ys. round (square (map logic_words xs)) ++ ys) is e.1)
+
 aim_takes : (f : ℕ) (s : Sense) (ws : List Word) (x : Statement) (rest : List Word) → aim_at f s ws ≡ Some (x, rest) → IsSpelt x (name (sense_word s) ∷ ws) rest
-unfolding aim_at
+unfolding aim_at rank_at
 aim_takes f s ws x rest h =
     let p = need_parts (behind (codes "(") ws) _ x rest h in
-    let q = bound_parts (logic_at f p.words) _ x rest p.then in
-    let r = need_parts (behind (codes ")") q.words) _ x rest q.then in
-    let e = some_pair (Aim s q.tree) x r.words rest r.then in
-    let l = logic_takes f p.words q.tree q.words q.first in
-    let words : ws ≡ round (logic_words q.tree) ++ rest =
-    behind_takes (codes "(") ws p.words p.first ∙ ap (λ xs. sign (codes "(") ∷ xs) (l.1
-    ∙ ap (λ xs. logic_words q.tree ++ xs) (behind_takes (codes ")") q.words r.words r.first ∙ ap (λ xs. sign (codes ")") ∷ xs) e.1)
-    ∙ sym (append_assoc (logic_words q.tree) (sign (codes ")") ∷ []) rest)) in
-    subst (λ y. IsSpelt y (name (sense_word s) ∷ ws) rest) e.0 (l.0, ap (λ xs. name (sense_word s) ∷ xs) words)
+    by_word p.words (behind_takes (codes "(") ws p.words p.first) (behind_word (codes "staticLex") p.words) refl p.then
+  where
+    by_word : (r : List Word) → ws ≡ sign (codes "(") ∷ r → (o : Option (List Word)) → behind_word (codes "staticLex") r ≡ o
+        → if_behind o (rank_at f s) (bound (logic_at f r) (λ e r2. if_behind (behind (codes ")") r2) (λ r3. Some (Aim s e, r3)) None)) ≡ Some (x, rest) → IsSpelt x (name (sense_word s) ∷ ws) rest
+    by_word r begun None is h =
+        let q = bound_parts (logic_at f r) _ x rest h in
+        let t = need_parts (behind (codes ")") q.words) _ x rest q.then in
+        let e = some_pair (Aim s q.tree) x t.words rest t.then in
+        let l = logic_takes f r q.tree q.words q.first in
+        let words : ws ≡ round (logic_words q.tree) ++ rest = closed_words ws r (logic_words q.tree) q.words t.words rest begun l.1 (behind_takes (codes ")") q.words t.words t.first) e.1 in
+        subst (λ y. IsSpelt y (name (sense_word s) ∷ ws) rest) e.0 (l.0, ap (λ xs. name (sense_word s) ∷ xs) words)
+    by_word r begun (Some r2) is h =
+        let q = bound_parts (criteria_at f r2) _ x rest h in
+        let t = need_parts (behind (codes ")") q.words) _ x rest q.then in
+        let e = some_pair (Rank s q.tree) x t.words rest t.then in
+        let c = criteria_takes f r2 q.tree q.words q.first in
+        let several : List Word = call (codes "staticLex") (square (map logic_words q.tree) ∷ []) in
+        let inner : r ≡ several ++ q.words = word_takes (codes "staticLex") r r2 is ∙ ap (λ xs. name (codes "staticLex") ∷ xs) c.1 in
+        let words : ws ≡ round several ++ rest = closed_words ws r several q.words t.words rest begun inner (behind_takes (codes ")") q.words t.words t.first) e.1 in
+        subst (λ y. IsSpelt y (name (sense_word s) ∷ ws) rest) e.0 (c.0, ap (λ xs. name (sense_word s) ∷ xs) words)
 
 between_formed : (t : Temporal) (ws : List Word) (c : Constrained) (rest : List Word) → between_at t ws ≡ Some (c, rest) → is_formed (Constrain c) ≡ true
 unfolding between_at
@@ -125,6 +163,7 @@ constraint_takes : (f : ℕ) (w : ConstraintWord) (ws : List Word) (c : Constrai
 unfolding constraint_at
 constraint_takes f (word.Between t) ws c rest h = (between_formed t ws c rest h, between_takes t ws c rest h)
 constraint_takes f (word.Parts k) ws c rest h = parts_takes k ws c rest h
+constraint_takes f word.Alternative ws c rest h = alternative_takes ws c rest h
 constraint_takes f word.NoOverlap ws c rest h = no_overlap_takes ws c rest h
 constraint_takes f (word.Extreme e) ws c rest h = extreme_takes e ws c rest h
 constraint_takes f (word.Ordered o) ws c rest h = ordered_takes o ws c rest h

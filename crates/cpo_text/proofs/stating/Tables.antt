@@ -13,9 +13,9 @@ use Rattle.cpo_text.specs.declared.call_words.PartWord.TheVariants as part
 use Rattle.cpo_text.specs.declared.call_words.DefinitionWord.{DefinitionWord}
 use Rattle.cpo_text.specs.declared.call_words.DefinitionWord.TheVariants as definition
 use Rattle.cpo_text.specs.declared.call_words.ConstraintWord.{ConstraintWord}
-use Rattle.cpo_text.specs.declared.call_words.ConstraintWord.TheVariants.{Between, Parts, NoOverlap, Extreme, Ordered, AlwaysIn, AlwaysEqual, AlwaysNoState}
+use Rattle.cpo_text.specs.declared.call_words.ConstraintWord.TheVariants.{Between, Parts, Alternative, NoOverlap, Extreme, Ordered, AlwaysIn, AlwaysEqual, AlwaysNoState}
 use Rattle.cpo_text.specs.declared.tree.Temporal.TheVariants.{StartBeforeStart, StartBeforeEnd, EndBeforeStart, EndBeforeEnd, StartAtStart, StartAtEnd, EndAtStart, EndAtEnd}
-use Rattle.cpo_text.specs.declared.tree.Hierarchy.TheVariants.{Span, Alternative, Synchronize}
+use Rattle.cpo_text.specs.declared.tree.Hierarchy.TheVariants.{Span, Synchronize}
 use Rattle.cpo_text.specs.declared.tree.Extreme.TheVariants.{First, Last}
 use Rattle.cpo_text.specs.declared.tree.Order.TheVariants.{Before, Prev}
 use Rattle.cpo_text.specs.declared.tree.Bound.{Bound}
@@ -116,6 +116,7 @@ part_no_call n call = decided (find_word contributions n) refl
 abbrev pub constraint_name : ConstraintWord → List ℕ
 constraint_name (Between t) = temporal_word t
 constraint_name (Parts h) = hierarchy_word h
+constraint_name Alternative = codes "alternative"
 constraint_name NoOverlap = codes "noOverlap"
 constraint_name (Extreme e) = extreme_word e
 constraint_name (Ordered o) = order_word o
@@ -162,8 +163,8 @@ constraint_other (Between StartAtEnd) = other _ refl refl
 constraint_other (Between EndAtStart) = other _ refl refl
 constraint_other (Between EndAtEnd) = other _ refl refl
 constraint_other (Parts Span) = other _ refl refl
-constraint_other (Parts Alternative) = other _ refl refl
 constraint_other (Parts Synchronize) = other _ refl refl
+constraint_other Alternative = other _ refl refl
 constraint_other NoOverlap = other _ refl refl
 constraint_other (Extreme First) = other _ refl refl
 constraint_other (Extreme Last) = other _ refl refl
@@ -184,8 +185,8 @@ constraint_found (Between StartAtEnd) = refl
 constraint_found (Between EndAtStart) = refl
 constraint_found (Between EndAtEnd) = refl
 constraint_found (Parts Span) = refl
-constraint_found (Parts Alternative) = refl
 constraint_found (Parts Synchronize) = refl
+constraint_found Alternative = refl
 constraint_found NoOverlap = refl
 constraint_found (Extreme First) = refl
 constraint_found (Extreme Last) = refl

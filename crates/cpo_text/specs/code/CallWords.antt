@@ -4,7 +4,7 @@ use Rattle.cpo_text.specs.Words.{Word}
 use Rattle.cpo_text.specs.code.Rules.{Found, bound, behind, if_behind, name_at, with_rest, find_word}
 use Rattle.cpo_text.specs.code.Levels.{measure_of, gather_of}
 use Rattle.cpo_text.specs.declared.tree.Temporal.TheVariants.{StartBeforeStart, StartBeforeEnd, EndBeforeStart, EndBeforeEnd, StartAtStart, StartAtEnd, EndAtStart, EndAtEnd}
-use Rattle.cpo_text.specs.declared.tree.Hierarchy.TheVariants.{Span, Alternative, Synchronize}
+use Rattle.cpo_text.specs.declared.tree.Hierarchy.TheVariants.{Span, Synchronize}
 use Rattle.cpo_text.specs.declared.tree.Extreme.TheVariants.{First, Last}
 use Rattle.cpo_text.specs.declared.tree.Order.TheVariants.{Before, Prev}
 use Rattle.cpo_text.specs.declared.tree.Forbidden.{Forbidden}
@@ -16,7 +16,7 @@ use Rattle.cpo_text.specs.declared.call_words.PartWord.TheVariants as part
 use Rattle.cpo_text.specs.declared.call_words.DefinitionWord.{DefinitionWord}
 use Rattle.cpo_text.specs.declared.call_words.DefinitionWord.TheVariants as definition
 use Rattle.cpo_text.specs.declared.call_words.ConstraintWord.{ConstraintWord}
-use Rattle.cpo_text.specs.declared.call_words.ConstraintWord.TheVariants.{Between, Parts, NoOverlap, Extreme, Ordered, AlwaysIn, AlwaysEqual, AlwaysNoState}
+use Rattle.cpo_text.specs.declared.call_words.ConstraintWord.TheVariants.{Between, Parts, Alternative, NoOverlap, Extreme, Ordered, AlwaysIn, AlwaysEqual, AlwaysNoState}
 
 -- parts of cumulative expressions
 abbrev pub contributions : List (List ℕ × PartWord)
@@ -33,7 +33,7 @@ precedences = (codes "startBeforeStart", Between StartBeforeStart) ∷ (codes "s
 
 -- on parts and on sequences
 abbrev pub gatherings : List (List ℕ × ConstraintWord)
-gatherings = (codes "span", Parts Span) ∷ (codes "alternative", Parts Alternative) ∷ (codes "synchronize", Parts Synchronize) ∷ (codes "noOverlap", NoOverlap)
+gatherings = (codes "span", Parts Span) ∷ (codes "alternative", Alternative) ∷ (codes "synchronize", Parts Synchronize) ∷ (codes "noOverlap", NoOverlap)
     ∷ (codes "first", Extreme First) ∷ (codes "last", Extreme Last) ∷ (codes "before", Ordered Before) ∷ (codes "prev", Ordered Prev) ∷ []
 
 -- on functions

@@ -1,7 +1,7 @@
 -- Definitions and constraints that are calls, read from left to right from behind the call's word.
 use Rattle.std.specs.Prelude.{ℕ, ◌==◌, Bool, true, false, if◌then◌else◌, nat_le, List, length, codes, bytes_eq, Option, Some, None}
 use Rattle.cpo_text.specs.Words.{Word}
-use Rattle.cpo_text.specs.code.Rules.{Found, bound, behind, if_behind, name_at, size_at, int_at}
+use Rattle.cpo_text.specs.code.Rules.{Found, bound, behind, if_behind, name_at, size_at, int_at, int_behind}
 use Rattle.cpo_text.specs.code.Lists.{names_at, ints_at, rows_at, steps_at}
 use Rattle.cpo_text.specs.declared.tree.Int.{Int}
 use Rattle.cpo_text.specs.declared.tree.Definition.{Definition}
@@ -55,6 +55,11 @@ step_function_at ws = if_behind (behind (codes "(") ws) (λ r. bound (steps_at r
 unfoldable pub parts_at : Hierarchy → List Word → Found Constrained
 parts_at h ws = if_behind (behind (codes "(") ws) (λ r. bound (name_at r) (λ a r2. if_behind (behind (codes ",") r2) (λ r3. bound (names_at r3) (λ ns r4.
     if_behind (behind (codes ")") r4) (λ r5. Some (constrained.Parts h a ns, r5)) None)) None)) None
+
+-- the parts and how many of them are chosen, where it is written
+unfoldable pub alternative_at : List Word → Found Constrained
+alternative_at ws = if_behind (behind (codes "(") ws) (λ r. bound (name_at r) (λ a r2. if_behind (behind (codes ",") r2) (λ r3. bound (names_at r3) (λ ns r4.
+    bound (int_behind (codes ",") r4) (λ n r5. if_behind (behind (codes ")") r5) (λ r6. Some (constrained.Alternative a ns n, r6)) None))) None)) None
 
 -- a list begins with its bracket
 unfoldable pub over_at : List Word → Found Over

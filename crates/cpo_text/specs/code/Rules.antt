@@ -54,6 +54,14 @@ abbrev pub name_at : List Word → Found (List ℕ)
 name_at (name n ∷ ws) = Some (n, ws)
 name_at _ = None
 
+abbrev pub word_of : List ℕ → Found (List ℕ) → Option (List Word)
+word_of n None = None
+word_of n (Some p) = if bytes_eq p.0 n then Some p.1 else None
+
+-- the words behind a name, if they begin with it
+unfoldable pub behind_word : List ℕ → List Word → Option (List Word)
+behind_word n ws = word_of n (name_at ws)
+
 abbrev pub size_at : List Word → Found (Option ℕ)
 size_at (number n ∷ ws) = Some (Some n, ws)
 size_at (large ∷ ws) = Some (None, ws)

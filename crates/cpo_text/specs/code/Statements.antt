@@ -1,17 +1,17 @@
 -- Statements read from left to right. The fuel is that of the expressions in them.
 use Rattle.std.specs.Prelude.{ℕ, if◌then◌else◌, List, [], ◌∷◌, codes, Option, Some, None}
 use Rattle.cpo_text.specs.Words.{Word}
-use Rattle.cpo_text.specs.code.Rules.{Found, bound, behind, if_behind, if_found, find_word, name_at, name_before, interval_at, between_at}
-use Rattle.cpo_text.specs.code.Calls.{sequence_at, matrix_at, state_function_at, step_function_at, parts_at, no_overlap_at, pair_at, extreme_at, ordered_at, always_equal_at, always_no_state_at}
+use Rattle.cpo_text.specs.code.Rules.{Found, bound, behind, behind_word, if_behind, if_found, find_word, name_at, name_before, interval_at, between_at}
+use Rattle.cpo_text.specs.code.Calls.{sequence_at, matrix_at, state_function_at, step_function_at, parts_at, alternative_at, no_overlap_at, pair_at, extreme_at, ordered_at, always_equal_at, always_no_state_at}
 use Rattle.cpo_text.specs.code.CallWords.{senses, prohibitions, constraint_of, is_call, definition_word_at, begins_cumul}
 use Rattle.cpo_text.specs.code.Contributions.{cumul_at, bounded_at, always_in_at}
 use Rattle.cpo_text.specs.code.Levels.{read}
-use Rattle.cpo_text.specs.code.Levels.Task.{logic}
+use Rattle.cpo_text.specs.code.Levels.Task.{logic, items}
 use Rattle.cpo_text.specs.declared.expression.Logic.{Logic}
 use Rattle.cpo_text.specs.declared.call_words.DefinitionWord.{DefinitionWord}
 use Rattle.cpo_text.specs.declared.call_words.DefinitionWord.TheVariants as definition
 use Rattle.cpo_text.specs.declared.call_words.ConstraintWord.{ConstraintWord}
-use Rattle.cpo_text.specs.declared.call_words.ConstraintWord.TheVariants.{Between, Parts, NoOverlap, Extreme, Ordered, AlwaysIn, AlwaysEqual, AlwaysNoState}
+use Rattle.cpo_text.specs.declared.call_words.ConstraintWord.TheVariants.{Between, Parts, Alternative, NoOverlap, Extreme, Ordered, AlwaysIn, AlwaysEqual, AlwaysNoState}
 use Rattle.cpo_text.specs.declared.tree.Definition.{Definition}
 use Rattle.cpo_text.specs.declared.tree.Definition.TheVariants.{Cumulative}
 use Rattle.cpo_text.specs.declared.tree.Constrained.{Constrained}
@@ -19,7 +19,7 @@ use Rattle.cpo_text.specs.declared.tree.Constrained.TheVariants.{Holds}
 use Rattle.cpo_text.specs.declared.tree.Forbidden.{Forbidden}
 use Rattle.cpo_text.specs.declared.tree.Sense.{Sense}
 use Rattle.cpo_text.specs.declared.tree.Statement.{Statement}
-use Rattle.cpo_text.specs.declared.tree.Statement.TheVariants.{Empty, Define, Constrain, Forbid, Aim}
+use Rattle.cpo_text.specs.declared.tree.Statement.TheVariants.{Empty, Define, Constrain, Forbid, Aim, Rank}
 
 -- enough for the words of any text within its limit
 unfoldable pub enough : ℕ
@@ -40,8 +40,17 @@ logic_at f ws = one_of (read f logic ws)
 unfoldable pub holds_at : ℕ → List Word → Found Statement
 holds_at f ws = bound (logic_at f ws) (λ e r. Some (Constrain (Holds e), r))
 
+-- one expression or more, behind the word of an objective that has several
+unfoldable pub criteria_at : ℕ → List Word → Found (List Logic)
+criteria_at f ws = if_behind (behind (codes "(") ws) (λ r. if_behind (behind (codes "[") r) (λ r2. bound (read f items r2) (λ es r3.
+    if_behind (behind (codes "]") r3) (λ r4. if_behind (behind (codes ")") r4) (λ r5. Some (es, r5)) None) None)) None) None
+
+unfoldable pub rank_at : ℕ → Sense → List Word → Found Statement
+rank_at f s ws = bound (criteria_at f ws) (λ es r. if_behind (behind (codes ")") r) (λ r2. Some (Rank s es, r2)) None)
+
 unfoldable pub aim_at : ℕ → Sense → List Word → Found Statement
-aim_at f s ws = if_behind (behind (codes "(") ws) (λ r. bound (logic_at f r) (λ e r2. if_behind (behind (codes ")") r2) (λ r3. Some (Aim s e, r3)) None)) None
+aim_at f s ws = if_behind (behind (codes "(") ws) (λ r. if_behind (behind_word (codes "staticLex") r) (rank_at f s)
+    (bound (logic_at f r) (λ e r2. if_behind (behind (codes ")") r2) (λ r3. Some (Aim s e, r3)) None))) None
 
 -- definitions
 
@@ -63,6 +72,7 @@ definition_at f ws = if_found (definition_word_at ws) defined_at (bound (cumul_a
 unfoldable pub constraint_at : ℕ → ConstraintWord → List Word → Found Constrained
 constraint_at f (Between t) ws = between_at t ws
 constraint_at f (Parts h) ws = parts_at h ws
+constraint_at f Alternative ws = alternative_at ws
 constraint_at f NoOverlap ws = no_overlap_at ws
 constraint_at f (Extreme e) ws = extreme_at e ws
 constraint_at f (Ordered o) ws = ordered_at o ws

@@ -1,7 +1,7 @@
 -- The words of a statement have no semicolon but the last.
 use Rattle.std.proofs.Common.{◌≡◌, Bool, true, false, List, [], ◌∷◌, ◌++◌, map, Option, Some, None, refl, subst}
 use Rattle.std.specs.Prelude.{codes, option_to_list, if◌then◌else◌}
-use Rattle.cpo_text.specs.Words.{Word, is_sign}
+use Rattle.cpo_text.specs.Words.{Word, is_sign, call}
 use Rattle.cpo_text.specs.Words.Word.{sign}
 use Rattle.cpo_text.specs.Parts.{minus_words, int_words, name_words, names_words, ints_words, flag_words, int_items}
 use Rattle.cpo_text.specs.Spelling.{to_words, range_words, ivarg_words, types_items, step_words, definition_words, temporal_word, hierarchy_word, extreme_word, order_word, bound_sign, over_words, spaced_items, moments_items, aligned_items, constraint_words, sense_word, statement_body}
@@ -36,7 +36,7 @@ use Rattle.cpo_text.specs.declared.expression.Logic.TheOpen.{Logic-F}
 use Rattle.cpo_text.specs.declared.expression.Logic.TheOpen.Logic-F.{Lit, Group, PresenceOf, Measured, Gathered, Linked, Neg, Sum, Compare, Not, Implies}
 use Rattle.cpo_text.specs.declared.expression.Logic.TheFolds.{fold-roll-Logic, ind-Logic, map-Logic}
 use Rattle.cpo_text.specs.declared.tree.Statement.{Statement}
-use Rattle.cpo_text.specs.declared.tree.Statement.TheVariants.{Empty, Define, Constrain, Forbid, Aim}
+use Rattle.cpo_text.specs.declared.tree.Statement.TheVariants.{Empty, Define, Constrain, Forbid, Aim, Rank}
 use Rattle.cpo_text.specs.lemmas.Free.{ends, IsFree, AreFree, both_free, with_free, all_free, more_free, between_free, round_free, square_free, call_free, size_free, minus_free, int_free, ints_free, int_items_free, names_free, flag_free}
 use Rattle.cpo_text.specs.lemmas.Folds.{composed}
 
@@ -179,6 +179,7 @@ aligned_free (Some p) = (flag_free p.0, (flag_free p.1, tt))
 constraint_free : (c : Constrained) → IsFree (constraint_words c)
 constraint_free (constrained.Between t a b z) = call_free (temporal_word t) (name_words a ∷ name_words b ∷ int_items z) (refl, (refl, int_items_free z))
 constraint_free (constrained.Parts h a ns) = call_free (hierarchy_word h) (name_words a ∷ names_words ns ∷ []) (refl, (names_free ns, tt))
+constraint_free (constrained.Alternative a ns n) = call_free (codes "alternative") (name_words a ∷ names_words ns ∷ int_items n) (refl, (names_free ns, int_items_free n))
 constraint_free (constrained.NoOverlap p s) = call_free (codes "noOverlap") (over_words p ∷ spaced_items s) (over_free p, spaced_free s)
 constraint_free (constrained.Extreme e p a) = call_free (extreme_word e) (name_words p ∷ name_words a ∷ []) (refl, (refl, tt))
 constraint_free (constrained.Ordered o p a b) = call_free (order_word o) (name_words p ∷ name_words a ∷ name_words b ∷ []) (refl, (refl, (refl, tt)))
@@ -197,3 +198,7 @@ body_free (Define n d) = definition_free d
 body_free (Constrain c) = constraint_free c
 body_free (Forbid w a f) = refl
 body_free (Aim s e) = call_free (sense_word s) (logic_words e ∷ []) (logic_free e, tt)
+body_free (Rank s es) =
+    let list : List Word = square (map logic_words es) in
+    let inner = call_free (codes "staticLex") (list ∷ []) (square_free (map logic_words es) (all_free logic_words logic_free es), tt) in
+    call_free (sense_word s) (call (codes "staticLex") (list ∷ []) ∷ []) (inner, tt)

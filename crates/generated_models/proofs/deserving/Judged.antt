@@ -17,7 +17,7 @@ use Rattle.cpo_text.specs.declared.tree.Sense.TheVariants as sense
 use Rattle.cpo_text.specs.declared.tree.Statement.{Statement}
 use Rattle.cpo_text.specs.declared.tree.Statement.TheVariants.{Aim}
 use Rattle.cpo_elab.specs.Named.{NameTest, logic_step, some_in_logic}
-use Rattle.cpo_elab.specs.Elaborated.{expr_of, expr_step, objective_of}
+use Rattle.cpo_elab.specs.Elaborated.{expr_of, expr_step, sense_of}
 use Rattle.cpo_elab.specs.Factors.{factor_of, factor_step}
 use Rattle.cpo_elab.specs.Judged.{is_unknown, is_of_other_sort, defines_again, has_reversed, has_negative, misfits, has_twice, is_wide, statement_limit, node_limit, aims_again, is_crowded, first_of, number_in}
 use Rattle.modelgen.specs.Generated.{name}
@@ -64,7 +64,7 @@ objective_number st k e f names expr factor =
     λ i. first_of
     ((defines_again st (Aim sense.Minimize e), 4) ∷ (unknown i, 5) ∷ (other i || false, 6) ∷ (has_reversed (Aim sense.Minimize e), 7) ∷ (has_negative (Aim sense.Minimize e), 8) ∷ (misfits m (Aim sense.Minimize e), 9)
     ∷ (has_twice m (Aim sense.Minimize e), 10) ∷ (nat_lt statement_limit k || (is_wide (Aim sense.Minimize e) || not (nat_le 0 500 && nat_le (node_total m + node_count (expr i)) node_limit)), 11)
-    ∷ (aims_again m (Aim sense.Minimize e), 12) ∷ (is_none (hull_of m (expr i)), 13) ∷ (is_crowded (factor i), 14) ∷ [])
+    ∷ (aims_again m (Aim sense.Minimize e), 12) ∷ (is_none (hull_of m (expr i)), 13) ∷ (is_crowded (factor i) || false, 14) ∷ [])
 
 objective_alike : (jobs machines : ℕ) → Alike (objective_statement jobs machines) (objective_spelt jobs machines)
 objective_alike jobs machines =
@@ -76,7 +76,7 @@ objective_alike jobs machines =
     let factor = greatest_same factor_step (λ n. refl) machines js in
     record {
       number = λ st k. objective_number st k e f names (expr st.model) factor;
-      stage = λ st. ap (λ x. record st { model = record st.model { objective = Some (record { sense = (objective_of st.model sense.Minimize e).sense; expr = x }) } }) (expr st.model);
+      stage = λ st. ap (λ x. record st { model = record st.model { objective = Some (record { sense = sense_of sense.Minimize; expr = x; criteria = [] }) } }) (expr st.model);
     }
 
 all_alike : (seed jobs machines : ℕ) → AllAlike (shop_statements seed jobs machines) (shop_spelt seed jobs machines)

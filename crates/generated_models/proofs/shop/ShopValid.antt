@@ -235,5 +235,6 @@ module _ (seed jobs machines : ℕ) (z : Sizes jobs machines) where
     states = refl;
     constraints = constraints_pass;
     objective = aim_passes;
+    criteria = record { many = refl; hulls = refl; rank = λ some. cc };
     limits = limits_kept;
   }

@@ -2,7 +2,7 @@
 use Rattle.std.proofs.Common.{◌≡◌, ℕ, zero, suc, ◌+◌, ◌-◌, Bool, true, false, not, ◌||◌, List, [], ◌∷◌, ◌++◌, map, length, nat_le, None, is_none, refl, sym, ap, ◌∙◌}
 use Rattle.std.specs.List.{flat_map, list_all, list_any, range_with_len, filter, count_by}
 use Rattle.std.specs.Str.{bytes_eq}
-use Rattle.std.proofs.lemmas.Bool.{and_parts}
+use Rattle.std.proofs.lemmas.Bool.{and_parts, and_from}
 use Rattle.std.proofs.lemmas.List.Concat.{flat_map-append}
 use Rattle.std.proofs.lemmas.List.Sums.{length-filter}
 use Rattle.base_laws.specs.laws.Kept.{none_pass, all_pass}
@@ -75,7 +75,7 @@ module _ (seed jobs machines : ℕ) (z : Sizes jobs machines) where
     untyped = each_sequence (λ d. is_named_sequence d || is_none d.types) (λ q. refl);
     parts = refl;
     constraints = each_constraint seed jobs machines z (is_written m) (λ j k low more less. refl) (λ q less. refl);
-    objective = ap is_written_expr (aim_is seed jobs machines z) ∙ expr_written (lasts seed jobs machines z);
+    objective = and_from _ true (ap is_written_expr (aim_is seed jobs machines z) ∙ expr_written (lasts seed jobs machines z)) refl;
     names = all_named seed jobs machines z (λ n. not (list_any (bytes_eq n) left_out_words)) (λ j k first second. name_kept j k);
   }
 

@@ -41,7 +41,7 @@ Tests m bytes (Err _) = ⊥
 -- what the schedule in a file is found to be
 abbrev pub TestsFile : Data → Bytes → Result Assignment Stop → State → State → Type 0
 TestsFile m schedule (Ok a) old new = (new.faults ≡ old.faults) × IfFile old schedule (λ bytes. SpellsWithin m bytes a) × IsSolution m a × ReadsSchedule schedule old new
-TestsFile m schedule (Err (stop.ScheduleRefused r)) old new = IfFile old schedule (λ bytes. IsUnfit m bytes r) × ReadsSchedule schedule old new
+TestsFile m schedule (Err (stop.ScheduleRefused r)) old new = IfFile old schedule (λ bytes. IsUnfit m bytes r) × ReadsSchedule schedule old new × (new.faults ≡ old.faults)
 TestsFile m schedule (Err stop.Fault) old new = IsFault schedule old new
 TestsFile m schedule (Err stop.NoMemory) old new = ⊤
 TestsFile m schedule (Err _) old new = ⊥

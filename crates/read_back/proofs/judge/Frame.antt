@@ -9,7 +9,7 @@ use Rattle.cpo_text.specs.declared.tree.Statement.{Statement}
 use Rattle.cpo_text.specs.declared.text.Form.TheVariants.{Tree as Parsed}
 use Rattle.cpo_text.specs.declared.text.Reading.{Reading}
 use Rattle.cpo_text.specs.declared.tree.Definition.TheVariants.{IntervalVar, SequenceVar, TransitionMatrix, StateFunction, StepFunction, Cumulative}
-use Rattle.cpo_text.specs.declared.tree.Statement.TheVariants.{Empty, Define, Constrain, Forbid, Aim}
+use Rattle.cpo_text.specs.declared.tree.Statement.TheVariants.{Empty, Define, Constrain, Forbid, Aim, Rank}
 use Rattle.sched_model.specs.Words.{passes}
 use Rattle.cpo_elab.specs.Stages.{plain, is_function, is_known, function_in, reached}
 use Rattle.cpo_elab.specs.code.Calendars.{is_of_calendars}
@@ -48,6 +48,7 @@ no_function (Define n d) own p = refl
 no_function (Constrain c) own p = refl
 no_function (Forbid w a f) own p = cc own
 no_function (Aim sense e) own p = refl
+no_function (Rank sense es) own p = refl
 
 pub stays_plain : (n : Data) (s : Statement) → is_of_calendars s ≡ false → reached (plain n) s ≡ plain (after n s)
 stays_plain n Empty own = refl
@@ -60,6 +61,7 @@ stays_plain n (Define name (Cumulative c)) own = refl
 stays_plain n (Constrain c) own = refl
 stays_plain n (Forbid w a f) own = cc own
 stays_plain n (Aim sense e) own = refl
+stays_plain n (Rank sense es) own = refl
 
 passed : (n : Data) (k : ℕ) (s : Statement) → k ≤ statement_limit → Clean n s → number_in (plain n) k s ≡ None
 passed n k s few clean = no_number (plain n) k s (record {

@@ -13,6 +13,7 @@ use Rattle.sched_model.specs.declared.types.StateDef.{StateDef}
 use Rattle.sched_model.specs.declared.types.Constraint.{Constraint}
 use Rattle.sched_model.specs.declared.types.Objective.{Objective}
 use Rattle.sched_model.specs.Data.{Data}
+use Rattle.sched_model.specs.Rank.{criteria_of}
 use Rattle.sched_model.specs.Valid.{pair_count, nodes_of, node_count, node_total, is_within_limits}
 use Rattle.sched_model.specs.laws.Limits.{limits_of, within_limits}
 
@@ -67,9 +68,9 @@ made_within m a b c d e f valid fronts =
     })
 
 -- the objective's nodes
-pub aimed_within : (m : Data) (o : Objective) → is_within_limits m ≡ true → m.objective ≡ Some o
-    → nat_le (node_total (made m.intervals m.matrices m.sequences m.cumuls m.states m.constraints) + node_count o.expr) 100000 ≡ true
-aimed_within m o valid is =
+pub aimed_within : (m : Data) (o : Objective) (k : ℕ) → is_within_limits m ≡ true → m.objective ≡ Some o → k ≡ sum_by node_count (criteria_of o)
+    → nat_le (node_total (made m.intervals m.matrices m.sequences m.cumuls m.states m.constraints) + k) 100000 ≡ true
+aimed_within m o k valid is count =
     let l = limits_of m valid in
-    let nodes = ap (λ p. sum_by (λ (o : Objective). node_count o.expr) (option_to_list p)) is in
-    is_at_most (node_total (made m.intervals m.matrices m.sequences m.cumuls m.states m.constraints) + node_count o.expr) 100000 (omega (arith, nodes, l.nodes))
+    let nodes = ap (λ p. sum_by (λ (o : Objective). sum_by node_count (criteria_of o)) (option_to_list p)) is in
+    is_at_most (node_total (made m.intervals m.matrices m.sequences m.cumuls m.states m.constraints) + k) 100000 (omega (arith, nodes, count, l.nodes))

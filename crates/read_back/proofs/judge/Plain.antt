@@ -1,6 +1,8 @@
 -- The statement of a constraint between intervals, of an expression or on a state passes each test, and adds the constraint.
-use Rattle.std.proofs.Common.{◌≡◌, ℤ, Bool, true, false, not, ◌&&◌, List, [], ◌∷◌, ◌++◌, length, Option, Some, None, is_some, is_none, nat_lt, refl, ap, ◌∙◌}
+use Rattle.std.proofs.Common.{◌≡◌, ℤ, pos, Bool, true, false, not, ◌&&◌, if◌then◌else◌, List, [], ◌∷◌, ◌++◌, length, Option, Some, None, option_map, is_some, is_none, nat_lt, int_le, refl, ap, ◌∙◌, arith}
 use Rattle.std.specs.List.{list_all}
+use Rattle.std.specs.Ordering.{int_eq}
+use Rattle.std.proofs.lemmas.Int.{ints}
 use Rattle.std.proofs.lemmas.Bool.{and_parts, or_from, not_from_true, not-true}
 use Rattle.base_laws.specs.laws.Truth.{three_true, four_true}
 use Rattle.sched_base.specs.declared.ids.Itv.{Itv}
@@ -12,6 +14,7 @@ use Rattle.sched_model.specs.declared.types.End.{End}
 use Rattle.sched_model.specs.declared.types.End.TheVariants as point
 use Rattle.sched_model.specs.declared.types.Constraint.{Constraint}
 use Rattle.sched_model.specs.declared.types.Constraint.TheVariants as constraint
+use Rattle.sched_model.specs.Words.{passes}
 use Rattle.sched_model.specs.Data.{Data, state_matrix, matrix_of}
 use Rattle.sched_model.specs.Domain.{is_row}
 use Rattle.sched_model.specs.Hull.{hull_of}
@@ -23,11 +26,12 @@ use Rattle.cpo_text.specs.declared.tree.Hierarchy.TheVariants as hierarchy
 use Rattle.cpo_text.specs.declared.tree.Constrained.TheVariants as constrained
 use Rattle.cpo_elab.specs.declared.names.Sort.TheVariants.{Interval, State}
 use Rattle.cpo_elab.specs.Named.{NameTest, some_in_logic}
+use Rattle.cpo_elab.specs.Literals.{int_of, count_or_one}
 use Rattle.cpo_elab.specs.Factors.{factor_of}
 use Rattle.cpo_elab.specs.Elaborated.{expr_of, points_of, hierarchy_of}
 use Rattle.cpo_elab.specs.Judged.{is_crowded, is_negative, is_large}
 use Rattle.sched_text.specs.Pieces.{interval_name, interval_names, state_name}
-use Rattle.read_back.specs.Trees.{temporal_tree, logic_tree, constraint_tree}
+use Rattle.read_back.specs.Trees.{int_tree, count_tree, temporal_tree, logic_tree, constraint_tree}
 use Rattle.read_back.specs.Written.{is_written_expr, written_step, factor}
 use Rattle.read_back.specs.Laws.{ExpressionsReturn, FactorsReturn, ExpressionsNameIntervals}
 use Rattle.read_back.proofs.Numbers.{int_back}
@@ -112,8 +116,52 @@ hierarchy_stays m s c f h x xs here it =
 pub span_stays : (m : Data) (s : List SequenceDef) (c : List CumulDef) (f : List Constraint) (x : Itv) (xs : List Itv) → Place m s c f (constraint.Span x xs) → (is_itv m x && are_parts m xs) ≡ true → Stays m s c f (constraint.Span x xs)
 span_stays m s c f x xs here it = hierarchy_stays m s c f hierarchy.Span x xs here it
 
-pub alternative_stays : (m : Data) (s : List SequenceDef) (c : List CumulDef) (f : List Constraint) (x : Itv) (xs : List Itv) → Place m s c f (constraint.Alternative x xs) → (is_itv m x && are_parts m xs) ≡ true → Stays m s c f (constraint.Alternative x xs)
-alternative_stays m s c f x xs here it = hierarchy_stays m s c f hierarchy.Alternative x xs here it
+-- the count of an alternative comes back
+count_back : (n : ℤ) → is_small n ≡ true → count_or_one (count_tree n) ≡ n
+count_back n small = by (int_eq n (pos 1)) refl
+  where
+    is_one : (n : ℤ) → int_eq n (pos 1) ≡ true → pos 1 ≡ n
+    is_one n h = grind (arith, ints)
+
+    by : (b : Bool) → int_eq n (pos 1) ≡ b → count_or_one (if b then None else Some (int_tree n)) ≡ n
+    by true is = is_one n is
+    by false is = int_back n small
+
+-- and is no negative size
+count_sign : (n : ℤ) → is_small n ≡ true → int_le (pos 0) n ≡ true → passes is_negative (option_map int_of (count_tree n)) ≡ false
+count_sign n small up = by (int_eq n (pos 1))
+  where
+    not_negative : (n : ℤ) → int_le (pos 0) n ≡ true → is_negative n ≡ false
+    not_negative n h = grind (arith, ints)
+
+    by : (b : Bool) → passes is_negative (option_map int_of (if b then None else Some (int_tree n))) ≡ false
+    by true = refl
+    by false = ap is_negative (int_back n small) ∙ not_negative n up
+
+pub alternative_stays : (m : Data) (s : List SequenceDef) (c : List CumulDef) (f : List Constraint) (x : Itv) (xs : List Itv) (k : ℤ)
+    → Place m s c f (constraint.Alternative x xs k) → (is_itv m x && are_parts m xs && is_small k && int_le (pos 0) k) ≡ true → Stays m s c f (constraint.Alternative x xs k)
+alternative_stays m s c f x xs k here it =
+    let n = mid m s c f in
+    let con = constraint.Alternative x xs k in
+    let v = here.valid in
+    let parts = four_true (is_itv m x) (are_parts m xs) (is_small k) (int_le (pos 0) k) it in
+    let all = and_parts (list_all (is_itv m) xs) (are_distinct xs) parts.1 in
+    let first = itv_back m n refl v x parts.0 in
+    let rest = itvs_back m n refl v xs all.0 in
+    let count = count_back k parts.2 in
+    leaves m n (constraint_tree m con) con s c f v (record {
+      names = λ test blind. or_from (test Interval (interval_name m x)) _ (interval_passes m s c f v x parts.0 test blind) (itvs_pass m n refl v test blind xs all.0);
+      joins = refl;
+      ordered = refl;
+      signs = or_from (passes is_negative (option_map int_of (count_tree k))) false (count_sign k parts.2 parts.3) refl;
+      fitting = refl;
+      once = ap are_distinct rest ∙ all.1;
+      inside = refl;
+      small = refl;
+      few = refl;
+      hull = refl;
+      sparse = refl;
+    }) refl (λ i. constraint.Alternative (first i) (rest i) (count i)) here.middle.sequences here.middle.cumuls here.front
 
 pub synchronize_stays : (m : Data) (s : List SequenceDef) (c : List CumulDef) (f : List Constraint) (x : Itv) (xs : List Itv) → Place m s c f (constraint.Synchronize x xs) → (is_itv m x && are_parts m xs) ≡ true → Stays m s c f (constraint.Synchronize x xs)
 synchronize_stays m s c f x xs here it = hierarchy_stays m s c f hierarchy.Synchronize x xs here it
@@ -151,7 +199,7 @@ logic_stays return factors name m s c f e here it written =
       small = refl;
       few = refl;
       hull = hull_there return m s c f v e it written;
-      sparse = sparse_there factors m e written;
+      sparse = or_from (is_crowded (factor_of (logic_tree m e))) false (sparse_there factors m e written) refl;
     }) refl (ap (λ x. constraint.Logic x) (return m n e v refl it written)) here.middle.sequences here.middle.cumuls here.front
 
 -- states

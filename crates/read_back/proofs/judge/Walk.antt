@@ -174,8 +174,8 @@ stepped return factors name m w us vs f (constraint.Logic e) ds here it written 
     stays m us vs f (constraint.Logic e) ds (logic_stays return factors name m (sequences_with m us) (cumuls_with m vs) f e here it written) ls lc
 stepped return factors name m w us vs f (constraint.Span x xs) ds here it written ls lc =
     stays m us vs f (constraint.Span x xs) ds (span_stays m (sequences_with m us) (cumuls_with m vs) f x xs here it) ls lc
-stepped return factors name m w us vs f (constraint.Alternative x xs) ds here it written ls lc =
-    stays m us vs f (constraint.Alternative x xs) ds (alternative_stays m (sequences_with m us) (cumuls_with m vs) f x xs here it) ls lc
+stepped return factors name m w us vs f (constraint.Alternative x xs k) ds here it written ls lc =
+    stays m us vs f (constraint.Alternative x xs k) ds (alternative_stays m (sequences_with m us) (cumuls_with m vs) f x xs k here it) ls lc
 stepped return factors name m w us vs f (constraint.Synchronize x xs) ds here it written ls lc =
     stays m us vs f (constraint.Synchronize x xs) ds (synchronize_stays m (sequences_with m us) (cumuls_with m vs) f x xs here it) ls lc
 stepped return factors name m w us vs f (constraint.NoOverlap p o direct) ds here it written ls lc =

@@ -1,15 +1,18 @@
 -- The text of a constraint or of the objective says the words of its statement.
-use Rattle.std.proofs.Common.{ℕ, ℤ, Bool, true, false, not, ◌&&◌, List, [], ◌∷◌, ◌++◌, map, length, Option, Some, None, refl, subst, arith}
-use Rattle.std.specs.Prelude.{IsTrue, codes, if◌then◌else◌, nat_lt, int_le, option_map, option_to_list}
+use Rattle.std.proofs.Common.{◌≡◌, ℕ, ℤ, pos, Bool, true, false, not, ◌&&◌, List, [], ◌∷◌, ◌++◌, map, length, Option, Some, None, refl, subst, arith}
+use Rattle.std.specs.Prelude.{IsTrue, codes, if◌then◌else◌, nat_lt, nat_le, int_le, option_map, option_to_list}
 use Rattle.std.specs.List.{list_all}
 use Rattle.std.specs.Ordering.{int_eq}
 use Rattle.std.specs.Fmt.{signed_decimal}
 use Rattle.std.proofs.lemmas.Fmt.{decimal_digit}
 use Rattle.std.proofs.lemmas.List.{append_assoc, append-nil}
-use Rattle.std.proofs.lemmas.Bool.{and_parts}
+use Rattle.std.proofs.lemmas.Bool.{and_parts, and_from}
+use Rattle.std.proofs.lemmas.Bool.Decides.{nat_tests}
+use Rattle.std.specs.Option.{IfSome}
 use Rattle.cpo_text.specs.Words.{Word, Word as word, commas, call}
 use Rattle.cpo_text.specs.Cumulative.{cumul_words}
-use Rattle.cpo_text.specs.Spelling.{temporal_word as tree_word, sense_word as tree_sense, name_words, names_words, flag_words, over_words, spaced_items, constraint_words, is_formed}
+use Rattle.cpo_text.specs.Expressions.{all_at_least, level, is_logic, are_logics, logic_words}
+use Rattle.cpo_text.specs.Spelling.{int_items, temporal_word as tree_word, sense_word as tree_sense, name_words, names_words, flag_words, over_words, spaced_items, constraint_words, is_formed}
 use Rattle.cpo_text.specs.declared.cumul.Cumul.{Cumul}
 use Rattle.cpo_text.specs.declared.tree.Bound.TheVariants.{AtMost, AtLeast}
 use Rattle.cpo_text.specs.declared.tree.Constrained.TheVariants.{Bounded}
@@ -28,12 +31,16 @@ use Rattle.sched_model.specs.declared.types.Sense.TheVariants.{Minimize, Maximiz
 use Rattle.sched_model.specs.declared.types.Objective.{Objective}
 use Rattle.sched_model.specs.Data.{Data, same, state_matrix, matrix_of}
 use Rattle.sched_model.specs.Domain.{is_row}
-use Rattle.sched_model.specs.Words.{passes_if_any}
+use Rattle.sched_model.specs.Words.{is_empty, passes_if_any}
+use Rattle.sched_model.specs.declared.types.Expr.{Expr}
+use Rattle.sched_model.specs.Rank.{criteria_of, IsRanked}
+use Rattle.cpo_elab.specs.lemmas.Criteria.{criteria_are}
 use Rattle.sched_model.specs.Valid.{is_small, is_amount, is_itv, is_mat, is_seq, is_member, are_parts, are_distinct, fits_types, is_window, is_expr, is_constraint}
 use Rattle.sched_text.specs.Pieces as piece
 use Rattle.sched_text.specs.Pieces.{interval_name, matrix_name, interval_names}
-use Rattle.sched_text.specs.Canonical.{list_text, function_text, flag, temporal_word, over_text, distance_text, least_level, within_text, constraint_text, sense_word, objective_text, statement}
-use Rattle.read_back.specs.Trees.{int_tree, function_tree, temporal_tree, over_tree, spaced_tree, within_tree, constraint_tree, sense_tree, objective_tree}
+use Rattle.sched_text.specs.Shown.{shown, wholes}
+use Rattle.sched_text.specs.Canonical.{count_items, list_text, function_text, flag, temporal_word, over_text, distance_text, least_level, within_text, constraint_text, sense_word, objective_text, statement}
+use Rattle.read_back.specs.Trees.{int_tree, count_tree, function_tree, temporal_tree, over_tree, spaced_tree, within_tree, constraint_tree, logic_tree, sense_tree, aim_tree, objective_tree}
 use Rattle.read_back.specs.Written.{is_written, is_written_expr}
 use Rattle.read_back.specs.Laws.{ExpressionsAreSaid, ExpressionsAreFormed}
 use Rattle.read_back.specs.Says.{Says}
@@ -95,6 +102,14 @@ within_said m f tree (During x) lo hi known here is low high =
 
 -- each constraint
 
+-- the count of an alternative, where it is written
+count_row : (n : ℤ) → IsTrue (is_small n) → Row (count_items n) (int_items (count_tree n))
+count_row n small = by (int_eq n (pos 1))
+  where
+    by : (b : Bool) → Row (if b then [] else signed_decimal n ∷ []) (int_items (if b then None else Some (int_tree n)))
+    by true = none
+    by false = more (an_int n (small_literal n small)) none
+
 parts_said : (m : Data) (word : List ℕ) (x : Itv) (xs : List Itv) → IsTrue (is_told word) → Known m → IsTrue (is_itv m x && are_parts m xs)
     → Says (piece.call word (interval_name m x ∷ list_text m xs ∷ [])) (call word (name_words (interval_name m x) ∷ names_words (interval_names m xs) ∷ []))
 parts_said m word x xs spelt known is =
@@ -112,7 +127,13 @@ constraint_said m (Temporal from to equal x y z) known said is written =
     temporal_said from to equal (more (a_name _ (interval_told m x known.told ends.0)) (more (a_name _ (interval_told m y known.told ends.1)) (more (an_int z (small_literal z parts.1)) none)))
 constraint_said m (Logic e) known said is written = said m e known.valid known.written is written
 constraint_said m (Span x parts) known said is written = parts_said m (codes "span") x parts refl known is
-constraint_said m (Alternative x parts) known said is written = parts_said m (codes "alternative") x parts refl known is
+constraint_said m (Alternative x parts n) known said is written =
+    let counted = and_parts (is_itv m x && are_parts m parts && is_small n) (int_le (pos 0) n) is in
+    let all = and_parts (is_itv m x && are_parts m parts) (is_small n) counted.0 in
+    let ends = and_parts (is_itv m x) (are_parts m parts) all.0 in
+    let members = and_parts (list_all (is_itv m) parts) (are_distinct parts) ends.1 in
+    called (codes "alternative") refl
+    (more (a_name _ (interval_told m x known.told ends.0)) (more (in_square (names_row (interval_names m parts) (intervals_told m parts known.told members.0))) (count_row n all.1)))
 constraint_said m (Synchronize x parts) known said is written = parts_said m (codes "synchronize") x parts refl known is
 constraint_said m (NoOverlap p matrix direct) known said is written =
     let parts = and_parts (is_seq m p) (passes_if_any (fits_types m p) matrix) is in
@@ -153,7 +174,7 @@ constraint_formed : (m : Data) (c : Constraint) → ExpressionsAreFormed → IsT
 constraint_formed m (Temporal from to equal x y z) formed is written = refl
 constraint_formed m (Logic e) formed is written = formed m e is written
 constraint_formed m (Span x parts) formed is written = refl
-constraint_formed m (Alternative x parts) formed is written = refl
+constraint_formed m (Alternative x parts n) formed is written = refl
 constraint_formed m (Synchronize x parts) formed is written = refl
 constraint_formed m (NoOverlap p matrix direct) formed is written = refl
 constraint_formed m (First p x) formed is written = refl
@@ -175,7 +196,44 @@ sense_said : (s : Sense) {t : List ℕ} {ws : List Word} → Says t ws → Says 
 sense_said Minimize here = called (codes "minimize") refl (more here none)
 sense_said Maximize here = called (codes "maximize") refl (more here none)
 
-pub objective_line : (m : Data) (o : Option Objective) → Known m → ExpressionsAreSaid → ExpressionsAreFormed → IsTrue (passes_if_any (λ x. is_expr m x.expr) o) → IsTrue (passes_if_any (λ x. is_written_expr x.expr) o)
+criteria_row : (m : Data) (es : List Expr) → Known m → ExpressionsAreSaid → IsTrue (list_all (is_expr m) es) → IsTrue (list_all is_written_expr es) → Row (wholes (map (shown m) es)) (map logic_words (map (logic_tree m) es))
+criteria_row m [] known said are written = none
+criteria_row m (e ∷ es) known said are written =
+    let a = and_parts (is_expr m e) (list_all (is_expr m) es) are in
+    let b = and_parts (is_written_expr e) (list_all is_written_expr es) written in
+    more (said m e known.valid known.written a.0 b.0) (criteria_row m es known said a.1 b.1)
+
+all_formed : (m : Data) (es : List Expr) → ExpressionsAreFormed → IsTrue (list_all (is_expr m) es) → IsTrue (list_all is_written_expr es) → IsTrue (all_at_least 0 (map level (map (logic_tree m) es)))
+all_formed m [] formed are written = refl
+all_formed m (e ∷ es) formed are written =
+    let a = and_parts (is_expr m e) (list_all (is_expr m) es) are in
+    let b = and_parts (is_written_expr e) (list_all is_written_expr es) written in
+    and_from (is_logic (logic_tree m e)) _ (formed m e a.0 b.0) (all_formed m es formed a.1 b.1)
+
+criteria_formed : (m : Data) (es : List Expr) → is_empty es ≡ false → ExpressionsAreFormed → IsTrue (list_all (is_expr m) es) → IsTrue (list_all is_written_expr es) → IsTrue (are_logics (map (logic_tree m) es))
+criteria_formed m [] some formed are written = cc
+criteria_formed m (e ∷ es) some formed are written =
+    let n = length (map (logic_tree m) es) in
+    let there : nat_le 1 (length (map (logic_tree m) (e ∷ es))) ≡ true = grind (arith, nat_tests) in
+    and_from _ _ there (all_formed m (e ∷ es) formed are written)
+
+-- one expression, or the criteria
+aim_line : (m : Data) (o : Objective) (b : Bool) → is_empty o.criteria ≡ b → Known m → ExpressionsAreSaid → ExpressionsAreFormed
+    → IsTrue (list_all (is_expr m) (if b then o.expr ∷ [] else o.criteria)) → IsTrue (list_all is_written_expr (if b then o.expr ∷ [] else o.criteria))
+    → Lines (statement (piece.call (sense_word o.sense) ((if b then (shown m o.expr).whole else piece.call (codes "staticLex") (piece.listed (wholes (map (shown m) o.criteria)) ∷ [])) ∷ []))) (aim_tree m b o ∷ [])
+aim_line m o true none_there known said formed are written =
+    let a = and_parts (is_expr m o.expr) true are in
+    let b = and_parts (is_written_expr o.expr) true written in
+    line _ (aim_tree m true o) (sense_said o.sense (said m o.expr known.valid known.written a.0 b.0)) (formed m o.expr a.0 b.0)
+aim_line m o false some known said formed are written =
+    line _ (aim_tree m false o) (sense_said o.sense (called (codes "staticLex") refl (more (in_square (criteria_row m o.criteria known said are written)) none))) (criteria_formed m o.criteria some formed are written)
+
+pub objective_line : (m : Data) (o : Option Objective) → Known m → ExpressionsAreSaid → ExpressionsAreFormed → IsTrue (passes_if_any (λ x. list_all (is_expr m) (criteria_of x)) o) → IsTrue (passes_if_any (λ x. list_all is_written_expr (criteria_of x)) o)
     → Lines (objective_text m o) (map (objective_tree m) (option_to_list o))
-objective_line m None known said formed is written = no_line
-objective_line m (Some o) known said formed is written = line _ (objective_tree m o) (sense_said o.sense (said m o.expr known.valid known.written is written)) (formed m o.expr is written)
+objective_line m None known said formed are written = no_line
+objective_line m (Some o) known said formed are written = aim_line m o (is_empty o.criteria) refl known said formed are written
+
+-- the criteria of a valid model are expressions
+pub criteria_passed : (m : Data) (o : Option Objective) → IfSome o (IsRanked m) → IsTrue (passes_if_any (λ x. is_expr m x.expr) o) → IsTrue (passes_if_any (λ x. list_all (is_expr m) (criteria_of x)) o)
+criteria_passed m None ranked valid = refl
+criteria_passed m (Some o) ranked valid = criteria_are m o ranked valid

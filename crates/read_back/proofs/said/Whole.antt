@@ -21,7 +21,7 @@ use Rattle.read_back.proofs.Spelt.{is_told, are_told}
 use Rattle.read_back.proofs.said.Definitions.{interval_line, matrix_line, sequence_line, state_line}
 use Rattle.read_back.proofs.said.Functions.{is_function, functions_of, function_line}
 use Rattle.read_back.proofs.said.Uses.{Known}
-use Rattle.read_back.proofs.said.Constraints.{constraint_line, objective_line}
+use Rattle.read_back.proofs.said.Constraints.{constraint_line, objective_line, criteria_passed}
 
 all_of_both : {X : Type 0} (p q : X → Bool) (xs : List X) → IsTrue (list_all p xs) → IsTrue (list_all q xs) → IsTrue (list_all (λ x. p x && q x) xs)
 all_of_both p q [] first second = refl
@@ -52,7 +52,7 @@ whole_lines m known said formed =
     let constraints = lines_each (λ c. is_constraint m c && is_written m c) (λ c. statement (constraint_text m c)) (λ c. Constrain (constraint_tree m c))
     (λ c is. constraint_line m c known said formed is)
     m.constraints (all_of_both (is_constraint m) (is_written m) m.constraints known.valid.constraints known.written.constraints) in
-    let objective = objective_line m m.objective known said formed known.valid.objective known.written.objective in
+    let objective = objective_line m m.objective known said formed (criteria_passed m m.objective known.valid.criteria known.valid.objective) known.written.objective in
     lines_both (lines_both (lines_both (lines_both (lines_both (lines_both intervals matrices) sequences) functions) states) constraints) objective
 
 known_of : (m : Data) → IsValid m → IsWritten m → Known m

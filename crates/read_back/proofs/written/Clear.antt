@@ -9,7 +9,7 @@ use Rattle.cpo_text.specs.Words.{Word}
 use Rattle.cpo_text.specs.Runs.{left_out_words, has_left_out, is_deep, has_many_nestings, early}
 use Rattle.cpo_text.specs.Spelling.{spelling, is_formed, IsStatement}
 use Rattle.cpo_text.specs.declared.tree.Statement.{Statement}
-use Rattle.cpo_text.specs.declared.tree.Statement.TheVariants.{Empty, Define, Constrain, Forbid, Aim}
+use Rattle.cpo_text.specs.declared.tree.Statement.TheVariants.{Empty, Define, Constrain, Forbid, Aim, Rank}
 use Rattle.cpo_elab.specs.Stages.{Stage, is_function, function_in}
 use Rattle.cpo_elab.specs.Named.{some_name, name_defined}
 use Rattle.cpo_elab.specs.Judged.{is_of_other_sort, lacks_member, has_crowded, number_in}
@@ -45,6 +45,7 @@ name_kept (Define n d) h = not_from_false (list_any (bytes_eq n) left_out_words)
 name_kept (Constrain c) h = refl
 name_kept (Forbid w a f) h = refl
 name_kept (Aim s e) h = refl
+name_kept (Rank s es) h = refl
 
 pub told : (ws : List Word) (s : Statement) → early ws ≡ None → IsStatement ws s → Told s
 told ws s none is = record { formed = is.formed; kept = name_kept s (subst (λ x. has_left_out x ≡ false) is.spelt (no_left_out ws none)) }

@@ -1,7 +1,8 @@
 -- A definition or an objective that deserves no number leaves the model as a text can write it.
-use Rattle.std.proofs.Common.{◌≡◌, ℕ, true, false, not, List, [], ◌∷◌, ◌++◌, map, slice_index_or, Some, None, refl, ap, ◌∙◌}
-use Rattle.std.specs.List.{flat_map}
-use Rattle.std.proofs.lemmas.Bool.{and_from, or_parts, not_from_false}
+use Rattle.std.proofs.Common.{◌≡◌, ℕ, true, false, not, List, [], ◌∷◌, ◌++◌, map, length, nat_le, slice_index_or, Some, None, refl, ap, ◌∙◌}
+use Rattle.std.specs.List.{flat_map, list_all, list_any}
+use Rattle.std.proofs.lemmas.Bool.{and_parts, and_from, or_parts, not_from_false}
+use Rattle.std.proofs.lemmas.List.{length-map}
 use Rattle.base_laws.specs.laws.Items.{all_push}
 use Rattle.sched_model.specs.declared.types.IntervalDef.{IntervalDef}
 use Rattle.sched_model.specs.declared.types.MatrixDef.{MatrixDef}
@@ -11,7 +12,10 @@ use Rattle.sched_model.specs.declared.types.StateDef.{StateDef}
 use Rattle.sched_model.specs.Words.{is_empty}
 use Rattle.sched_model.specs.Data.{Data, with_interval, with_matrix, with_sequence, with_cumul, with_state, with_objective}
 use Rattle.sched_model.specs.Valid.{IsValid}
-use Rattle.cpo_text.specs.Expressions.{at_least, level}
+use Rattle.sched_model.specs.Rank.{criteria_of}
+use Rattle.sched_model.specs.declared.types.Expr.{Expr}
+use Rattle.sched_model.specs.declared.types.Objective.{Objective}
+use Rattle.cpo_text.specs.Expressions.{at_least, all_at_least, level}
 use Rattle.cpo_text.specs.declared.expression.Logic.{Logic}
 use Rattle.cpo_text.specs.declared.cumul.Cpart.{Cpart}
 use Rattle.cpo_text.specs.declared.cumul.Cpart.TheVariants as cpart
@@ -19,7 +23,7 @@ use Rattle.cpo_text.specs.declared.cumul.Cumul.{Cumul}
 use Rattle.cpo_text.specs.declared.tree.Definition.{Definition}
 use Rattle.cpo_text.specs.declared.tree.Definition.TheVariants.{IntervalVar, SequenceVar, TransitionMatrix, StateFunction, StepFunction, Cumulative}
 use Rattle.cpo_text.specs.declared.tree.Sense.{Sense}
-use Rattle.cpo_text.specs.declared.tree.Statement.TheVariants.{Define, Aim}
+use Rattle.cpo_text.specs.declared.tree.Statement.TheVariants.{Define, Aim, Rank}
 use Rattle.cpo_elab.specs.Named.{some_in_cpart, some_in_cumul, cum_of}
 use Rattle.cpo_elab.specs.Elaborated.{plain_interval, interval_of, sequence_named, matrix_named, state_named, turned, plain_parts, parts_signed, parts_in, cumul_named, defined, expr_of, objective_of}
 use Rattle.cpo_elab.specs.Judged.{is_of_other_sort, is_crowded}
@@ -145,15 +149,40 @@ pub expr_written : (m : Data) (e : Logic) → at_least 0 (level e) ≡ true → 
 expr_written m e formed sparse =
     and_from (is_written_tree (expr_of m e)) (not (is_crowded (factor (expr_of m e)))) (expr_plain m e 0 formed) (not_from_false (is_crowded (factor (expr_of m e))) (ap is_crowded (same_factor m e) ∙ sparse))
 
-pub aimed_fine : (m : Data) (s : Sense) (e : Logic) → Fine m → Told (Aim s e) → Clear m (Aim s e) → Fine (with_objective (objective_of m s e) m)
-aimed_fine m s e before told clear = record {
+objective_more : (m : Data) (o : Objective) → Fine m → list_all is_written_expr (criteria_of o) ≡ true → Fine (with_objective o m)
+objective_more m o before written = record {
   intervals = before.intervals;
   matrices = before.matrices;
   sequences = before.sequences;
   cumuls = before.cumuls;
   states = before.states;
-  constraints = all_grow m (with_objective (objective_of m s e) m) (λ p h. h) m.constraints before.constraints;
-  objective = expr_written m e told.formed clear.sparse;
+  constraints = all_grow m (with_objective o m) (λ p h. h) m.constraints before.constraints;
+  objective = written;
   listed = before.listed;
   unnamed = before.unnamed;
 }
+
+pub aimed_fine : (m : Data) (s : Sense) (e : Logic) → Fine m → Told (Aim s e) → Clear m (Aim s e) → Fine (with_objective (objective_of m s (expr_of m e ∷ [])) m)
+aimed_fine m s e before told clear =
+    let sparse = (or_parts (is_crowded (factor_of e)) false clear.sparse).0 in
+    objective_more m (objective_of m s (expr_of m e ∷ [])) before (and_from (is_written_expr (expr_of m e)) true (expr_written m e told.formed sparse) refl)
+
+-- of several expressions
+
+all_written : (m : Data) (es : List Logic) → all_at_least 0 (map level es) ≡ true → list_any (λ e. is_crowded (factor_of e)) es ≡ false → list_all is_written_expr (map (expr_of m) es) ≡ true
+all_written m [] formed sparse = refl
+all_written m (e ∷ es) formed sparse =
+    let formed_parts = and_parts (at_least 0 (level e)) (all_at_least 0 (map level es)) formed in
+    let sparse_parts = or_parts (is_crowded (factor_of e)) (list_any (λ e. is_crowded (factor_of e)) es) sparse in
+    and_from (is_written_expr (expr_of m e)) (list_all is_written_expr (map (expr_of m) es)) (expr_written m e formed_parts.0 sparse_parts.0) (all_written m es formed_parts.1 sparse_parts.1)
+
+criteria_written : (m : Data) (s : Sense) (es : List Expr) → nat_le 1 (length es) ≡ true → list_all is_written_expr es ≡ true → list_all is_written_expr (criteria_of (objective_of m s es)) ≡ true
+criteria_written m s [] some written = cc
+criteria_written m s (e ∷ []) some written = written
+criteria_written m s (e ∷ f ∷ es) some written = written
+
+pub ranked_fine : (m : Data) (s : Sense) (es : List Logic) → Fine m → Told (Rank s es) → Clear m (Rank s es) → Fine (with_objective (objective_of m s (map (expr_of m) es)) m)
+ranked_fine m s es before told clear =
+    let formed = and_parts (nat_le 1 (length es)) (all_at_least 0 (map level es)) told.formed in
+    objective_more m (objective_of m s (map (expr_of m) es)) before
+    (criteria_written m s (map (expr_of m) es) (ap (nat_le 1) (length-map es (expr_of m)) ∙ formed.0) (all_written m es formed.1 clear.sparse))

@@ -10,9 +10,10 @@ use Rattle.sched_base.specs.declared.ids.Seq.{Seq}
 use Rattle.sched_model.specs.declared.types.SequenceDef.{SequenceDef}
 use Rattle.sched_model.specs.declared.types.CumulDef.{CumulDef}
 use Rattle.sched_model.specs.declared.types.Constraint.{Constraint}
-use Rattle.sched_model.specs.declared.types.Constraint.TheVariants.{Temporal, Logic, Span, Alternative, Synchronize, NoOverlap, First, Last, Before, Prev, CumulIn, AlwaysEqual, AlwaysNoState}
+use Rattle.sched_model.specs.declared.types.Constraint.TheVariants.{NoOverlap, First, Last, Before, Prev, CumulIn}
 use Rattle.sched_model.specs.Words.{passes, passes_if_any, is_empty}
 use Rattle.sched_model.specs.Data.{Data}
+use Rattle.sched_model.specs.Rank.{criteria_of}
 use Rattle.sched_model.specs.Valid.{IsValid, is_constraint, is_seq, fits_types}
 use Rattle.cpo_text.specs.Runs.{left_out_words}
 use Rattle.cpo_elab.specs.NamedFirst.{is_named_sequence, is_named_cumul}
@@ -46,7 +47,7 @@ pub record Fine (m : Data) : Type 0 where
   pub cumuls : list_all is_fine_cumul m.cumuls ≡ true
   pub states : list_all (λ d. is_kept d.name) m.states ≡ true
   pub constraints : list_all (is_written m) m.constraints ≡ true
-  pub objective : passes_if_any (λ o. is_written_expr o.expr) m.objective ≡ true
+  pub objective : passes_if_any (λ o. list_all is_written_expr (criteria_of o)) m.objective ≡ true
   -- each without a name is written in one constraint, in the order of their numbers
   pub listed : Counted is_named_sequence m.sequences (sequence_ids m.constraints)
   pub unnamed : Counted is_named_cumul m.cumuls (cumul_ids m.constraints)
@@ -54,19 +55,11 @@ pub record Fine (m : Data) : Type 0 where
 -- constraints stay written as sequences are added
 
 pub written_grows : (m n : Data) → ((p : Seq) → is_named_at m p ≡ true → is_named_at n p ≡ true) → (c : Constraint) → is_written m c ≡ true → is_written n c ≡ true
-written_grows m n more (Temporal from to equal a b z) h = h
-written_grows m n more (Logic x) h = h
-written_grows m n more (Span a parts) h = h
-written_grows m n more (Alternative a parts) h = h
-written_grows m n more (Synchronize a parts) h = h
-written_grows m n more (NoOverlap p matrix direct) h = h
 written_grows m n more (First p a) h = more p h
 written_grows m n more (Last p a) h = more p h
 written_grows m n more (Before p a b) h = more p h
 written_grows m n more (Prev p a b) h = more p h
-written_grows m n more (CumulIn f w lo hi) h = h
-written_grows m n more (AlwaysEqual g a v i j) h = h
-written_grows m n more (AlwaysNoState g a) h = h
+written_grows m n more other h = h
 
 pub all_grow : (m n : Data) → ((p : Seq) → is_named_at m p ≡ true → is_named_at n p ≡ true) → (cs : List Constraint) → list_all (is_written m) cs ≡ true → list_all (is_written n) cs ≡ true
 all_grow m n more cs all = all_weaker (is_written m) (is_written n) (written_grows m n more) cs all
@@ -79,34 +72,12 @@ passing_stays q (x ∷ xs) ys (suc i) h = passing_stays q xs ys i h
 -- a valid model has what its constraints name
 
 sequence_within : (m : Data) (c : Constraint) → is_constraint m c ≡ true → are_within m.sequences (sequences_in c) ≡ true
-sequence_within m (Temporal from to equal a b z) h = refl
-sequence_within m (Logic x) h = refl
-sequence_within m (Span a parts) h = refl
-sequence_within m (Alternative a parts) h = refl
-sequence_within m (Synchronize a parts) h = refl
 sequence_within m (NoOverlap p matrix direct) h = and_from (is_seq m p) true (and_parts (is_seq m p) (passes_if_any (fits_types m p) matrix) h).0 refl
-sequence_within m (First p a) h = refl
-sequence_within m (Last p a) h = refl
-sequence_within m (Before p a b) h = refl
-sequence_within m (Prev p a b) h = refl
-sequence_within m (CumulIn f w lo hi) h = refl
-sequence_within m (AlwaysEqual g a v i j) h = refl
-sequence_within m (AlwaysNoState g a) h = refl
+sequence_within m other h = refl
 
 cumul_within : (m : Data) (c : Constraint) → is_constraint m c ≡ true → are_within m.cumuls (cumuls_in c) ≡ true
-cumul_within m (Temporal from to equal a b z) h = refl
-cumul_within m (Logic x) h = refl
-cumul_within m (Span a parts) h = refl
-cumul_within m (Alternative a parts) h = refl
-cumul_within m (Synchronize a parts) h = refl
-cumul_within m (NoOverlap p matrix direct) h = refl
-cumul_within m (First p a) h = refl
-cumul_within m (Last p a) h = refl
-cumul_within m (Before p a b) h = refl
-cumul_within m (Prev p a b) h = refl
 cumul_within m (CumulIn f w lo hi) h = and_from (nat_lt f.0 (length m.cumuls)) true (five_true (nat_lt f.0 (length m.cumuls)) _ _ _ _ h).0 refl
-cumul_within m (AlwaysEqual g a v i j) h = refl
-cumul_within m (AlwaysNoState g a) h = refl
+cumul_within m other h = refl
 
 sequences_within : (m : Data) (cs : List Constraint) → list_all (is_constraint m) cs ≡ true → are_within m.sequences (sequence_ids cs) ≡ true
 sequences_within m [] all = refl

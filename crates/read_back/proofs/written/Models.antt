@@ -8,7 +8,7 @@ use Rattle.sched_base.specs.declared.ids.Seq.{Seq}
 use Rattle.sched_model.specs.declared.types.SequenceDef.{SequenceDef}
 use Rattle.sched_model.specs.declared.types.CumulDef.{CumulDef}
 use Rattle.sched_model.specs.declared.types.Constraint.{Constraint}
-use Rattle.sched_model.specs.declared.types.Constraint.TheVariants.{Temporal, Logic, Span, Alternative, Synchronize, NoOverlap, First, Last, Before, Prev, CumulIn, AlwaysEqual, AlwaysNoState}
+use Rattle.sched_model.specs.declared.types.Constraint.TheVariants.{NoOverlap, First, Last, Before, Prev, CumulIn}
 use Rattle.sched_model.specs.Words.{passes, passes_if_any, is_empty}
 use Rattle.sched_model.specs.Data.{Data}
 use Rattle.sched_model.specs.Valid.{all_names}
@@ -23,34 +23,12 @@ use Rattle.read_back.proofs.written.Fine.{Fine, is_kept, is_fine_sequence, is_fi
 -- what constraints write, at the new places
 
 move_sequence : (s c : ℕ → ℕ) (k : Constraint) → sequences_in (renumbered s c k) ≡ map s (sequences_in k)
-move_sequence s c (Temporal from to equal a b z) = refl
-move_sequence s c (Logic x) = refl
-move_sequence s c (Span a parts) = refl
-move_sequence s c (Alternative a parts) = refl
-move_sequence s c (Synchronize a parts) = refl
 move_sequence s c (NoOverlap p matrix direct) = refl
-move_sequence s c (First p a) = refl
-move_sequence s c (Last p a) = refl
-move_sequence s c (Before p a b) = refl
-move_sequence s c (Prev p a b) = refl
-move_sequence s c (CumulIn f w lo hi) = refl
-move_sequence s c (AlwaysEqual g a v i j) = refl
-move_sequence s c (AlwaysNoState g a) = refl
+move_sequence s c other = refl
 
 move_cumul : (s c : ℕ → ℕ) (k : Constraint) → cumuls_in (renumbered s c k) ≡ map c (cumuls_in k)
-move_cumul s c (Temporal from to equal a b z) = refl
-move_cumul s c (Logic x) = refl
-move_cumul s c (Span a parts) = refl
-move_cumul s c (Alternative a parts) = refl
-move_cumul s c (Synchronize a parts) = refl
-move_cumul s c (NoOverlap p matrix direct) = refl
-move_cumul s c (First p a) = refl
-move_cumul s c (Last p a) = refl
-move_cumul s c (Before p a b) = refl
-move_cumul s c (Prev p a b) = refl
 move_cumul s c (CumulIn f w lo hi) = refl
-move_cumul s c (AlwaysEqual g a v i j) = refl
-move_cumul s c (AlwaysNoState g a) = refl
+move_cumul s c other = refl
 
 move_all : (f : Constraint → List ℕ) (r : Constraint → Constraint) (p : ℕ → ℕ) → ((k : Constraint) → f (r k) ≡ map p (f k)) → (ks : List Constraint) → flat_map f (map r ks) ≡ map p (flat_map f ks)
 move_all f r p one [] = refl
@@ -69,19 +47,11 @@ named_moved : (m : Data) (p : Seq) → is_named_at m p ≡ true → is_named_at 
 named_moved m p h = ap (passes is_named_sequence) (at_new_place is_named_sequence m.sequences p.0) ∙ h
 
 written_moved : (m : Data) (k : Constraint) → is_written m k ≡ true → is_written (named_first m) (renumbered (sequence_place m) (cumul_place m) k) ≡ true
-written_moved m (Temporal from to equal a b z) h = h
-written_moved m (Logic x) h = h
-written_moved m (Span a parts) h = h
-written_moved m (Alternative a parts) h = h
-written_moved m (Synchronize a parts) h = h
-written_moved m (NoOverlap p matrix direct) h = h
 written_moved m (First p a) h = named_moved m p h
 written_moved m (Last p a) h = named_moved m p h
 written_moved m (Before p a b) h = named_moved m p h
 written_moved m (Prev p a b) h = named_moved m p h
-written_moved m (CumulIn f w lo hi) h = h
-written_moved m (AlwaysEqual g a v i j) h = h
-written_moved m (AlwaysNoState g a) h = h
+written_moved m other h = h
 
 -- names
 

@@ -16,7 +16,7 @@ use Rattle.sched_model.specs.Valid.{IsValid}
 use Rattle.cpo_text.specs.declared.tree.Int.{Int}
 use Rattle.cpo_text.specs.declared.cumul.Cumul.{Cumul}
 use Rattle.cpo_text.specs.declared.tree.Hierarchy.{Hierarchy}
-use Rattle.cpo_text.specs.declared.tree.Hierarchy.TheVariants.{Span, Alternative, Synchronize}
+use Rattle.cpo_text.specs.declared.tree.Hierarchy.TheVariants.{Span, Synchronize}
 use Rattle.cpo_text.specs.declared.tree.Over.{Over}
 use Rattle.cpo_text.specs.declared.tree.Over.TheVariants as over
 use Rattle.cpo_text.specs.declared.tree.Spaced.{Spaced}
@@ -29,13 +29,14 @@ use Rattle.cpo_text.specs.declared.tree.Bound.TheVariants.{AtMost, AtLeast}
 use Rattle.cpo_text.specs.declared.tree.Moments.{Moments}
 use Rattle.cpo_text.specs.declared.tree.Moments.TheVariants as moments
 use Rattle.cpo_text.specs.declared.tree.Constrained.{Constrained}
-use Rattle.cpo_text.specs.declared.tree.Constrained.TheVariants.{Between, Parts, NoOverlap, Extreme, Ordered, Bounded, AlwaysIn, AlwaysEqual, AlwaysNoState, Holds}
+use Rattle.cpo_text.specs.declared.tree.Constrained.TheVariants.{Between, Parts, Alternative, NoOverlap, Extreme, Ordered, Bounded, AlwaysIn, AlwaysEqual, AlwaysNoState, Holds}
 use Rattle.cpo_text.specs.declared.tree.Statement.TheVariants.{Constrain}
 use Rattle.cpo_elab.specs.declared.names.Sort.TheVariants.{Sequence}
 use Rattle.cpo_elab.specs.Named.{itv_of, itvs_of, seq_of, cum_of, some_in_cumul}
 use Rattle.cpo_elab.specs.Literals.{int_of}
 use Rattle.cpo_elab.specs.Elaborated.{sequence_named, cumul_named, hierarchy_of, extreme_of, order_of, bound_of, window_of, named_itself, cumul_id, constraint_of, with_unnamed, with_listed, with_written}
-use Rattle.cpo_elab.specs.Judged.{is_of_other_sort}
+use Rattle.cpo_elab.specs.Factors.{factor_of}
+use Rattle.cpo_elab.specs.Judged.{is_crowded, is_of_other_sort}
 use Rattle.cpo_elab.specs.NamedFirst.{is_named_sequence, is_named_cumul}
 use Rattle.cpo_elab.specs.lemmas.Names.{lone_right}
 use Rattle.read_back.specs.Written.{is_written, sequences_in, cumuls_in}
@@ -156,12 +157,12 @@ ordered_fine m Prev p a b before right = constraint_more m (order_of Prev (seq_o
 
 parts_fine : (m : Data) (h : Hierarchy) (a : List ℕ) (ns : List (List ℕ)) → Fine m → Fine (with_constraint (hierarchy_of h (itv_of m a) (itvs_of m ns)) m)
 parts_fine m Span a ns before = constraint_more m (hierarchy_of Span (itv_of m a) (itvs_of m ns)) before refl (refl, refl)
-parts_fine m Alternative a ns before = constraint_more m (hierarchy_of Alternative (itv_of m a) (itvs_of m ns)) before refl (refl, refl)
 parts_fine m Synchronize a ns before = constraint_more m (hierarchy_of Synchronize (itv_of m a) (itvs_of m ns)) before refl (refl, refl)
 
 pub stated_fine : (m : Data) (c : Constrained) → IsValid m → Fine m → Told (Constrain c) → Clear m (Constrain c) → Fine (with_constraint (constraint_of m c) (with_written m c))
 stated_fine m (Between t a b z) valid before told clear = constraint_more m (constraint_of m (Between t a b z)) before refl (refl, refl)
 stated_fine m (Parts h a ns) valid before told clear = parts_fine m h a ns before
+stated_fine m (Alternative a ns n) valid before told clear = constraint_more m (constraint_of m (Alternative a ns n)) before refl (refl, refl)
 stated_fine m (NoOverlap p s) valid before told clear = overlap_fine m p s valid before clear
 stated_fine m (Extreme e p a) valid before told clear = extreme_fine m e p a before (or_parts (is_of_other_sort m Sequence p) _ clear.uses).0
 stated_fine m (Ordered o p a b) valid before told clear = ordered_fine m o p a b before (or_parts (is_of_other_sort m Sequence p) _ clear.uses).0
@@ -172,4 +173,4 @@ stated_fine m (AlwaysIn f w lo hi) valid before told clear =
     (window_fine m m w (int_of lo) (int_of hi)) (λ g. refl) (λ g. refl)
 stated_fine m (AlwaysEqual g a v aligned) valid before told clear = constraint_more m (constraint_of m (AlwaysEqual g a v aligned)) before refl (refl, refl)
 stated_fine m (AlwaysNoState g a) valid before told clear = constraint_more m (constraint_of m (AlwaysNoState g a)) before refl (refl, refl)
-stated_fine m (Holds e) valid before told clear = constraint_more m (constraint_of m (Holds e)) before (expr_written m e told.formed clear.sparse) (refl, refl)
+stated_fine m (Holds e) valid before told clear = constraint_more m (constraint_of m (Holds e)) before (expr_written m e told.formed (or_parts (is_crowded (factor_of e)) false clear.sparse).0) (refl, refl)

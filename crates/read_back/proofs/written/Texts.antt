@@ -8,7 +8,7 @@ use Rattle.cpo_text.specs.Tokens.{Token}
 use Rattle.cpo_text.specs.Runs.{runs, words_of}
 use Rattle.cpo_text.specs.Reads.{HasForm, AreReadings, told}
 use Rattle.cpo_text.specs.declared.tree.Statement.{Statement}
-use Rattle.cpo_text.specs.declared.tree.Statement.TheVariants.{Empty, Define, Constrain, Forbid, Aim}
+use Rattle.cpo_text.specs.declared.tree.Statement.TheVariants.{Empty, Define, Constrain, Forbid, Aim, Rank}
 use Rattle.cpo_text.specs.declared.text.Form.{Form}
 use Rattle.cpo_text.specs.declared.text.Form.TheVariants.{Tree as Parsed, Number}
 use Rattle.cpo_text.specs.declared.text.Reading.{Reading}
@@ -29,13 +29,13 @@ use Rattle.read_back.specs.Written.{IsWritten}
 use Rattle.read_back.specs.Laws.{DeservedAreWritten}
 use Rattle.read_back.proofs.written.Fine.{Fine}
 use Rattle.read_back.proofs.written.Clear.{Told, Clear, told as what_is_told, clear}
-use Rattle.read_back.proofs.written.Defined.{defined_fine, aimed_fine}
+use Rattle.read_back.proofs.written.Defined.{defined_fine, aimed_fine, ranked_fine}
 use Rattle.read_back.proofs.written.Stated.{stated_fine}
 use Rattle.read_back.proofs.written.Calendars.{rules_fine}
 use Rattle.read_back.proofs.written.Models.{written_model}
 
 empty_valid : IsValid empty_model
-empty_valid = record { names = refl; intervals = refl; matrices = refl; sequences = refl; cumuls = refl; states = refl; constraints = refl; objective = refl; limits = refl }
+empty_valid = record { names = refl; intervals = refl; matrices = refl; sequences = refl; cumuls = refl; states = refl; constraints = refl; objective = refl; criteria = tt; limits = refl }
 
 empty_fine : Fine empty_model
 empty_fine = record { intervals = refl; matrices = refl; sequences = refl; cumuls = refl; states = refl; constraints = refl; objective = refl; listed = refl; unnamed = refl }
@@ -50,6 +50,7 @@ after_fine m (Define n d) valid before told clear = defined_fine m n d valid bef
 after_fine m (Constrain c) valid before told clear = stated_fine m c valid before told clear
 after_fine m (Forbid w a f) valid before told clear = before
 after_fine m (Aim s e) valid before told clear = aimed_fine m s e before told clear
+after_fine m (Rank s es) valid before told clear = ranked_fine m s es before told clear
 
 reached_fine : (st : Stage) (s : Statement) → IsValid st.model → Fine st.model → Told s → Clear st.model s → Fine (reached st s).model
 reached_fine st Empty valid before told clear = before
@@ -62,6 +63,7 @@ reached_fine st (Define n (Cumulative c)) valid before told clear = after_fine s
 reached_fine st (Constrain c) valid before told clear = after_fine st.model (Constrain c) valid before told clear
 reached_fine st (Forbid w a f) valid before told clear = rules_fine st.model (demand_of w) (itv_of st.model a) (closed_of (function_of st f)) before
 reached_fine st (Aim s e) valid before told clear = after_fine st.model (Aim s e) valid before told clear
+reached_fine st (Rank s es) valid before told clear = after_fine st.model (Rank s es) valid before told clear
 
 form_sound : StatementsKeepValid → (st : Stage) (k : ℕ) (ws : List Word) (f : Form) → HasForm ws f → is_shaped_form f ≡ true → number_at st k f ≡ None → Sound st → Sound (after_form st f)
 form_sound law st k ws (Parsed s) has shaped none sound = (law st k s sound.0 shaped none, reached_fine st s sound.0.valid sound.1 (what_is_told ws s has.0 has.1) (clear st k s none))

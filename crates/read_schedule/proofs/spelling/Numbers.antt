@@ -1,5 +1,5 @@
 -- Words that spell numbers.
-use Rattle.std.proofs.Common.{◌≡◌, suc, ◌^◌, ◌<◌, ℤ, pos, negsuc, true, false, List, [], ◌∷◌, ◌∙◌, sym, ap, arith, codes}
+use Rattle.std.proofs.Common.{◌≡◌, suc, ◌^◌, ◌<◌, ℤ, pos, negsuc, Bool, true, false, List, [], ◌∷◌, ◌∙◌, sym, ap, arith, codes}
 use Rattle.std.proofs.lemmas.Fmt.{signed_decimal_injective, digits_decimal}
 use Rattle.std.specs.Fmt.{decimal, signed_decimal}
 use Rattle.std.specs.Str.{all_ascii_digits}
@@ -12,13 +12,20 @@ use Rattle.sched_model.specs.declared.types.Slot.{Slot}
 use Rattle.sched_model.specs.declared.types.Slot.TheVariants.{Absent, Present}
 use Rattle.textline.specs.Lines.{Bytes}
 use Rattle.sched_text.specs.Answers.{slot_words}
-use Rattle.read_schedule.specs.code.Reads.{is_spelled}
+use Rattle.read_schedule.specs.code.Reads.{Decides, IsNumber, is_spelled}
 
 pub far_number : (w : Bytes) (t : ℤ) (old new : List Bytes) → old ≡ w ∷ new → w ≡ signed_decimal t → mag t < 2 ^ 63 → is_small t ≡ false → (z : ℤ) (ws : List Bytes) → is_small z ≡ true → old ≡ signed_decimal z ∷ ws → ⊥
 far_number w t old new stands is range far z ws fit e =
     let same : signed_decimal t ≡ signed_decimal z = cc in
     let one = signed_decimal_injective t z range (small_mag z fit) same in
     let small : is_small t ≡ true = ap is_small one ∙ fit in cc
+
+-- a word that is read as this number
+pub number_here : (w : Bytes) (t : ℤ) (b : Bool) → w ≡ signed_decimal t → mag t < 2 ^ 63 → b ≡ is_small t → Decides (IsNumber w) b
+number_here w t true stands range is = (t, sym is, stands)
+number_here w t false stands range is = λ number.
+    let one = signed_decimal_injective t number.0 range (small_mag number.0 number.1) (sym stands ∙ number.2) in
+    let wrong : false ≡ true = is ∙ ap is_small one ∙ number.1 in cc
 
 minus_first : (x y : Bytes) → 45 ∷ x ≡ 97 ∷ y → ⊥
 minus_first x y e = cc

@@ -16,10 +16,10 @@ use Rattle.sched_model.specs.Value.{present_of}
 use Rattle.sched_model.specs.Domain.{is_in_domain}
 use Rattle.sched_model.specs.Valid.{IsValid}
 use Rattle.textline.specs.Lines.{Bytes, line}
-use Rattle.read_schedule.specs.Schedules.{IsVerdict, IsCount, IsHeader, IsRefused, Spells, is_line, text}
+use Rattle.sched_text.specs.laws.Values.{numbers_first}
+use Rattle.read_schedule.specs.Schedules.{AreNumbers, IsVerdict, IsCount, IsHeader, IsRefused, Spells, is_line, text}
 use Rattle.read_schedule.specs.code.Rows.{rows, slot_row, order_row, state_row, body, end_row}
 use Rattle.read_schedule.specs.code.Reads.{EachCanStand, StopsBody, Starts, TakesHeader, Unlike}
-use Rattle.read_schedule.proofs.spelling.Numbers.{no_absent}
 use Rattle.read_schedule.proofs.whole.Heads.{verdict_is_line}
 use Rattle.read_schedule.proofs.given.Assignments.{domain_parts, some_domain}
 use Rattle.read_schedule.proofs.spelling.Rows.{text_append}
@@ -43,16 +43,19 @@ other_tag ws f o u (inr valued) = elim valued.2 [
   | inr found ↦ u (ap tag found)
 ]
 
+no_absent_numbers : (w : Bytes) → AreNumbers 8 w → w ≡ codes "absent" → ⊥
+no_absent_numbers w (vs, some, few, small, is) e = let first = numbers_first vs some small 97 (codes "bsent") (sym is ∙ e) in absurd (omega (arith, first))
+
 slot_no_verdict : (d : IntervalDef) (slot : Slot) → IsVerdict (slot_row 0 d slot) → ⊥
 slot_no_verdict d Absent (inl plain) = cc
 slot_no_verdict d Absent (inr valued) = elim valued.2 [
-  | inl best ↦ no_absent valued.0 valued.1 (sym (second d.name (codes "absent") (codes "optimal") (signed_decimal valued.0) best))
-  | inr found ↦ no_absent valued.0 valued.1 (sym (second d.name (codes "absent") (codes "unfinished") (signed_decimal valued.0) found))
+  | inl best ↦ no_absent_numbers valued.0 valued.1 (sym (second d.name (codes "absent") (codes "optimal") valued.0 best))
+  | inr found ↦ no_absent_numbers valued.0 valued.1 (sym (second d.name (codes "absent") (codes "unfinished") valued.0 found))
 ]
 slot_no_verdict d (Present s e) (inl plain) = cc
 slot_no_verdict d (Present s e) (inr valued) = elim valued.2 [
-  | inl best ↦ three d.name (signed_decimal s) (signed_decimal e) (codes "optimal") (signed_decimal valued.0) best
-  | inr found ↦ three d.name (signed_decimal s) (signed_decimal e) (codes "unfinished") (signed_decimal valued.0) found
+  | inl best ↦ three d.name (signed_decimal s) (signed_decimal e) (codes "optimal") valued.0 best
+  | inr found ↦ three d.name (signed_decimal s) (signed_decimal e) (codes "unfinished") valued.0 found
 ]
   where
     three : (a b c x y : Bytes) → a ∷ b ∷ c ∷ [] ≡ x ∷ y ∷ [] → ⊥

@@ -1,12 +1,13 @@
 -- The first two lines of an answer.
 use Rattle.std.proofs.Common.{◌≡◌, inl, inr, ℕ, ◌^◌, ◌<◌, true, false, List, [], ◌∷◌, ◌++◌, codes, Some, None, refl, sym, ap, ◌∙◌, subst, arith, append-nil, append_assoc}
-use Rattle.std.specs.Fmt.{decimal, signed_decimal}
+use Rattle.std.specs.Fmt.{decimal}
 use Rattle.std.proofs.lemmas.Fmt.{decimal_injective}
-use Rattle.sched_model.specs.laws.Small.{small_mag}
 use Rattle.textline.specs.Lines.{Bytes, line, words_of}
 use Rattle.textline.specs.laws.Lines.{one_word}
-use Rattle.textline.specs.laws.Numbers.{decimal_is_word, signed_is_word}
-use Rattle.read_schedule.specs.Schedules.{IsVerdict, IsCount, is_line, text}
+use Rattle.textline.specs.laws.Numbers.{decimal_is_word}
+use Rattle.textline.specs.Words.{is_word}
+use Rattle.sched_text.specs.laws.Values.{numbers_are_word}
+use Rattle.read_schedule.specs.Schedules.{AreNumbers, IsVerdict, IsCount, is_line, text}
 use Rattle.read_schedule.specs.code.Reads.{Decides, IsCountAlone, TakesHeader, TakesLine}
 use Rattle.read_schedule.proofs.spelling.Taken.{same_words}
 
@@ -18,11 +19,14 @@ far_count w n old new stands is range over count =
     first_is : (v w : Bytes) (x y : List Bytes) → v ∷ x ≡ w ∷ y → v ≡ w
     first_is v w x y e = cc
 
+numbers_word_is : (w : Bytes) → AreNumbers 8 w → is_word w ≡ true
+numbers_word_is w (vs, some, few, small, is) = ap is_word is ∙ numbers_are_word vs small
+
 pub verdict_is_line : (ws : List Bytes) → IsVerdict ws → is_line ws ≡ true
 verdict_is_line ws (inl plain) = ap is_line plain
 verdict_is_line ws (inr valued) = elim valued.2 [
-  | inl best ↦ ap is_line best ∙ one_word (codes "optimal") (signed_decimal valued.0 ∷ []) refl (one_word (signed_decimal valued.0) [] (signed_is_word valued.0 (small_mag valued.0 valued.1)) refl)
-  | inr found ↦ ap is_line found ∙ one_word (codes "unfinished") (signed_decimal valued.0 ∷ []) refl (one_word (signed_decimal valued.0) [] (signed_is_word valued.0 (small_mag valued.0 valued.1)) refl)
+  | inl best ↦ ap is_line best ∙ one_word (codes "optimal") (valued.0 ∷ []) refl (one_word valued.0 [] (numbers_word_is valued.0 valued.1) refl)
+  | inr found ↦ ap is_line found ∙ one_word (codes "unfinished") (valued.0 ∷ []) refl (one_word valued.0 [] (numbers_word_is valued.0 valued.1) refl)
 ]
 
 pub count_is_line : (ws : List Bytes) → IsCount ws → is_line ws ≡ true
@@ -52,6 +56,6 @@ both_taken old l after k new taken verdict next count = (words_of l ∷ words_of
 pub no_verdict_word : (ws : List Bytes) → ((vs : List Bytes) → ws ≡ codes "feasible" ∷ vs → ⊥) → ((vs : List Bytes) → ws ≡ codes "optimal" ∷ vs → ⊥) → ((vs : List Bytes) → ws ≡ codes "unfinished" ∷ vs → ⊥) → IsVerdict ws → ⊥
 no_verdict_word ws f o u (inl plain) = f [] plain
 no_verdict_word ws f o u (inr valued) = elim valued.2 [
-  | inl best ↦ o (signed_decimal valued.0 ∷ []) best
-  | inr found ↦ u (signed_decimal valued.0 ∷ []) found
+  | inl best ↦ o (valued.0 ∷ []) best
+  | inr found ↦ u (valued.0 ∷ []) found
 ]

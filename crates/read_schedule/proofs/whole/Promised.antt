@@ -1,5 +1,5 @@
 -- A text spells one assignment, and answers that show a schedule are schedule texts.
-use Rattle.std.proofs.Common.{◌≡◌, inl, inr, true, List, [], ◌∷◌, ◌++◌, codes, Some, None, sym, ◌∙◌, ap, refl, arith, append_assoc, append-nil}
+use Rattle.std.proofs.Common.{◌≡◌, inl, inr, ℤ, true, List, [], ◌∷◌, ◌++◌, codes, Some, None, sym, ◌∙◌, ap, refl, arith, append_assoc, append-nil}
 use Rattle.std.specs.Fmt.{decimal}
 use Rattle.std.specs.List.{list_all}
 use Rattle.base_laws.specs.laws.Items.{all_append}
@@ -8,11 +8,15 @@ use Rattle.sched_model.specs.declared.types.Answer.TheVariants.{Optimal, Feasibl
 use Rattle.sched_model.specs.declared.types.Solved.{Solved}
 use Rattle.sched_model.specs.declared.types.Assignment.{Assignment}
 use Rattle.sched_model.specs.Data.{Data}
+use Rattle.sched_model.specs.Valid.{IsValid}
 use Rattle.textline.specs.Lines.{Bytes, line}
 use Rattle.sched_model.specs.Answers.{verdict_in}
-use Rattle.sched_text.specs.Answers.{answer_text, nodes_line, schedule_lines, shown_schedule, verdict_words}
+use Rattle.sched_model.specs.Rank.{unranked_in}
+use Rattle.sched_text.specs.Answers.{answer_text, nodes_line, schedule_lines, shown_schedule, values_word, verdict_words}
 use Rattle.sched_text.specs.laws.Answers.{answers_told}
-use Rattle.read_schedule.specs.Schedules.{IsHeader, IsVerdict, is_line, text}
+use Rattle.sched_text.specs.Values.{IsValue}
+use Rattle.sched_text.specs.laws.Values.{values_small, few_values}
+use Rattle.read_schedule.specs.Schedules.{AreNumbers, IsHeader, IsVerdict, is_line, text}
 use Rattle.read_schedule.specs.Promises.{SchedulesAreTold, AnswersAreSchedules, Shows}
 use Rattle.read_schedule.specs.code.Rows.{body, end_row}
 use Rattle.read_schedule.proofs.spelling.Texts.{cut, some_line}
@@ -67,14 +71,17 @@ schedules_told m bytes a b valid sa sb =
 
 -- answers
 
-shown_verdict : (x : Answer) (a : Assignment) → Shows x a → IsVerdict (verdict_words (verdict_in x))
-shown_verdict (Optimal v b) a shows = inr (v, shows.0, inl refl)
-shown_verdict (Feasible b) a shows = inl refl
-shown_verdict Infeasible a shows = absurd shows
-shown_verdict (Unfinished None) a shows = absurd shows
-shown_verdict (Unfinished (Some va)) a shows = inr (va.0, shows.0, inr refl)
+values_shown : (m : Data) (v : ℤ) → IsValid m → IsValue m v → AreNumbers 8 (values_word m v)
+values_shown m v valid value = let few = few_values m v valid value in (unranked_in m v, few.0, few.1, values_small m v valid value, refl)
 
-shown_lines : (m : Data) (x : Answer) (a : Assignment) → Shows x a → shown_schedule m x ≡ schedule_lines m a
+shown_verdict : (m : Data) (x : Answer) (a : Assignment) → IsValid m → Shows m x a → IsVerdict (verdict_words m (verdict_in x))
+shown_verdict m (Optimal v b) a valid shows = inr (values_word m v, values_shown m v valid shows.0, inl refl)
+shown_verdict m (Feasible b) a valid shows = inl refl
+shown_verdict m Infeasible a valid shows = absurd shows
+shown_verdict m (Unfinished None) a valid shows = absurd shows
+shown_verdict m (Unfinished (Some va)) a valid shows = inr (values_word m va.0, values_shown m va.0 valid shows.0, inr refl)
+
+shown_lines : (m : Data) (x : Answer) (a : Assignment) → Shows m x a → shown_schedule m x ≡ schedule_lines m a
 shown_lines m (Optimal v b) a shows = ap (schedule_lines m) shows.1
 shown_lines m (Feasible b) a shows = ap (schedule_lines m) shows
 shown_lines m Infeasible a shows = absurd shows
@@ -82,12 +89,12 @@ shown_lines m (Unfinished None) a shows = absurd shows
 shown_lines m (Unfinished (Some va)) a shows = ap (schedule_lines m) shows.1
 
 pub answers_are : AnswersAreSchedules
-answers_are m s a few shows domain =
-    let v = line (verdict_words (verdict_in s.answer)) in
+answers_are m s a valid few shows domain =
+    let v = line (verdict_words m (verdict_in s.answer)) in
     let n = nodes_line s.nodes in
     record {
-      header = verdict_words (verdict_in s.answer) ∷ (codes "nodes" ∷ decimal s.nodes ∷ []) ∷ [];
-      heads = (shown_verdict s.answer a shows, (s.nodes, few, refl));
+      header = verdict_words m (verdict_in s.answer) ∷ (codes "nodes" ∷ decimal s.nodes ∷ []) ∷ [];
+      heads = (shown_verdict m s.answer a valid shows, (s.nodes, few, refl));
       domain = domain;
       whole = ap (λ t. v ++ n ++ t ++ line end_row) (shown_lines m s.answer a shows)
           ∙ append_assoc (v ++ n) (schedule_lines m a) (line end_row)

@@ -1,5 +1,5 @@
 -- What reading a part of a schedule text gives.
-use Rattle.std.specs.Prelude.{◌≡◌, ◌⊎◌, ℕ, ◌^◌, ◌+◌, ◌<◌, ◌≤◌, ◌==◌, ◌&&◌, ℤ, ◌+ℤ◌, int_le, Bool, true, false, not, List, [], ◌∷◌, ◌++◌, length, take, map, slice_get, slice_index, slice_index_or, set, get_or, Option, Some, None, Result, Ok, Err, ⊤, IsTrue}
+use Rattle.std.specs.Prelude.{◌≡◌, ◌⊎◌, ℕ, ◌^◌, ◌+◌, ◌<◌, ◌≤◌, ◌==◌, ◌&&◌, ℤ, ◌+ℤ◌, int_le, Bool, true, false, not, List, [], ◌∷◌, ◌++◌, length, take, drop, map, slice_get, slice_index, slice_index_or, set, get_or, Option, Some, None, Result, Ok, Err, ⊤, IsTrue}
 use Rattle.std.specs.Fmt.{decimal, signed_decimal}
 use Rattle.std.specs.Str.{bytes_eq}
 use Rattle.std.specs.List.{list_all}
@@ -19,7 +19,8 @@ use Rattle.sched_model.specs.Valid.{is_itv}
 use Rattle.textline.specs.Lines.{Bytes, line, words_of}
 use Rattle.sched_text.specs.Answers.{segment_words}
 use Rattle.sched_text.specs.laws.Lines.{is_spelled_segment}
-use Rattle.read_schedule.specs.Schedules.{IsVerdict, IsCount, IsHeader, is_line, text}
+use Rattle.sched_text.specs.laws.Values.{has_no_comma}
+use Rattle.read_schedule.specs.Schedules.{AreNumbers, IsVerdict, IsCount, IsHeader, is_line, text}
 use Rattle.read_schedule.specs.code.Rows.{rows, begins, body, end_row}
 use Rattle.read_schedule.specs.declared.stop.Stop.{Stop}
 use Rattle.read_schedule.specs.declared.stop.Stop.TheVariants.{Line, NoMemory}
@@ -94,8 +95,17 @@ abbrev pub Decides : Type 0 → Bool → Type 0
 Decides P true = P
 Decides P false = P → ⊥
 
-abbrev pub IsNumberAlone : List Bytes → Type 0
-IsNumberAlone ws = (v : ℤ) × (is_small v ≡ true) × (ws ≡ signed_decimal v ∷ [])
+-- a number of magnitude at most 2^62
+abbrev pub IsNumber : Bytes → Type 0
+IsNumber w = (v : ℤ) × (is_small v ≡ true) × (w ≡ signed_decimal v)
+
+abbrev pub AreNumbersAlone : List Bytes → Type 0
+AreNumbersAlone ws = (w : Bytes) × AreNumbers 8 w × (ws ≡ w ∷ [])
+
+-- the place of the first comma
+abbrev pub FindsComma : Bytes → Option ℕ → Type 0
+FindsComma bytes (Some k) = (k < length bytes) × (bytes ≡ take k bytes ++ 44 ∷ drop (k + 1) bytes) × (has_no_comma (take k bytes) ≡ true)
+FindsComma bytes None = has_no_comma bytes ≡ true
 
 abbrev pub IsCountAlone : List Bytes → Type 0
 IsCountAlone ws = (n : ℕ) × (n ≤ 2 ^ 62) × (ws ≡ decimal n ∷ [])

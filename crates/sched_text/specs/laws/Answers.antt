@@ -1,10 +1,8 @@
 -- The text of an answer tells the answer.
-use Rattle.std.specs.Prelude.{◌≡◌, ◌^◌, ◌<◌, ℕ, suc, ℤ, pos, negsuc, true, ◌&&◌, List, [], ◌∷◌, ◌++◌, codes, Some, None}
+use Rattle.std.specs.Prelude.{◌≡◌, ◌^◌, ◌<◌, ℕ, ℤ, true, ◌&&◌, List, [], ◌∷◌, ◌++◌, codes, Some, None}
 use Rattle.std.proofs.Common.{refl, sym, ap, ◌∙◌, arith, append_assoc}
-use Rattle.std.proofs.lemmas.Int.{ints}
-use Rattle.std.proofs.lemmas.Fmt.{decimal_injective, digits_decimal, signed_decimal_injective}
-use Rattle.std.specs.Fmt.{decimal, signed_decimal}
-use lib.Signed.{mag}
+use Rattle.std.proofs.lemmas.Fmt.{decimal_injective}
+use Rattle.std.specs.Fmt.{decimal}
 use Rattle.sched_model.specs.declared.types.Assignment.{Assignment}
 use Rattle.sched_model.specs.declared.types.Answer.{Answer}
 use Rattle.sched_model.specs.declared.types.Answer.TheVariants.{Optimal, Feasible, Infeasible, Unfinished}
@@ -14,17 +12,17 @@ use Rattle.sched_model.specs.Answers.{verdict_in}
 use Rattle.sched_model.specs.Words.{placewise}
 use Rattle.sched_model.specs.Domain.{is_in_domain, fits_def, lists_present, are_segments}
 use Rattle.sched_model.specs.Valid.{IsValid, is_interval_def, is_sequence_def, is_state_def}
-use Rattle.std.specs.Str.{all_ascii_digits}
 use Rattle.std.proofs.lemmas.Bool.{and_parts}
-use Rattle.base_laws.specs.laws.Numerals.{digits_are_numerals}
 use Rattle.sched_model.specs.laws.Same.{same_assignment}
 use Rattle.textline.specs.Lines.{Bytes, line}
 use Rattle.textline.specs.Words.{is_word, are_words}
 use Rattle.textline.specs.laws.Lines.{line_told, one_word}
-use Rattle.textline.specs.laws.Numbers.{decimal_is_word, signed_is_word}
+use Rattle.textline.specs.laws.Numbers.{decimal_is_word}
 use Rattle.sched_text.specs.Pieces.{at_places}
-use Rattle.sched_text.specs.Answers.{slot_line, order_line, segments_line, schedule_lines, verdict_words, nodes_line, end_line, shown_schedule}
-use Rattle.sched_text.specs.code.Told.{IsPrintable, IsNumber, AnswersAreTold}
+use Rattle.sched_text.specs.Answers.{slot_line, order_line, segments_line, schedule_lines, values_word, verdict_words, nodes_line, end_line, shown_schedule}
+use Rattle.sched_text.specs.Values.{IsValue}
+use Rattle.sched_text.specs.code.Told.{IsPrintable, AnswersAreTold}
+use Rattle.sched_text.specs.laws.Values.{values_are_word, values_told, values_first}
 use Rattle.sched_text.specs.laws.Places.{places_told, placewise_more}
 use Rattle.sched_text.specs.laws.Names.{names_of}
 use Rattle.sched_text.specs.laws.Lines.{slots_tell, orders_tell, segments_tell, spelled_slot, spelled_order, spelled_segments, is_spelled_slot, are_itvs, are_spelled_segments}
@@ -55,48 +53,35 @@ schedules_told m valid a b p q ha hb e =
 
 -- verdicts
 
-number_mag : (z : ℤ) → IsNumber z → mag z < 2 ^ 63
-number_mag (pos n) h = omega (arith, ints, h.1)
-number_mag (negsuc n) h = omega (arith, ints, h.0)
+value_words : (m : Data) (w : Bytes) (v : ℤ) → IsValid m → is_word w ≡ true → IsValue m v → are_words (w ∷ values_word m v ∷ []) ≡ true
+value_words m w v valid h value = one_word w (values_word m v ∷ []) h (one_word (values_word m v) [] (values_are_word m v valid value) refl)
 
-number_words : (w : Bytes) (z : ℤ) → is_word w ≡ true → IsNumber z → are_words (w ∷ signed_decimal z ∷ []) ≡ true
-number_words w z h small = one_word w (signed_decimal z ∷ []) h (one_word (signed_decimal z) [] (signed_is_word z (number_mag z small)) refl)
+abbrev told_words : Data → Answer → List Bytes
+told_words m x = verdict_words m (verdict_in x)
 
-abbrev told_words : Answer → List Bytes
-told_words x = verdict_words (verdict_in x)
+verdict_is_words : (m : Data) (x : Answer) → IsValid m → IsPrintable m x → are_words (told_words m x) ≡ true
+verdict_is_words m (Optimal v a) valid h = value_words m (codes "optimal") v valid refl h.0
+verdict_is_words m (Feasible a) valid h = refl
+verdict_is_words m Infeasible valid h = refl
+verdict_is_words m (Unfinished None) valid h = refl
+verdict_is_words m (Unfinished (Some va)) valid h = value_words m (codes "unfinished") va.0 valid refl h.0
 
-verdict_is_words : (m : Data) (x : Answer) → IsPrintable m x → are_words (told_words x) ≡ true
-verdict_is_words m (Optimal v a) h = number_words (codes "optimal") v refl h.0
-verdict_is_words m (Feasible a) h = refl
-verdict_is_words m Infeasible h = refl
-verdict_is_words m (Unfinished None) h = refl
-verdict_is_words m (Unfinished (Some va)) h = number_words (codes "unfinished") va.0 refl h.0
+verdict_first : (m : Data) (x : Answer) → (w : Bytes) × (ws : List Bytes) × (told_words m x ≡ w ∷ ws)
+verdict_first m (Optimal v a) = (codes "optimal", values_word m v ∷ [], refl)
+verdict_first m (Feasible a) = (codes "feasible", [], refl)
+verdict_first m Infeasible = (codes "infeasible", [], refl)
+verdict_first m (Unfinished None) = (codes "unfinished", codes "none" ∷ [], refl)
+verdict_first m (Unfinished (Some va)) = (codes "unfinished", values_word m va.0 ∷ [], refl)
 
-verdict_first : (x : Answer) → (w : Bytes) × (ws : List Bytes) × (told_words x ≡ w ∷ ws)
-verdict_first (Optimal v a) = (codes "optimal", signed_decimal v ∷ [], refl)
-verdict_first (Feasible a) = (codes "feasible", [], refl)
-verdict_first Infeasible = (codes "infeasible", [], refl)
-verdict_first (Unfinished None) = (codes "unfinished", codes "none" ∷ [], refl)
-verdict_first (Unfinished (Some va)) = (codes "unfinished", signed_decimal va.0 ∷ [], refl)
-
-verdict_told : (m : Data) (x y : Answer) (p q : Bytes) → IsPrintable m x → IsPrintable m y → line (told_words x) ++ p ≡ line (told_words y) ++ q → (told_words x ≡ told_words y) × (p ≡ q)
-verdict_told m x y p q hx hy e =
-    let a = verdict_first x in
-    let b = verdict_first y in
-    let told = line_told a.0 a.1 b.0 b.1 p q (ap are_words (sym a.2) ∙ verdict_is_words m x hx) (ap are_words (sym b.2) ∙ verdict_is_words m y hy) (ap (λ ws. line ws ++ p) (sym a.2) ∙ e ∙ ap (λ ws. line ws ++ q) b.2) in
+verdict_told : (m : Data) (x y : Answer) (p q : Bytes) → IsValid m → IsPrintable m x → IsPrintable m y → line (told_words m x) ++ p ≡ line (told_words m y) ++ q → (told_words m x ≡ told_words m y) × (p ≡ q)
+verdict_told m x y p q valid hx hy e =
+    let a = verdict_first m x in
+    let b = verdict_first m y in
+    let told = line_told a.0 a.1 b.0 b.1 p q (ap are_words (sym a.2) ∙ verdict_is_words m x valid hx) (ap are_words (sym b.2) ∙ verdict_is_words m y valid hy) (ap (λ ws. line ws ++ p) (sym a.2) ∙ e ∙ ap (λ ws. line ws ++ q) b.2) in
     (a.2 ∙ told.0 ∙ sym b.2, told.1)
 
-no_digits : (n : ℕ) → n < 2 ^ 64 → decimal n ≡ codes "none" → ⊥
-no_digits n small e =
-    let digits : all_ascii_digits (decimal n) ≡ true = digits_decimal digits_are_numerals n small in
-    let wrong : all_ascii_digits (codes "none") ≡ true = ap all_ascii_digits (sym e) ∙ digits in cc
-
-minus_is_no_letter : (x y : Bytes) → 45 ∷ x ≡ 110 ∷ y → ⊥
-minus_is_no_letter x y e = cc
-
-no_number : (z : ℤ) → IsNumber z → signed_decimal z ≡ codes "none" → ⊥
-no_number (pos n) h e = no_digits n (omega (arith, number_mag (pos n) h)) e
-no_number (negsuc n) h e = minus_is_no_letter (decimal (suc n)) (codes "one") e
+no_value : (m : Data) (v : ℤ) → IsValid m → IsValue m v → values_word m v ≡ codes "none" → ⊥
+no_value m v valid value e = absurd (omega (arith, values_first m v valid value 110 (codes "one") e))
 
 -- two words tell the second
 pub second : (a b c d : Bytes) → a ∷ b ∷ [] ≡ c ∷ d ∷ [] → b ≡ d
@@ -113,29 +98,29 @@ kind (Feasible a) = 102
 kind Infeasible = 105
 kind (Unfinished found) = 117
 
-first_byte : (x : Answer) → tag (told_words x) ≡ kind x
-first_byte (Optimal v a) = refl
-first_byte (Feasible a) = refl
-first_byte Infeasible = refl
-first_byte (Unfinished None) = refl
-first_byte (Unfinished (Some va)) = refl
+first_byte : (m : Data) (x : Answer) → tag (told_words m x) ≡ kind x
+first_byte m (Optimal v a) = refl
+first_byte m (Feasible a) = refl
+first_byte m Infeasible = refl
+first_byte m (Unfinished None) = refl
+first_byte m (Unfinished (Some va)) = refl
 
 abbrev found_of : ℤ → Assignment → Answer
 found_of v a = Unfinished (Some (v, a))
 
-same_answer : (m : Data) → IsValid m → (x y : Answer) (p : Bytes) → IsPrintable m x → IsPrintable m y → told_words x ≡ told_words y → shown_schedule m x ++ p ≡ shown_schedule m y ++ p → x ≡ y
+same_answer : (m : Data) → IsValid m → (x y : Answer) (p : Bytes) → IsPrintable m x → IsPrintable m y → told_words m x ≡ told_words m y → shown_schedule m x ++ p ≡ shown_schedule m y ++ p → x ≡ y
 same_answer m valid (Optimal v a) (Optimal w b) p hx hy words e =
-    let number = signed_decimal_injective v w (number_mag v hx.0) (number_mag w hy.0) (second _ _ _ _ words) in
+    let number = values_told m v w valid hx.0 hy.0 (second _ _ _ _ words) in
     ap (λ z. Optimal z a) number ∙ ap (Optimal w) (schedules_told m valid a b p p hx.1 hy.1 e).0
 same_answer m valid (Feasible a) (Feasible b) p hx hy words e = ap Feasible (schedules_told m valid a b p p hx hy e).0
 same_answer m valid Infeasible Infeasible p hx hy words e = refl
 same_answer m valid (Unfinished None) (Unfinished None) p hx hy words e = refl
-same_answer m valid (Unfinished None) (Unfinished (Some vb)) p hx hy words e = absurd (no_number vb.0 hy.0 (sym (second _ _ _ _ words)))
-same_answer m valid (Unfinished (Some va)) (Unfinished None) p hx hy words e = absurd (no_number va.0 hx.0 (second _ _ _ _ words))
+same_answer m valid (Unfinished None) (Unfinished (Some vb)) p hx hy words e = absurd (no_value m vb.0 valid hy.0 (sym (second _ _ _ _ words)))
+same_answer m valid (Unfinished (Some va)) (Unfinished None) p hx hy words e = absurd (no_value m va.0 valid hx.0 (second _ _ _ _ words))
 same_answer m valid (Unfinished (Some va)) (Unfinished (Some vb)) p hx hy words e =
-    let number = signed_decimal_injective va.0 vb.0 (number_mag va.0 hx.0) (number_mag vb.0 hy.0) (second _ _ _ _ words) in
+    let number = values_told m va.0 vb.0 valid hx.0 hy.0 (second _ _ _ _ words) in
     ap (λ z. found_of z va.1) number ∙ ap (found_of vb.0) (schedules_told m valid va.1 vb.1 p p hx.1 hy.1 e).0
-same_answer m valid x y p _ _ words e = absurd (omega (arith, sym (first_byte x) ∙ ap tag words ∙ first_byte y))
+same_answer m valid x y p _ _ words e = absurd (omega (arith, sym (first_byte m x) ∙ ap tag words ∙ first_byte m y))
 
 nodes_told : (n k : ℕ) (p q : Bytes) → n < 2 ^ 64 → k < 2 ^ 64 → nodes_line n ++ p ≡ nodes_line k ++ q → (n ≡ k) × (p ≡ q)
 nodes_told n k p q hn hk e =
@@ -150,9 +135,9 @@ made_solved n x = record { nodes = n; answer = x }
 
 pub answers_told : AnswersAreTold
 answers_told m s t valid ns nt hs ht e =
-    let whole = sym (four_parts (line (told_words s.answer)) (nodes_line s.nodes) (shown_schedule m s.answer) end_line)
-    ∙ e ∙ four_parts (line (told_words t.answer)) (nodes_line t.nodes) (shown_schedule m t.answer) end_line in
-    let words = verdict_told m s.answer t.answer _ _ hs ht whole in
+    let whole = sym (four_parts (line (told_words m s.answer)) (nodes_line s.nodes) (shown_schedule m s.answer) end_line)
+    ∙ e ∙ four_parts (line (told_words m t.answer)) (nodes_line t.nodes) (shown_schedule m t.answer) end_line in
+    let words = verdict_told m s.answer t.answer _ _ valid hs ht whole in
     let nodes = nodes_told s.nodes t.nodes _ _ ns nt words.1 in
     let answer = same_answer m valid s.answer t.answer end_line hs ht words.0 nodes.1 in
     ap (λ n. made_solved n s.answer) nodes.0 ∙ ap (made_solved t.nodes) answer

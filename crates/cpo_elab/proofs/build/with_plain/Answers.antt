@@ -1,4 +1,5 @@
 use Rattle.cpo_elab.proofs.judging.Stepped.{can_define, fresh_name, own_name, small_amounts, no_signs, few_rows, can_constrain, can_write}
+use Rattle.cpo_elab.proofs.judging.Written.{plain_constraint}
 use Rattle.cpo_elab.proofs.build.with_plain.Goals as goal
 
 pub define-requires-clause-valid : goal.define-requires-clause-valid
@@ -24,3 +25,6 @@ constrain-requires-clause-valid c = can_constrain c.args.draft c.args.s.now c.in
 
 pub define-requires-clause-own : goal.define-requires-clause-own
 define-requires-clause-own c = own_name c.args.s.now c.in-Define.name _ c.in-Define.d c.in-Define.is c.as_slice.ensures c.requires.own
+
+pub constrain-requires-clause-plain : goal.constrain-requires-clause-plain
+constrain-requires-clause-plain c = plain_constraint c.args.s.now c.in-Constrain.c c.in-Constrain.is c.requires.plain

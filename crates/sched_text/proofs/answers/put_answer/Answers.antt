@@ -5,4 +5,4 @@ use Rattle.sched_text.proofs.Printing.{«as», four}
 use Rattle.sched_text.proofs.answers.put_answer.Goals as goal
 
 pub returns : goal.returns
-returns g c = four («as» c.put_verdict.ensures (ap (λ v. line (verdict_words v)) c.verdict_of.ensures)) c.put_nodes.ensures c.put_shown.ensures c.put_end.ensures
+returns g c = four («as» c.put_verdict.ensures (ap (λ v. line (verdict_words c.args.model.now v)) c.verdict_of.ensures)) c.put_nodes.ensures c.put_shown.ensures c.put_end.ensures

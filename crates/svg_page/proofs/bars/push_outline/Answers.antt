@@ -7,4 +7,4 @@ pub returns : goal.returns
 returns c =
     let fits_s : SFits w64 c.args.s = c.ranges.s in
     let fits_e : SFits w64 c.args.e = c.ranges.e in
-    six _ _ _ _ _ _ _ _ _ _ _ _ _ _ (rw c.from.ensures at c.in_ok-push_count.ensures) (simp to_z-of_z at c.in_ok-push_number.ensures) c.in_ok-push_count-2.ensures (simp to_z-of_z at c.in_ok-push_number-2.ensures) (simp to_z-of_z at c.in_ok-push_number-3.ensures) c.push.ensures
+    six _ _ _ _ _ _ _ _ _ _ _ _ _ _ c.in_ok-push_count.ensures (simp to_z-of_z at c.in_ok-push_number.ensures) c.in_ok-push_count-2.ensures (simp to_z-of_z at c.in_ok-push_number-2.ensures) (simp to_z-of_z at c.in_ok-push_number-3.ensures) c.push.ensures

@@ -10,4 +10,4 @@ returns c =
     let fits_q : SFits w64 c.args.s.q = search rules in
     let fits_v : SFits w64 c.args.s.v = search rules in
     let state : c.unsigned_abs.result ≡ unsigned_abs c.args.s.v = search rules in
-    three _ _ _ _ _ _ _ _ (rw state at (simp to_z-of_z at c.in_ok-push_outline.ensures)) (simp to_z-of_z at c.in_ok-push_number.ensures) (simp to_z-of_z at c.push_told.ensures)
+    three _ _ _ _ _ _ _ _ (rw (c.from.ensures, state) at (simp to_z-of_z at c.in_ok-push_outline.ensures)) (simp to_z-of_z at c.in_ok-push_number.ensures) (simp to_z-of_z at c.push_told.ensures)

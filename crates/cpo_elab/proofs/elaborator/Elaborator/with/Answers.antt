@@ -1,12 +1,11 @@
-use Rattle.std.proofs.Common.{◌≡◌, ◌+◌, None, option_map, sym, subst, arith}
-use Rattle.cpo_elab.specs.Held.{logic_in}
-use Rattle.cpo_elab.specs.Elaborated.{expr_of}
+use Rattle.std.proofs.Common.{◌≡◌, ◌+◌, None, sym, subst, arith}
+use Rattle.cpo_elab.specs.code.Judging.{written_in}
 use Rattle.cpo_elab.specs.Judged.{number_in}
 use Rattle.cpo_elab.proofs.judging.Stepped.{few}
 use Rattle.cpo_elab.proofs.elaborator.Elaborator.with.Goals as goal
 
 pub with-requires-clause-written : goal.with-requires-clause-written
-with-requires-clause-written c = subst (λ e. c.args.written ≡ option_map (expr_of e.stage.model) (logic_in c.args.s.now)) (sym c.self.view_is) c.requires.written
+with-requires-clause-written c = subst (λ e. c.args.written ≡ written_in e.stage.model c.args.s.now) (sym c.self.view_is) c.requires.written
 
 pub with-requires-clause-clear : goal.with-requires-clause-clear
 with-requires-clause-clear c = (c.self.inside.statements + 1, subst (λ e. number_in e.stage (e.statements + 1) c.args.s.now ≡ None) (sym c.self.view_is) c.requires.clear)
