@@ -23,7 +23,7 @@ use Rattle.logtext.specs.code.Reads.{NoneStands, ReadsWhole, ReadsNumbers, Reads
 use Rattle.logtext.specs.laws.Leads.{behind, head_is}
 use Rattle.logtext.specs.laws.Told.{count_told, moments_told}
 use Rattle.logtext.specs.laws.Entries.{AreTold, all_small, few_is_count}
-use Rattle.logtext.specs.laws.Kinds.{are_different, is_placed, basic_differ, basic_placed, hier_differ, hier_placed, seq_differ, seq_placed, cumul_differ, cumul_placed, state_differ, state_placed, one_place, begins, no_basic, no_hier, no_seq, no_cumul, no_state, no_extra}
+use Rattle.logtext.specs.laws.Kinds.{are_different, is_placed, basic_differ, basic_placed, hier_differ, hier_placed, seq_differ, seq_placed, cumul_differ, cumul_placed, state_differ, state_placed, one_place, begins, no_seq, no_cumul, no_state, no_extra}
 use Rattle.logtext.proofs.Lines.{NoneWhole}
 
 -- values
@@ -99,24 +99,6 @@ other_kind kinds numbers valid differ placed k ws v within none fit e =
     let place = one_place kinds k there.place differ within there.within (head_is _ _ _ _ both) in
     none v there.others fit (there.is ∙ ap (λ j. pos j ∷ there.others) (sym place)) (behind _ _ _ _ both)
 
-pub basic_fails : {W : Type 0} (numbers : W → List ℤ) (valid : W → Bool) (old ws : List Bytes) (k : ℕ) (r : EntryFault) → k < length basic_kinds → old ≡ get_or basic_kinds k [] ∷ ws → ReadsValue numbers_of is_valid (pos k ∷ []) ws (Err r)
-    → ReadsWhole (witness_words numbers) (is_fit_witness valid) old (Err r)
-basic_fails {W} numbers valid old ws k Bad within is none = no_kind
-  where
-    no_kind : (v : Witness W) → IsTrue (is_fit_witness valid v) → old ≡ witness_words numbers v → ⊥
-    no_kind (Basic w) fit e = other_kind basic_kinds numbers_of is_valid basic_differ basic_placed k ws w within none fit (sym is ∙ e)
-    no_kind w fit e = no_basic numbers w k ws (λ h. omega (arith, h)) within (sym is ∙ e)
-basic_fails numbers valid old ws k NoMemory within is none = tt
-
-pub hier_fails : {W : Type 0} (numbers : W → List ℤ) (valid : W → Bool) (old ws : List Bytes) (k : ℕ) (r : EntryFault) → k < length hier_kinds → old ≡ get_or hier_kinds k [] ∷ ws → ReadsValue hier_numbers is_valid_hier (pos k ∷ []) ws (Err r)
-    → ReadsWhole (witness_words numbers) (is_fit_witness valid) old (Err r)
-hier_fails {W} numbers valid old ws k Bad within is none = no_kind
-  where
-    no_kind : (v : Witness W) → IsTrue (is_fit_witness valid v) → old ≡ witness_words numbers v → ⊥
-    no_kind (Hier w) fit e = other_kind hier_kinds hier_numbers is_valid_hier hier_differ hier_placed k ws w within none fit (sym is ∙ e)
-    no_kind w fit e = no_hier numbers w k ws (λ h. omega (arith, h)) within (sym is ∙ e)
-hier_fails numbers valid old ws k NoMemory within is none = tt
-
 pub seq_fails : {W : Type 0} (numbers : W → List ℤ) (valid : W → Bool) (old ws : List Bytes) (k : ℕ) (r : EntryFault) → k < length seq_kinds → old ≡ get_or seq_kinds k [] ∷ ws → ReadsValue seq_numbers is_valid_seq (pos k ∷ []) ws (Err r)
     → ReadsWhole (witness_words numbers) (is_fit_witness valid) old (Err r)
 seq_fails {W} numbers valid old ws k Bad within is none = no_kind
@@ -143,31 +125,6 @@ state_fails {W} numbers valid old ws k Bad within is none = no_kind
     no_kind (State w) fit e = other_kind state_kinds state_numbers is_valid_state state_differ state_placed k ws w within none fit (sym is ∙ e)
     no_kind w fit e = no_state numbers w k ws (λ h. omega (arith, h)) within (sym is ∙ e)
 state_fails numbers valid old ws k NoMemory within is none = tt
-
-pub has_kind : {V : Type 0} (kinds : List Bytes) (numbers : V → List ℤ) (valid : V → Bool) (old ws : List Bytes) (k : ℕ) (v : V) → old ≡ get_or kinds k [] ∷ ws → ReadsValue numbers valid (pos k ∷ []) ws (Ok v) → old ≡ kind_words kinds (numbers v)
-has_kind kinds numbers valid old ws k v is read = is ∙ ap (λ vs. get_or kinds k [] ∷ vs) read.3 ∙ ap (kind_words kinds) (sym read.2)
-
-pub behind_extra : {W : Type 0} (numbers : W → List ℤ) (valid : W → Bool) (old ws : List Bytes) (r : EntryFault) → old ≡ codes "EXTRA" ∷ ws → ReadsWhole (extra_words numbers) valid ws (Err r) → ReadsWhole (witness_words numbers) (is_fit_witness valid) old (Err r)
-behind_extra {W} numbers valid old ws Bad is none = no_kind
-  where
-    no_kind : (v : Witness W) → IsTrue (is_fit_witness valid v) → old ≡ witness_words numbers v → ⊥
-    no_kind (Extra w) fit e = none w fit (behind _ _ _ _ (sym is ∙ e))
-    no_kind w fit e = no_extra numbers w ws (λ h. omega (arith, h)) (sym is ∙ e)
-behind_extra numbers valid old ws NoMemory is none = tt
-
--- a word that no table has begins none of its witnesses
-no_such_kind : {V : Type 0} (kinds : List Bytes) (numbers : V → List ℤ) (old ws : List Bytes) (kind : Bytes) (v : V) → is_placed kinds (numbers v) ≡ true → old ≡ kind ∷ ws → FindsWord kinds kind None → old ≡ kind_words kinds (numbers v) → ⊥
-no_such_kind kinds numbers old ws kind v placed is none e =
-    let there = has_place kinds (numbers v) placed in none there.place there.within (head_is _ _ _ _ (sym is ∙ e ∙ ap (kind_words kinds) there.is))
-
-pub other_word : {W : Type 0} (numbers : W → List ℤ) (valid : W → Bool) (old ws : List Bytes) (kind : Bytes) → old ≡ kind ∷ ws → FindsWord basic_kinds kind None → FindsWord hier_kinds kind None → FindsWord seq_kinds kind None
-    → FindsWord cumul_kinds kind None → FindsWord state_kinds kind None → (kind ≡ codes "EXTRA" → ⊥) → NoneWhole (witness_words numbers) (is_fit_witness valid) old
-other_word numbers valid old ws kind is basic hier seq cumul state other (Basic w) fit e = no_such_kind basic_kinds numbers_of old ws kind w (basic_placed w) is basic e
-other_word numbers valid old ws kind is basic hier seq cumul state other (Hier w) fit e = no_such_kind hier_kinds hier_numbers old ws kind w (hier_placed w) is hier e
-other_word numbers valid old ws kind is basic hier seq cumul state other (Seq w) fit e = no_such_kind seq_kinds seq_numbers old ws kind w (seq_placed w) is seq e
-other_word numbers valid old ws kind is basic hier seq cumul state other (Cumul w) fit e = no_such_kind cumul_kinds cumul_numbers old ws kind w (cumul_placed w) is cumul e
-other_word numbers valid old ws kind is basic hier seq cumul state other (State w) fit e = no_such_kind state_kinds state_numbers old ws kind w (state_placed w) is state e
-other_word numbers valid old ws kind is basic hier seq cumul state other (Extra w) fit e = other (head_is _ _ _ _ (sym is ∙ e))
 
 pub never : IsTrue false → ⊥
 never h = cc

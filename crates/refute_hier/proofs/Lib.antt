@@ -1,3 +1,4 @@
 pub mod Apart
 pub mod Places
 pub mod Two
+pub mod Crowds

@@ -17,7 +17,7 @@ use Rattle.refute_hier.specs.declared.witness.HierWitness.TheVariants.{Span, Alt
 -- the interval of a constraint and its parts
 abbrev pub family_of : Option Constraint → List Itv
 family_of (Some (constraint.Span a parts)) = a ∷ parts
-family_of (Some (constraint.Alternative a parts)) = a ∷ parts
+family_of (Some (constraint.Alternative a parts n)) = a ∷ parts
 family_of (Some (constraint.Synchronize a parts)) = a ∷ parts
 family_of _ = []
 

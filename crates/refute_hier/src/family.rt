@@ -8,7 +8,7 @@ use sched_model::Constraint;
 #[derive(Clone, Copy, Debug, PartialEq, Eq)]
 pub enum Kind {
     Span,
-    Alternative,
+    Alternative { count: i64 },
     Synchronize,
 }
 
@@ -31,8 +31,8 @@ pub fn as_family(constraint: &Constraint) -> Option<Family<'_>>
             a: *a,
             parts: parts.as_slice(),
         }),
-        Constraint::Alternative { a, parts } => Some(Family {
-            kind: Kind::Alternative,
+        Constraint::Alternative { a, parts, count } => Some(Family {
+            kind: Kind::Alternative { count: *count },
             a: *a,
             parts: parts.as_slice(),
         }),

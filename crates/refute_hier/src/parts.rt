@@ -3,7 +3,7 @@ ghost use Rattle.std.specs.Prelude.{◌≡◌};
 ghost use Rattle.std.specs.Int.{int_max, int_min};
 ghost use Rattle.region.specs.Cells.{bounds_of, says_present, says_absent};
 ghost use Rattle.region.specs.Looks.{HasMoments, lst_in, ect_in};
-ghost use Rattle.refute_hier.specs.Parts.{are_apart, have_starts_apart, have_ends_apart, clash, plays, plays_in, at_part, some_part};
+ghost use Rattle.refute_hier.specs.Parts.{are_apart, have_starts_apart, have_ends_apart, clash, plays, plays_in, at_part, some_part, part_count};
 
 use region::{Bounds, Look, Presence, earliest_end, latest_start};
 use sched_base::{Itv, at};
@@ -173,4 +173,14 @@ pub fn some_part(look: &Look<'_>, role: Role, a: Itv, parts: &[Itv]) -> bool
     ensures { result ≡ some_part look.now.region role a parts.now }
 {
     parts.iter().any(|b| plays_in(look, role, a, *b))
+}
+
+/// How many parts are that.
+pub fn part_count(look: &Look<'_>, role: Role, a: Itv, parts: &[Itv]) -> usize
+    ensures { result ≡ part_count look.now.region role a parts.now }
+{
+    parts
+        .iter()
+        .filter(|b| plays_in(look, role, a, **b))
+        .count()
 }

@@ -2,11 +2,12 @@
 ghost use Rattle.std.specs.Prelude.{◌≡◌};
 ghost use Rattle.region.specs.declared.types.Presence.TheVariants as presence;
 ghost use Rattle.region.specs.Cells.{bounds_of};
-ghost use Rattle.refute_hier.specs.code.Rows.{two_parts, some_case, some_refutes};
+ghost use Rattle.refute_hier.specs.code.Rows.{some_case, some_refutes};
 ghost use Rattle.refute_hier.specs.declared.family.Kind.TheVariants as kind;
 
+use crate::alt::{is_crowded, is_short};
 use crate::family::{Family, Kind};
-use crate::parts::{Role, known, plays_in, some_part};
+use crate::parts::{Role, known, some_part};
 use region::{Look, Presence};
 use sched_base::Itv;
 
@@ -14,16 +15,6 @@ pub fn presence(look: &Look<'_>, x: Itv) -> Presence
     ensures { result ≡ (bounds_of look.now.region x).presence }
 {
     known(look, x).presence
-}
-
-fn are_two(look: &Look<'_>, a: Itv, parts: &[Itv]) -> bool
-    ensures { result ≡ two_parts look.now.region a parts.now }
-{
-    parts
-        .iter()
-        .filter(|b| plays_in(look, Role::IsThere, a, **b))
-        .count()
-        > 1
 }
 
 /// Whether a part of a span reaches out of it.
@@ -47,15 +38,25 @@ fn refutes_span(look: &Look<'_>, presence: Presence, a: Itv, parts: &[Itv]) -> b
     }
 }
 
-fn refutes_alternative(look: &Look<'_>, presence: Presence, a: Itv, parts: &[Itv]) -> bool
-    ensures { result ≡ some_case kind.Alternative presence look.now.region a parts.now }
+fn refutes_alternative(
+    look: &Look<'_>,
+    presence: Presence,
+    count: i64,
+    a: Itv,
+    parts: &[Itv],
+) -> bool
+    ensures { result ≡ some_case (kind.Alternative count) presence look.now.region a parts.now }
 {
     match presence {
-        Presence::Absent => some_part(look, Role::IsThere, a, parts),
-        Presence::Maybe => are_two(look, a, parts) || some_part(look, Role::Clashes, a, parts),
+        Presence::Absent => {
+            some_part(look, Role::IsThere, a, parts) || is_crowded(look, count, a, parts)
+        }
+        Presence::Maybe => {
+            is_crowded(look, count, a, parts) || some_part(look, Role::Clashes, a, parts)
+        }
         Presence::Present => {
-            are_two(look, a, parts)
-                || !some_part(look, Role::MayMatch, a, parts)
+            is_crowded(look, count, a, parts)
+                || is_short(look, count, a, parts)
                 || some_part(look, Role::Clashes, a, parts)
         }
     }
@@ -77,7 +78,9 @@ pub fn some_refutes(look: &Look<'_>, family: &Family<'_>) -> bool
     let presence = presence(look, family.a);
     match family.kind {
         Kind::Span => refutes_span(look, presence, family.a, family.parts),
-        Kind::Alternative => refutes_alternative(look, presence, family.a, family.parts),
+        Kind::Alternative { count } => {
+            refutes_alternative(look, presence, count, family.a, family.parts)
+        }
         Kind::Synchronize => refutes_synchronize(look, presence, family.a, family.parts),
     }
 }

@@ -1,10 +1,12 @@
 //! A witness of a constraint that refutes a look.
-ghost use Rattle.std.specs.Prelude.{◌≡◌, ◌<◌, ◌^◌, false, IsTrue, IfSome, IfNone, length};
+ghost use Rattle.std.specs.Prelude.{◌≡◌, ◌<◌, ◌^◌, pos, true, false, IsTrue, IfSome, IfNone, length};
 ghost use Rattle.region.specs.declared.types.Presence.TheVariants as presence;
 ghost use Rattle.refute_hier.specs.Parts.{is_away, at_part, some_part};
+ghost use Rattle.refute_hier.specs.Alt.{is_crowded};
 ghost use Rattle.refute_hier.specs.code.Rows.{two_parts, some_case, some_refutes, IsWitness, AreTwo};
 ghost use Rattle.refute_hier.specs.declared.family.Kind.TheVariants as kind;
 
+use crate::alt::{is_crowded, is_short};
 use crate::family::{Family, Kind};
 use crate::parts::{Role, at_part, some_part};
 use crate::rows::presence;
@@ -84,33 +86,75 @@ fn of_span(look: &Look<'_>, a: Itv, parts: &[Itv], c: u32) -> Option<HierWitness
     }
 }
 
-/// Two parts that are present, or one that can't be the one.
-fn crowding(look: &Look<'_>, a: Itv, parts: &[Itv], c: u32) -> Option<HierWitness>
+/// The two parts that are present, of an alternative with the count 1.
+#[tactic(auto, using(crate::proofs::Crowds::one_too_many))]
+fn second(look: &Look<'_>, a: Itv, parts: &[Itv], c: u32) -> Option<HierWitness>
+    requires { length parts.now < 2 ^ 32 }
+    ensures some { IfSome result (IsWitness (kind.Alternative (pos 1)) look.now.region a parts.now c) }
+    ensures none { IfNone result (is_crowded look.now.region (pos 1) a parts.now ≡ false) }
+{
+    let (i, j) = two_places(look, a, parts)?;
+    Some(HierWitness::Alt { c, r: 2, i, j })
+}
+
+/// That more parts are present than the count: which two, where it is 1.
+#[tactic(auto, using(crate::proofs::Crowds::found_once, crate::proofs::Crowds::none_once))]
+fn crowd(look: &Look<'_>, count: i64, a: Itv, parts: &[Itv], c: u32) -> Option<HierWitness>
+    requires { length parts.now < 2 ^ 32 }
+    ensures some { IfSome result (IsWitness (kind.Alternative count) look.now.region a parts.now c) }
+    ensures none { IfNone result (is_crowded look.now.region count a parts.now ≡ false) }
+{
+    if count == 1 {
+        return second(look, a, parts, c);
+    }
+    if !is_crowded(look, count, a, parts) {
+        return None;
+    }
+    Some(HierWitness::Alt {
+        c,
+        r: 5,
+        i: 0,
+        j: 0,
+    })
+}
+
+/// That too many parts are present, or one that can't match the interval.
+fn crowding(look: &Look<'_>, count: i64, a: Itv, parts: &[Itv], c: u32) -> Option<HierWitness>
     requires few { length parts.now < 2 ^ 32 }
     requires here { is_away look.now.region a ≡ false }
-    ensures some { IfSome result (IsWitness kind.Alternative look.now.region a parts.now c) }
-    ensures none { IfNone result (some_case kind.Alternative presence.Maybe look.now.region a parts.now ≡ false) }
+    ensures some { IfSome result (IsWitness (kind.Alternative count) look.now.region a parts.now c) }
+    ensures none { IfNone result (some_case (kind.Alternative count) presence.Maybe look.now.region a parts.now ≡ false) }
 {
-    if let Some((i, j)) = two_places(look, a, parts) {
-        return Some(HierWitness::Alt { c, r: 2, i, j });
+    if let Some(w) = crowd(look, count, a, parts, c) {
+        return Some(w);
     }
     let i = place(look, Role::Clashes, a, parts)?;
     Some(HierWitness::Alt { c, r: 4, i, j: 0 })
 }
 
-fn of_alternative(look: &Look<'_>, a: Itv, parts: &[Itv], c: u32) -> Option<HierWitness>
+/// That a part is present where the interval is absent.
+fn without(look: &Look<'_>, count: i64, a: Itv, parts: &[Itv], c: u32) -> Option<HierWitness>
+    requires few { length parts.now < 2 ^ 32 }
+    requires away { is_away look.now.region a ≡ true }
+    ensures some { IfSome result (IsWitness (kind.Alternative count) look.now.region a parts.now c) }
+    ensures none { IfNone result (some_case (kind.Alternative count) presence.Absent look.now.region a parts.now ≡ false) }
+{
+    if let Some(i) = place(look, Role::IsThere, a, parts) {
+        return Some(HierWitness::Alt { c, r: 1, i, j: 0 });
+    }
+    crowd(look, count, a, parts, c)
+}
+
+fn of_alternative(look: &Look<'_>, count: i64, a: Itv, parts: &[Itv], c: u32) -> Option<HierWitness>
     requires { length parts.now < 2 ^ 32 }
-    ensures some { IfSome result (IsWitness kind.Alternative look.now.region a parts.now c) }
-    ensures none { IfNone result (some_refutes kind.Alternative look.now.region a parts.now ≡ false) }
+    ensures some { IfSome result (IsWitness (kind.Alternative count) look.now.region a parts.now c) }
+    ensures none { IfNone result (some_refutes (kind.Alternative count) look.now.region a parts.now ≡ false) }
 {
     match presence(look, a) {
-        Presence::Absent => {
-            let i = place(look, Role::IsThere, a, parts)?;
-            Some(HierWitness::Alt { c, r: 1, i, j: 0 })
-        }
-        Presence::Maybe => crowding(look, a, parts, c),
+        Presence::Absent => without(look, count, a, parts, c),
+        Presence::Maybe => crowding(look, count, a, parts, c),
         Presence::Present => {
-            if !some_part(look, Role::MayMatch, a, parts) {
+            if is_short(look, count, a, parts) {
                 return Some(HierWitness::Alt {
                     c,
                     r: 3,
@@ -118,7 +162,7 @@ fn of_alternative(look: &Look<'_>, a: Itv, parts: &[Itv], c: u32) -> Option<Hier
                     j: 0,
                 });
             }
-            crowding(look, a, parts, c)
+            crowding(look, count, a, parts, c)
         }
     }
 }
@@ -145,7 +189,7 @@ pub fn find_witness(look: &Look<'_>, family: &Family<'_>, c: u32) -> Option<Hier
 {
     match family.kind {
         Kind::Span => of_span(look, family.a, family.parts, c),
-        Kind::Alternative => of_alternative(look, family.a, family.parts, c),
+        Kind::Alternative { count } => of_alternative(look, count, family.a, family.parts, c),
         Kind::Synchronize => of_synchronize(look, family.a, family.parts, c),
     }
 }

@@ -18,7 +18,6 @@ use Rattle.replay.proofs.Reached.{Reached, line_apart}
 use Rattle.replay.proofs.Logs.{IsPlainLine, head_spelt}
 use Rattle.replay.proofs.Judged.{end_spelt}
 use Rattle.logtext.specs.Reading.{IsLineAt}
-use Rattle.logtext.specs.Logs.{IsLog}
 use Rattle.kernel.specs.declared.types.Line.{Line}
 use Rattle.region.specs.Looks.{Refuting}
 use Rattle.std.specs.Prelude.{ℤ}

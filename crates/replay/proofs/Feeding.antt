@@ -22,8 +22,6 @@ use Rattle.replay.specs.Replaying.{piece_limit}
 use Rattle.replay.specs.code.Pieces.{FeedsPiece, FindsLine, GoesOn, IsNear, IsReading, ReadsOn, Fails, holds, Holds, FallsShort}
 use Rattle.replay.proofs.Feeds.{has_no_feed, feed_within}
 use Rattle.replay.proofs.Spelt.{Spellings, ends_once, true_false}
-use Rattle.logtext.specs.Logs.{IsLog}
-use Rattle.logtext.specs.Spelling.{line_text, lines_text}
 use Rattle.region.specs.Looks.{Refuting}
 use Rattle.std.specs.Prelude.{ℤ, Bool, List}
 

@@ -6,11 +6,12 @@ use Rattle.textline.specs.Lines.{Bytes}
 use Rattle.kernel.specs.Steps.{LogState, verdict_of}
 use Rattle.logtext.specs.declared.entry.Entry.{Entry}
 use Rattle.logtext.specs.declared.entry.Entry.TheVariants.{Head, Step, Finish}
-use Rattle.logtext.specs.Spelling.{head_text, end_text, line_text, lines_text}
+use Rattle.logtext.specs.Spelling.{head_text, end_text, lines_text}
 use Rattle.logtext.specs.Entries.{line_limit}
 use Rattle.logtext.specs.Reading.{HasNoWholeLine, BeginsWithNone, IsLineAt}
 use Rattle.logtext.specs.Judgement.{BeginsWith, CantGoOn, IsAccepted, IsRefused, IsTooLong, log_limit}
 use Rattle.logtext.specs.Judgement.IsRefused.{at_head, at_line, behind_end}
+use Rattle.replay.specs.Replaying.{IsCutLog}
 use Rattle.replay.specs.code.Turns.{IsWrong}
 use Rattle.replay.proofs.Spelt.{Spellings, Spelt, one_line, begun, begins_by, not_open, open_begins_none, none_with_more}
 use Rattle.replay.proofs.Logs.{Stops, one_text, cant_stops, open_stops, end_stops, plain_step, head_spelt}
@@ -20,6 +21,17 @@ use Rattle.logtext.specs.Logs.{IsLog, MayHold, may_hold}
 use Rattle.kernel.specs.declared.types.Line.{Line}
 use Rattle.region.specs.Looks.{Refuting}
 use Rattle.std.specs.Prelude.{ℤ, Bool}
+
+-- the bytes up to the limit hold no wrong line and no last line
+pub record IsOpenLog {W : Type 0} (refutes : Refuting W) (numbers : W → List ℤ) (valid : W → Bool) (m : Data) (bytes : Bytes) : Type 0 where
+  pub version : Version
+  pub lines : List (Line W)
+  pub state : LogState
+  pub rest : Bytes
+  pub suits : MayHold version lines
+  pub log : IsLog refutes numbers valid m lines state
+  pub text : take log_limit bytes ≡ head_text version ++ (lines_text numbers lines ++ rest)
+  pub open_line : HasNoWholeLine rest
 
 module _ {W : Type 0} (refutes : Refuting W) (numbers : W → List ℤ) (valid : W → Bool) where
   abbrev IsEntryAt : Bytes → ℕ → ℕ → Entry W → Type 0
@@ -153,11 +165,36 @@ module _ {W : Type 0} (refutes : Refuting W) (numbers : W → List ℤ) (valid :
   abbrev pub Refused : Data → Bytes → ℕ → Type 0
   Refused m bytes k = IsRefused refutes numbers valid m bytes k × (IsTooLong refutes numbers valid m bytes → ⊥)
 
-  pub refused_head : (m : Data) (bytes cut : Bytes) → cut ≡ take log_limit bytes → ((v : Version) → BeginsWith numbers valid cut (Head v) → ⊥) → Refused m bytes 1
+  -- and whatever follows
+  abbrev pub Barred : Data → Bytes → ℕ → Type 0
+  Barred m bytes k = IsRefused refutes numbers valid m bytes k × (IsOpenLog refutes numbers valid m bytes → ⊥)
+
+  long_open : (m : Data) (bytes : Bytes) → IsTooLong refutes numbers valid m bytes → IsOpenLog refutes numbers valid m bytes
+  long_open m bytes long = record { version = long.version; lines = long.lines; state = long.state; rest = long.rest; suits = long.suits; log = long.log; text = long.text; open_line = long.open_line }
+
+  cut_open : (m : Data) (bytes : Bytes) → IsCutLog refutes numbers valid m bytes → IsOpenLog refutes numbers valid m bytes
+  cut_open m bytes cut = record {
+    version = cut.version;
+    lines = cut.lines;
+    state = cut.state;
+    rest = cut.rest;
+    suits = cut.suits;
+    log = cut.log;
+    text = take_all log_limit bytes (let short = cut.short in omega (arith, short)) ∙ cut.text;
+    open_line = cut.open_line;
+  }
+
+  pub barred_refused : (m : Data) (bytes : Bytes) (k : ℕ) → Barred m bytes k → Refused m bytes k
+  barred_refused m bytes k barred = (barred.0, λ long. barred.1 (long_open m bytes long))
+
+  pub barred_uncut : (m : Data) (bytes : Bytes) (k : ℕ) → Barred m bytes k → IsCutLog refutes numbers valid m bytes → ⊥
+  barred_uncut m bytes k barred cut = barred.1 (cut_open m bytes cut)
+
+  pub refused_head : (m : Data) (bytes cut : Bytes) → cut ≡ take log_limit bytes → ((v : Version) → BeginsWith numbers valid cut (Head v) → ⊥) → Barred m bytes 1
   refused_head m bytes cut is_cut none =
       (at_head (λ v begins. none v (front_begins log_limit bytes cut is_cut (Head v) (omega arith) begins)) refl, λ long. none long.version (begins_head cut _ long.version (is_cut ∙ long.text)))
 
-  pub refused_wrong : Spellings numbers valid → (m : Data) (bytes cut : Bytes) → cut ≡ take log_limit bytes → (place line : ℕ) (s : LogState) (so_far : Reached refutes numbers valid m cut place line s) → IsWrong refutes numbers valid m so_far.version s (drop place cut) → Refused m bytes line
+  pub refused_wrong : Spellings numbers valid → (m : Data) (bytes cut : Bytes) → cut ≡ take log_limit bytes → (place line : ℕ) (s : LogState) (so_far : Reached refutes numbers valid m cut place line s) → IsWrong refutes numbers valid m so_far.version s (drop place cut) → Barred m bytes line
   refused_wrong laws m bytes cut is_cut place line s so_far wrong = (
     wrong_at laws m log_limit bytes cut is_cut place line s so_far wrong,
     λ long. other_way laws m log_limit bytes cut is_cut place line s long.state long.version long.lines long.rest so_far (wrong_stops laws m log_limit bytes cut is_cut place line so_far.version s wrong) wrong.whole long.suits long.log long.text long.open_line,
@@ -169,7 +206,7 @@ module _ {W : Type 0} (refutes : Refuting W) (numbers : W → List ℤ) (valid :
       (missing_at laws m log_limit bytes cut is_cut place line s so_far open_one (omega (arith, short)), λ long. absurd (omega (arith, short, long.many)))
 
   pub refused_behind : Spellings numbers valid → (m : Data) (bytes cut : Bytes) → cut ≡ take log_limit bytes → (place to line : ℕ) (s : LogState) → Reached refutes numbers valid m cut place line s → IsEntryAt cut place to Finish → to < length bytes
-      → Refused m bytes (line + 1)
+      → Barred m bytes (line + 1)
   refused_behind laws m bytes cut is_cut place to line s so_far at some = (
     behind_at laws m log_limit bytes cut is_cut place to line s so_far at some,
     λ long. other_way laws m log_limit bytes cut is_cut place line s long.state long.version long.lines long.rest so_far (end_stops_at laws m log_limit bytes cut is_cut place to so_far.version s at) (entry_whole laws cut place to Finish at) long.suits long.log long.text long.open_line,

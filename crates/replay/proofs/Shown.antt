@@ -1,5 +1,5 @@
 -- What showing and stepping a line says of the log.
-use Rattle.std.proofs.Common.{◌≡◌, ℕ, ℤ, Bool, List, Result, Ok, Err}
+use Rattle.std.proofs.Common.{ℕ, ℤ, Bool, List, Result, Ok, Err}
 use Rattle.sched_base.specs.declared.reading.ReadError.{ReadError}
 use Rattle.sched_base.specs.declared.reading.ReadError.TheVariants.{Failed, NoMemory as Memory}
 use Rattle.sched_base.specs.State.{State}

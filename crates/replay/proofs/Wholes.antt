@@ -15,11 +15,8 @@ use Rattle.replay.specs.code.Turns.{IsWrong}
 use Rattle.replay.proofs.Feeds.{has_no_feed}
 use Rattle.replay.proofs.Spelt.{Spellings, Spelt}
 use Rattle.replay.proofs.Reached.{Reached, reached_longer, entry_longer}
-use Rattle.replay.proofs.Judged.{Refused, NoHead, accepted, not_too_long, refused_behind, refused_head, refused_missing, refused_wrong, too_long}
+use Rattle.replay.proofs.Judged.{Refused, Barred, NoHead, accepted, not_too_long, refused_behind, refused_head, refused_missing, refused_wrong, too_long}
 use Rattle.logtext.specs.declared.version.Version.{Version}
-use Rattle.logtext.specs.Logs.{IsLog}
-use Rattle.logtext.specs.Spelling.{line_text, lines_text}
-use Rattle.kernel.specs.declared.types.Line.{Line}
 use Rattle.region.specs.Looks.{Refuting}
 use Rattle.std.specs.Prelude.{ℤ, Bool, List}
 
@@ -60,7 +57,7 @@ module _ {W : Type 0} (refutes : Refuting W) (numbers : W → List ℤ) (valid :
   whole_size : (fed behind : Bytes) → length fed ≤ log_limit + 1 → length fed ≤ length (log_bytes (fed ++ behind))
   whole_size fed behind few = omega (arith, few, length-take (log_limit + 1) (fed ++ behind), length-append fed behind)
 
-  pub wrong_whole : Spellings numbers valid → (m : Data) (fed behind : Bytes) (place line : ℕ) (s : LogState) → length fed ≤ log_limit → (so_far : Reached refutes numbers valid m fed place line s) → IsWrong refutes numbers valid m so_far.version s (drop place fed) → Refused refutes numbers valid m (log_bytes (fed ++ behind)) line
+  pub wrong_whole : Spellings numbers valid → (m : Data) (fed behind : Bytes) (place line : ℕ) (s : LogState) → length fed ≤ log_limit → (so_far : Reached refutes numbers valid m fed place line s) → IsWrong refutes numbers valid m so_far.version s (drop place fed) → Barred refutes numbers valid m (log_bytes (fed ++ behind)) line
   unfolding reached_longer
   wrong_whole laws m fed behind place line s few so_far wrong =
       let more : Bytes = take (log_limit - length fed) behind in
@@ -76,7 +73,7 @@ module _ {W : Type 0} (refutes : Refuting W) (numbers : W → List ℤ) (valid :
       (too_long refutes numbers valid) m (log_bytes (fed ++ behind)) fed (cut_at_limit fed behind is) place line s so_far open_one (omega (arith, is, whole_size fed behind (omega (arith, is))))
 
   pub behind_whole : Spellings numbers valid → (m : Data) (fed more behind : Bytes) (place to line : ℕ) (s : LogState) → length fed ≤ log_limit → length (fed ++ more) ≤ log_limit + 1 → Reached refutes numbers valid m fed place line s → IsEntryAt fed place to Finish → to < length (fed ++ more)
-      → Refused refutes numbers valid m (log_bytes ((fed ++ more) ++ behind)) (line + 1)
+      → Barred refutes numbers valid m (log_bytes ((fed ++ more) ++ behind)) (line + 1)
   behind_whole laws m fed more behind place to line s few size so_far at some =
       let cut : Bytes = fed ++ take (log_limit - length fed) (more ++ behind) in
       (refused_behind refutes numbers valid) laws m (log_bytes ((fed ++ more) ++ behind)) cut (cut_is fed (more ++ behind) few ∙ ap (λ t. take log_limit (log_bytes t)) (sym (append_assoc fed more behind))) place to line s
@@ -95,7 +92,7 @@ module _ {W : Type 0} (refutes : Refuting W) (numbers : W → List ℤ) (valid :
   begins_longer front behind e begins = (begins.0, omega (arith, begins.1, length-append front behind), subst (λ t. Spelt numbers valid t e) (sym (take-append-le begins.0 front behind begins.1)) begins.2)
 
   -- no first line stands in front
-  pub head_whole : (m : Data) (bytes : Bytes) → NoHead refutes numbers valid bytes → Refused refutes numbers valid m (log_bytes bytes) 1
+  pub head_whole : (m : Data) (bytes : Bytes) → NoHead refutes numbers valid bytes → Barred refutes numbers valid m (log_bytes bytes) 1
   head_whole m bytes none =
       let cut : Bytes = take log_limit (log_bytes bytes) in
       let same : cut ++ drop log_limit bytes ≡ bytes = ap (λ t. t ++ drop log_limit bytes) (take-take log_limit (log_limit + 1) bytes (omega arith)) ∙ take-append-drop log_limit bytes in

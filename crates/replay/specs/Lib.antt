@@ -1,3 +1,5 @@
 pub mod Replaying
 pub mod Laws
+pub mod LastSchedule
+pub mod lemmas
 pub mod code

@@ -1,5 +1,5 @@
 -- What replaying a log gives, and what it does to the desk.
-use Rattle.std.specs.Prelude.{◌≡◌, ℕ, ℤ, Bool, List, IfOk, zero, suc, ◌+◌, ◌-◌, ◌≤◌, ◌==◌, if◌then◌else◌, min, true, [], ◌∷◌, drop, Option, option_map, Result, Ok, Err, IfSome, ⊤}
+use Rattle.std.specs.Prelude.{◌≡◌, ℕ, ℤ, Bool, List, IfOk, zero, suc, ◌+◌, ◌-◌, ◌≤◌, ◌==◌, ◌<◌, ◌++◌, ◌⊎◌, length, if◌then◌else◌, min, true, [], ◌∷◌, drop, Option, option_map, Result, Ok, Err, IfSome, ⊤}
 use Rattle.sched_base.specs.declared.desk.Inlet.TheVariants.{Log}
 use Rattle.sched_base.specs.State.{State, left_in}
 use Rattle.sched_base.specs.Calls.{Rose, ReadsAtMost}
@@ -11,9 +11,10 @@ use Rattle.replay.specs.declared.fault.ReplayFault.TheVariants.{Refused, TooLong
 use Rattle.region.specs.Looks.{Refuting}
 use Rattle.kernel.specs.declared.types.Line.{Line}
 use Rattle.kernel.specs.Steps.{LogState}
-use Rattle.logtext.specs.Spelling.{log_text}
+use Rattle.logtext.specs.Spelling.{head_text, lines_text, log_text}
 use Rattle.logtext.specs.declared.version.Version.{Version}
 use Rattle.logtext.specs.Logs.{IsLog, MayHold}
+use Rattle.logtext.specs.Reading.{HasNoWholeLine}
 use Rattle.logtext.specs.Judgement.{IsRefused, IsTooLong, log_limit, log_bytes}
 
 -- what a watcher is after all lines
@@ -33,6 +34,28 @@ pub record IsWhole {W S : Type 0} (refutes : Refuting W) (numbers : W → List �
   pub version : Version
   pub suits : MayHold version replayed.lines
   pub text : bytes ≡ log_text numbers version replayed.lines
+
+-- the bytes are shorter than the limit, and are the first line of a log, lines that step, and no further line, but perhaps its
+-- beginning: a log that was cut
+pub record IsCutLog {W : Type 0} (refutes : Refuting W) (numbers : W → List ℤ) (valid : W → Bool) (m : Data) (bytes : Bytes) : Type 0 where
+  pub short : length bytes < log_limit
+  pub version : Version
+  pub lines : List (Line W)
+  pub state : LogState
+  pub rest : Bytes
+  pub suits : MayHold version lines
+  pub log : IsLog refutes numbers valid m lines state
+  pub text : bytes ≡ head_text version ++ (lines_text numbers lines ++ rest)
+  pub open_line : HasNoWholeLine rest
+
+-- the bytes are such a log, and a watcher saw its lines
+pub record IsCut {W S : Type 0} (refutes : Refuting W) (numbers : W → List ℤ) (valid : W → Bool) (noted : S → Line W → S) (m : Data) (bytes : Bytes) (state : LogState) (before after : S) : Type 0 where
+  pub replayed : IsReplayed refutes numbers valid noted m state before after
+  pub version : Version
+  pub suits : MayHold version replayed.lines
+  pub rest : Bytes
+  pub text : bytes ≡ head_text version ++ (lines_text numbers replayed.lines ++ rest)
+  pub open_line : HasNoWholeLine rest
 
 -- the answer is the judgement of the bytes
 abbrev pub Judges : {W S : Type 0} → Refuting W → (W → List ℤ) → (W → Bool) → (S → Line W → S) → Data → Bytes → Result LogState ReplayFault → S → S → Type 0
@@ -72,6 +95,14 @@ abbrev pub IfRefused : Result LogState ReplayFault → (ℕ → ℕ → Type 0) 
 IfRefused (Err (Refused k at)) X = X k at
 IfRefused _ X = ⊤
 
+-- and where one that was cut is no worse than a whole one
+abbrev pub JudgesFront : {W S : Type 0} → Refuting W → (W → List ℤ) → (W → Bool) → (S → Line W → S) → Data → Bytes → Result LogState ReplayFault → S → S → Type 0
+JudgesFront refutes numbers valid noted m bytes (Ok s) before after = (IsWhole refutes numbers valid noted m bytes s before after ⊎ IsCut refutes numbers valid noted m bytes s before after) × (IsTooLong refutes numbers valid m bytes → ⊥)
+JudgesFront refutes numbers valid noted m bytes (Err (Refused k at)) before after = IsRefused refutes numbers valid m bytes k × (IsTooLong refutes numbers valid m bytes → ⊥) × (IsCutLog refutes numbers valid m bytes → ⊥)
+JudgesFront refutes numbers valid noted m bytes (Err TooLong) before after = IsTooLong refutes numbers valid m bytes
+JudgesFront refutes numbers valid noted m bytes (Err Fault) before after = ⊤
+JudgesFront refutes numbers valid noted m bytes (Err NoMemory) before after = ⊤
+
 pub record Replays {W S : Type 0} (refutes : Refuting W) (numbers : W → List ℤ) (valid : W → Bool) (noted : S → Line W → S) (m : Data) (result : Result LogState ReplayFault) (before after : S) (old new : State) : Type 0 where
   -- whatever the desk tells, lines led to the state that is answered
   pub replayed : IfOk result (λ s. IsReplayed refutes numbers valid noted m s before after)
@@ -87,7 +118,13 @@ pub record Replays {W S : Type 0} (refutes : Refuting W) (numbers : W → List �
   pub only : new ≡ record old { log = new.log; faults = new.faults }
   pub later : old.faults ≤ new.faults
 
--- the same of a call that leaves the state with its caller
-abbrev pub Ends : {W S : Type 0} → Refuting W → (W → List ℤ) → (W → Bool) → (S → Line W → S) → Data → Result (Unit {0}) ReplayFault → LogState → S → S → State → State → Type 0
-Ends refutes numbers valid noted m (Ok u) s before after old new = Replays refutes numbers valid noted m (Ok s) before after old new
-Ends refutes numbers valid noted m (Err e) s before after old new = Replays refutes numbers valid noted m (Err e) before after old new
+-- the same, where a log that was cut is read up to its last whole line
+pub record ReplaysFront {W S : Type 0} (refutes : Refuting W) (numbers : W → List ℤ) (valid : W → Bool) (noted : S → Line W → S) (m : Data) (result : Result LogState ReplayFault) (before after : S) (old new : State) : Type 0 where
+  pub replayed : IfOk result (λ s. IsReplayed refutes numbers valid noted m s before after)
+  pub judgement : IfSome (left_in Log old) (λ bytes. JudgesFront refutes numbers valid noted m (log_bytes bytes) result before after)
+  pub counts : Counts result old new
+  pub reads : ReadsAtMost (log_limit + 1) (left_in Log old) (left_in Log new)
+  pub stops : IfRefused result (λ k at. StopsBehind k (left_in Log old) (left_in Log new))
+  pub place : IfRefused result (λ k at. IfSome (left_in Log old) (BeginsAt k at))
+  pub only : new ≡ record old { log = new.log; faults = new.faults }
+  pub later : old.faults ≤ new.faults

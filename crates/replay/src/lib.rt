@@ -10,5 +10,5 @@ mod watcher;
 
 pub use fault::ReplayFault;
 pub use laws::judgement_is_determined;
-pub use replaying::replay;
+pub use replaying::{replay, replay_front};
 pub use watcher::{Unwatched, Watcher};

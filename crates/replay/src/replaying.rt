@@ -6,8 +6,9 @@ ghost use Rattle.logtext.specs.declared.entry.Entry.TheVariants.{Head};
 ghost use Rattle.log_lines.specs.code.Pieces.{nothing_fed};
 ghost use Rattle.logtext.specs.Judgement.{log_limit};
 ghost use Rattle.logtext.specs.Logs.{may_hold};
-ghost use Rattle.replay.specs.Replaying.{Replays, Ends};
+ghost use Rattle.replay.specs.Replaying.{Replays, ReplaysFront};
 ghost use Rattle.replay.specs.code.Pieces.{IsReading, Holds};
+ghost use Rattle.replay.specs.code.Endings.{Ends, EndsIn};
 ghost use Rattle.replay.specs.code.Turns.{FindsHead, IsBehindHead, Tries, Shows, Turns, version_in};
 
 use crate::fault::ReplayFault;
@@ -34,6 +35,14 @@ enum Turn {
     Missing,
     /// The bytes up to the limit end before it does.
     Beyond,
+}
+
+/// How the lines of a log end, none of which is wrong.
+#[derive(Clone, Copy)]
+enum Ending {
+    Whole,
+    /// The log ends before this line does, which begins at this byte.
+    Cut { line: u64, at: u128 },
 }
 
 /// Room for a piece.
@@ -180,7 +189,7 @@ fn replay_lines<X: Refuter, V: Watcher<X>, D: Desk>(
     lines: &mut LineReader<X>,
     kernel: &mut Kernel<X>,
     watcher: &mut V,
-) -> Result<(), ReplayFault>
+) -> Result<Ending, ReplayFault>
     requires buffer { 0 < length buffer.old }
     requires small { length buffer.old ≤ 65536 }
     requires opened { is_opened Inlet.Log (D.state desk.old) ≡ true }
@@ -205,13 +214,45 @@ fn replay_lines<X: Refuter, V: Watcher<X>, D: Desk>(
                         at: behind,
                     });
                 }
-                return Ok(());
+                return Ok(Ending::Whole);
             }
             Turn::Wrong => return Err(ReplayFault::Refused { line, at }),
-            Turn::Missing => return Err(ReplayFault::Refused { line, at }),
+            Turn::Missing => return Ok(Ending::Cut { line, at }),
             Turn::Beyond => return Err(ReplayFault::TooLong),
         }
     }
+}
+
+/// Replays the log that is opened, from the place that its slot has reached, up to its last whole
+/// line.
+fn replay_to_end<X: Refuter, V: Watcher<X>, D: Desk>(
+    alloc: Global,
+    model: &Model,
+    desk: &mut D,
+    watcher: &mut V,
+) -> Result<(Kernel<X>, Ending), ReplayFault>
+    requires opened { is_opened Inlet.Log (D.state desk.old) ≡ true }
+    ensures ends { EndsIn X.refuting X.Witness.numbers X.Witness.is_valid V.noted model.now result watcher.old watcher.new (D.state desk.old) (D.state desk.new) }
+    ensures ready { IfOk result (λ p. Ready model.now p.0) }
+{
+    let mut buffer = zeroed(alloc)?;
+    let mut lines = LineReader::<X>::new(alloc);
+    let version = match take_head(alloc, desk, &mut buffer, &mut lines)? {
+        Some(version) => version,
+        None => return Err(ReplayFault::Refused { line: 1, at: 0 }),
+    };
+    let mut kernel = Kernel::<X>::new(alloc, model)?;
+    let ending = replay_lines(
+        alloc,
+        model,
+        version,
+        desk,
+        &mut buffer,
+        &mut lines,
+        &mut kernel,
+        watcher,
+    )?;
+    Ok((kernel, ending))
 }
 
 /// Replays the log that is opened, from the place that its slot has reached, and gives the state
@@ -229,22 +270,26 @@ pub fn replay<X: Refuter, V: Watcher<X>, D: Desk>(
     ensures replays { Replays X.refuting X.Witness.numbers X.Witness.is_valid V.noted model.now result watcher.old watcher.new (D.state desk.old) (D.state desk.new) }
     ensures ready { IfOk result (λ k. Ready model.now k) }
 {
-    let mut buffer = zeroed(alloc)?;
-    let mut lines = LineReader::<X>::new(alloc);
-    let version = match take_head(alloc, desk, &mut buffer, &mut lines)? {
-        Some(version) => version,
-        None => return Err(ReplayFault::Refused { line: 1, at: 0 }),
-    };
-    let mut kernel = Kernel::<X>::new(alloc, model)?;
-    replay_lines(
-        alloc,
-        model,
-        version,
-        desk,
-        &mut buffer,
-        &mut lines,
-        &mut kernel,
-        watcher,
-    )?;
+    let (kernel, ending) = replay_to_end(alloc, model, desk, watcher)?;
+    match ending {
+        Ending::Whole => Ok(kernel),
+        Ending::Cut { line, at } => Err(ReplayFault::Refused { line, at }),
+    }
+}
+
+/// The same where a log that was cut will do: one of a run that was stopped, whose last line may be
+/// half a one, and whose end is missing. It gives the state after the last whole line. Of a log whose
+/// first line isn't whole that line is refused.
+pub fn replay_front<X: Refuter, V: Watcher<X>, D: Desk>(
+    alloc: Global,
+    model: &Model,
+    desk: &mut D,
+    watcher: &mut V,
+) -> Result<Kernel<X>, ReplayFault>
+    requires opened { is_opened Inlet.Log (D.state desk.old) ≡ true }
+    ensures replays { ReplaysFront X.refuting X.Witness.numbers X.Witness.is_valid V.noted model.now result watcher.old watcher.new (D.state desk.old) (D.state desk.new) }
+    ensures ready { IfOk result (λ k. Ready model.now k) }
+{
+    let (kernel, _) = replay_to_end(alloc, model, desk, watcher)?;
     Ok(kernel)
 }

@@ -15,13 +15,6 @@ pending_kept old new gs saved promised pending = record {
   room = subst (All (λ n. 0 < n)) (sym promised) pending.room;
 }
 
--- behind a region without saves nothing waits
-pub none_pending : (h : Held) → h.saved ≡ [] → h.promised ≡ [] → ArePending h []
-none_pending h saved promised = record {
-  guesses = subst (λ xs. AreOpen xs []) (sym saved) tt;
-  room = subst (All (λ n. 0 < n)) (sym promised) (All-nil (λ n. 0 < n));
-}
-
 -- one region waits for each guess, and for each save
 length_put : {X : Type 0} (xs : List X) (y : X) → length (xs ++ y ∷ []) ≡ length xs + 1
 length_put [] y = refl

@@ -215,19 +215,6 @@ same_place_from numbers w k us within e =
     let b = begins numbers w in
     one_place first_words k (low_of w + b.place) first_words_differ within (let few = b.within in let all = all_within w in omega (arith, few, all)) (head_is _ _ _ _ (e ∙ b.first))
 
--- a word of a table is the word of a witness of its crate alone
-pub no_basic : {W : Type 0} (numbers : W → List ℤ) (w : Witness W) (k : ℕ) (us : List Bytes) → (low_of w ≡ 1 → ⊥) → k < length basic_kinds → get_or basic_kinds k [] ∷ us ≡ witness_words numbers w → ⊥
-no_basic numbers (Basic w) k us other within e = other refl
-no_basic numbers w k us other within e =
-    let same = same_place_from numbers w (1 + k) us (omega (arith, within)) (ap (λ v. v ∷ us) (basic_word k within) ∙ e) in
-    let few = (begins numbers w).within in absurd (omega (arith, same, within, few))
-
-pub no_hier : {W : Type 0} (numbers : W → List ℤ) (w : Witness W) (k : ℕ) (us : List Bytes) → (low_of w ≡ 7 → ⊥) → k < length hier_kinds → get_or hier_kinds k [] ∷ us ≡ witness_words numbers w → ⊥
-no_hier numbers (Hier w) k us other within e = other refl
-no_hier numbers w k us other within e =
-    let same = same_place_from numbers w (7 + k) us (omega (arith, within)) (ap (λ v. v ∷ us) (hier_word k within) ∙ e) in
-    let few = (begins numbers w).within in absurd (omega (arith, same, within, few))
-
 pub no_seq : {W : Type 0} (numbers : W → List ℤ) (w : Witness W) (k : ℕ) (us : List Bytes) → (low_of w ≡ 11 → ⊥) → k < length seq_kinds → get_or seq_kinds k [] ∷ us ≡ witness_words numbers w → ⊥
 no_seq numbers (Seq w) k us other within e = other refl
 no_seq numbers w k us other within e =

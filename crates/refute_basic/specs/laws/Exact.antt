@@ -14,7 +14,7 @@ use Rattle.sched_model.specs.declared.types.Sense.{Sense}
 use Rattle.sched_model.specs.declared.types.Sense.TheVariants.{Minimize, Maximize}
 use Rattle.sched_model.specs.declared.types.Expr.{Expr}
 use Rattle.sched_model.specs.declared.types.Constraint.{Constraint}
-use Rattle.sched_model.specs.declared.types.Constraint.TheVariants.{Temporal, Logic, Span, Alternative, Synchronize, NoOverlap, First, Last, Before, Prev, CumulIn, AlwaysEqual, AlwaysNoState}
+use Rattle.sched_model.specs.declared.types.Constraint.TheVariants.{Temporal, Logic}
 use Rattle.sched_model.specs.declared.types.Objective.{Objective}
 use Rattle.sched_model.specs.Words.{passes}
 use Rattle.sched_model.specs.Bounds.{is_small, is_number}
@@ -139,17 +139,7 @@ kept_at : (m : Data) (l : Seen) (c : ℕ) (d : Constraint) → Unrefuted m l →
 kept_at m l c (Temporal from to equal x y z) h number is = if_implied (is_present (settled_alone l.region) x && is_present (settled_alone l.region) y) _
     (λ there. let two = both_true (is_present (settled_alone l.region) x) (is_present (settled_alone l.region) y) there in precedence_holds m l c from to equal x y z h number is two.0 two.1)
 kept_at m l c (Logic e) h number is = expression_holds m l c e h number is
-kept_at m l c (Span x parts) h number is = refl
-kept_at m l c (Alternative x parts) h number is = refl
-kept_at m l c (Synchronize x parts) h number is = refl
-kept_at m l c (NoOverlap p matrix direct) h number is = refl
-kept_at m l c (First p x) h number is = refl
-kept_at m l c (Last p x) h number is = refl
-kept_at m l c (Before p x y) h number is = refl
-kept_at m l c (Prev p x y) h number is = refl
-kept_at m l c (CumulIn f w lo hi) h number is = refl
-kept_at m l c (AlwaysEqual g x v i j) h number is = refl
-kept_at m l c (AlwaysNoState g x) h number is = refl
+kept_at m l c other h number is = refl
 
 all_kept : (m : Data) (l : Seen) → Unrefuted m l → list_all (keeps m l.region) m.constraints ≡ true
 all_kept m l h = all_listed (keeps m l.region) m.constraints (λ c d is. kept_at m l c d h (number_below c (length m.constraints) (slice_get_within m.constraints c d is) (few_of m h.valid).1) is)

@@ -11,7 +11,7 @@ use Rattle.sched_base.specs.declared.ids.Itv.{Itv}
 use Rattle.sched_base.specs.declared.ids.Seq.{Seq}
 use Rattle.sched_model.specs.declared.types.IntervalDef.{IntervalDef}
 use Rattle.sched_model.specs.declared.types.Constraint.{Constraint}
-use Rattle.sched_model.specs.declared.types.Constraint.TheVariants.{Temporal, Logic, Span, Alternative, Synchronize, NoOverlap, First, Last, Before, Prev, CumulIn, AlwaysEqual, AlwaysNoState}
+use Rattle.sched_model.specs.declared.types.Constraint.TheVariants.{Temporal, NoOverlap}
 use Rattle.sched_model.specs.Words.{passes}
 use Rattle.sched_model.specs.Data.{Data}
 use Rattle.region.specs.declared.types.Bounds.{Bounds}
@@ -33,33 +33,11 @@ pub record AreAsPresent (r q : Region) : Type 0 where
 
 forth_same : (r q : Region) → AreAsPresent r q → (c : Constraint) → forth r c ≡ forth q c
 forth_same r q same (Temporal from to equal a b z) = rw (same.presence a, same.presence b) refl
-forth_same r q same (Logic e) = refl
-forth_same r q same (Span x parts) = refl
-forth_same r q same (Alternative x parts) = refl
-forth_same r q same (Synchronize x parts) = refl
-forth_same r q same (NoOverlap p matrix direct) = refl
-forth_same r q same (First p x) = refl
-forth_same r q same (Last p x) = refl
-forth_same r q same (Before p x y) = refl
-forth_same r q same (Prev p x y) = refl
-forth_same r q same (CumulIn f w lo hi) = refl
-forth_same r q same (AlwaysEqual g x v i j) = refl
-forth_same r q same (AlwaysNoState g x) = refl
+forth_same r q same other = refl
 
 back_same : (r q : Region) → AreAsPresent r q → (c : Constraint) → back r c ≡ back q c
 back_same r q same (Temporal from to equal a b z) = rw (same.presence a, same.presence b) refl
-back_same r q same (Logic e) = refl
-back_same r q same (Span x parts) = refl
-back_same r q same (Alternative x parts) = refl
-back_same r q same (Synchronize x parts) = refl
-back_same r q same (NoOverlap p matrix direct) = refl
-back_same r q same (First p x) = refl
-back_same r q same (Last p x) = refl
-back_same r q same (Before p x y) = refl
-back_same r q same (Prev p x y) = refl
-back_same r q same (CumulIn f w lo hi) = refl
-back_same r q same (AlwaysEqual g x v i j) = refl
-back_same r q same (AlwaysNoState g x) = refl
+back_same r q same other = refl
 
 at_same : (f g : Constraint → Option Edge) → ((c : Constraint) → f c ≡ g c) → (o : Option Constraint) → option_and_then f o ≡ option_and_then g o
 at_same f g same None = refl
@@ -85,18 +63,7 @@ along_same m r q same orders x y (Some (NoOverlap p matrix direct)) known =
   where
     itself : (n : ℕ) → nat_eq n n ≡ true
     itself n = grind (arith, nat_tests)
-along_same m r q same orders x y (Some (Temporal from to equal u v z)) known = refl
-along_same m r q same orders x y (Some (Logic e)) known = refl
-along_same m r q same orders x y (Some (Span u parts)) known = refl
-along_same m r q same orders x y (Some (Alternative u parts)) known = refl
-along_same m r q same orders x y (Some (Synchronize u parts)) known = refl
-along_same m r q same orders x y (Some (First p u)) known = refl
-along_same m r q same orders x y (Some (Last p u)) known = refl
-along_same m r q same orders x y (Some (Before p u v)) known = refl
-along_same m r q same orders x y (Some (Prev p u v)) known = refl
-along_same m r q same orders x y (Some (CumulIn f w lo hi)) known = refl
-along_same m r q same orders x y (Some (AlwaysEqual g u v i j)) known = refl
-along_same m r q same orders x y (Some (AlwaysNoState g u)) known = refl
+along_same m r q same orders x y (Some other) known = refl
 
 edge_same : (m : Data) (r q : Region) → AreAsPresent r q → SameOrders m r q → (i : ArcName) → edge_of m r i ≡ edge_of m q i
 edge_same m r q same orders i =

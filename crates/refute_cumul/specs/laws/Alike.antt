@@ -92,15 +92,4 @@ point_alike m l k c t u h = at (slice_get m.constraints c) h
     at : (o : Option Constraint) → SameEach l.region k.region (names_of m o) → passes (point_of m l.region t u) o ≡ passes (point_of m k.region t u) o
     at None h = refl
     at (Some (constraint.CumulIn f w lo hi)) h = case_alike m l.region k.region t u f w lo hi h
-    at (Some (constraint.NoOverlap p matrix direct)) h = refl
-    at (Some (constraint.Temporal from to equal x y z)) h = refl
-    at (Some (constraint.Logic e)) h = refl
-    at (Some (constraint.Span x parts)) h = refl
-    at (Some (constraint.Alternative x parts)) h = refl
-    at (Some (constraint.Synchronize x parts)) h = refl
-    at (Some (constraint.First p x)) h = refl
-    at (Some (constraint.Last p x)) h = refl
-    at (Some (constraint.Before p x y)) h = refl
-    at (Some (constraint.Prev p x y)) h = refl
-    at (Some (constraint.AlwaysEqual g x v i j)) h = refl
-    at (Some (constraint.AlwaysNoState g x)) h = refl
+    at (Some other) h = refl

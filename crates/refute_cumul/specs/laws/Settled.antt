@@ -15,7 +15,7 @@ use Rattle.sched_model.specs.declared.types.Window.{Window}
 use Rattle.sched_model.specs.declared.types.Window.TheVariants.{Always, Moments, During}
 use Rattle.sched_model.specs.declared.types.Assignment.{Assignment}
 use Rattle.sched_model.specs.declared.types.Constraint.{Constraint}
-use Rattle.sched_model.specs.declared.types.Constraint.TheVariants.{Temporal, Logic, Span, Alternative, Synchronize, NoOverlap, First, Last, Before, Prev, CumulIn, AlwaysEqual, AlwaysNoState}
+use Rattle.sched_model.specs.declared.types.Constraint.TheVariants.{CumulIn}
 use Rattle.sched_model.specs.Words.{passes, is_between, placewise}
 use Rattle.sched_model.specs.Bounds.{is_small, is_number}
 use Rattle.sched_model.specs.Data.{Data, horizon, parts_of}
@@ -119,15 +119,4 @@ all_unrefuted_hold m l a valid to none = all_listed (keeps_bounds m a) m.constra
   where
     kept_at : (c : ℕ) (d : Constraint) → slice_get m.constraints c ≡ Some d → keeps_bounds m a d ≡ true
     kept_at c (CumulIn f w lo hi) here = unrefuted_bounded m l a c f w lo hi valid to none here
-    kept_at c (NoOverlap p matrix direct) here = refl
-    kept_at c (Temporal from to' equal x y z) here = refl
-    kept_at c (Logic e) here = refl
-    kept_at c (Span x parts) here = refl
-    kept_at c (Alternative x parts) here = refl
-    kept_at c (Synchronize x parts) here = refl
-    kept_at c (First p x) here = refl
-    kept_at c (Last p x) here = refl
-    kept_at c (Before p x y) here = refl
-    kept_at c (Prev p x y) here = refl
-    kept_at c (AlwaysEqual g x v i j) here = refl
-    kept_at c (AlwaysNoState g x) here = refl
+    kept_at c other here = refl

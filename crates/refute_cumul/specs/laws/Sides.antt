@@ -17,6 +17,7 @@ use Rattle.sched_model.specs.declared.types.Window.TheVariants.{Always, Moments,
 use Rattle.sched_model.specs.Words.{passes}
 use Rattle.sched_model.specs.Bounds.{is_small, is_number, is_span_of_moments}
 use Rattle.sched_model.specs.Data.{Data, horizon, parts_of}
+use Rattle.sched_model.specs.Rank.{criteria_of}
 use Rattle.sched_model.specs.Valid.{IsValid, is_window, is_interval_def, nodes_of, node_count}
 use Rattle.sched_model.specs.laws.Limits.{limits_of}
 use Rattle.sched_model.specs.laws.Listed.{valid_at}
@@ -169,7 +170,7 @@ pub few_parts : (m : Data) (i : ℕ) (d : CumulDef) → IsValid m → i < length
 few_parts m i d valid h =
     let one = one_of_sum (λ f. length f.parts) m.cumuls i d h in
     let all = (limits_of m valid.limits).nodes in
-    smaller (sum_by nodes_of m.constraints) (sum_by (λ o. node_count o.expr) (option_to_list m.objective)) _ _ one all
+    smaller (sum_by nodes_of m.constraints) (sum_by (λ o. sum_by node_count (criteria_of o)) (option_to_list m.objective)) _ _ one all
   where
     smaller : (a b c n : ℕ) → n ≤ c → a + b + c ≤ 100000 → n ≤ 100000
     smaller a b c n h k = omega (arith, h, k)

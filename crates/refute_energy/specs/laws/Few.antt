@@ -50,18 +50,7 @@ of_constraint m r s (Some (constraint.CumulIn f window.Always lo hi)) valid h = 
 of_constraint m r s (Some (constraint.CumulIn f (window.Moments u v) lo hi)) valid h = cc
 of_constraint m r s (Some (constraint.CumulIn f (window.During x) lo hi)) valid h = cc
 of_constraint m r s None valid h = cc
-of_constraint m r s (Some (constraint.NoOverlap p matrix direct)) valid h = cc
-of_constraint m r s (Some (constraint.Temporal from to equal x y z)) valid h = cc
-of_constraint m r s (Some (constraint.Logic e)) valid h = cc
-of_constraint m r s (Some (constraint.Span x parts)) valid h = cc
-of_constraint m r s (Some (constraint.Alternative x parts)) valid h = cc
-of_constraint m r s (Some (constraint.Synchronize x parts)) valid h = cc
-of_constraint m r s (Some (constraint.First p x)) valid h = cc
-of_constraint m r s (Some (constraint.Last p x)) valid h = cc
-of_constraint m r s (Some (constraint.Before p x y)) valid h = cc
-of_constraint m r s (Some (constraint.Prev p x y)) valid h = cc
-of_constraint m r s (Some (constraint.AlwaysEqual g x v i j)) valid h = cc
-of_constraint m r s (Some (constraint.AlwaysNoState g x)) valid h = cc
+of_constraint m r s (Some other) valid h = cc
 
 pub refuting_few : (m : Data) (l : Seen) (w : EnergyWitness) → IsValid m → IsTrue (refutes m l w) → length w.parts ≤ 100000
 refuting_few m l w valid h = of_constraint m l.region w.parts (slice_get m.constraints w.c.0) valid (and_parts (is_valid w) (energy_row m l w.c.0 w.parts) h).1

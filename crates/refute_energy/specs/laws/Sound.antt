@@ -105,18 +105,7 @@ in_window m r s f (window.During x) lo hi valid h a ok holds = never h
 
 energy_one : (m : Data) (r : Region) (s : List ℕ) (d : Constraint) → IsValid m → energy_of m r s d ≡ true → Never m r d
 energy_one m r s (constraint.CumulIn f w lo hi) valid h a ok holds = in_window m r s f w lo hi valid h a ok holds
-energy_one m r s (constraint.NoOverlap p matrix direct) valid h a ok holds = never h
-energy_one m r s (constraint.Temporal from to equal x y z) valid h a ok holds = never h
-energy_one m r s (constraint.Logic e) valid h a ok holds = never h
-energy_one m r s (constraint.Span x parts) valid h a ok holds = never h
-energy_one m r s (constraint.Alternative x parts) valid h a ok holds = never h
-energy_one m r s (constraint.Synchronize x parts) valid h a ok holds = never h
-energy_one m r s (constraint.First p x) valid h a ok holds = never h
-energy_one m r s (constraint.Last p x) valid h a ok holds = never h
-energy_one m r s (constraint.Before p x y) valid h a ok holds = never h
-energy_one m r s (constraint.Prev p x y) valid h a ok holds = never h
-energy_one m r s (constraint.AlwaysEqual g x v i j) valid h a ok holds = never h
-energy_one m r s (constraint.AlwaysNoState g x) valid h a ok holds = never h
+energy_one m r s other valid h a ok holds = never h
 
 pub sound_law : (m : Data) (l : Seen) (w : EnergyWitness) → IsValid m → IsRegionOf m l.region → IsTrue (refutes m l w) → HasNoneOf m (named w) l
 sound_law m l w valid of h =

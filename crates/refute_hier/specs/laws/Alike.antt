@@ -1,8 +1,9 @@
 -- The rows look at no more than the bounds of the interval of a constraint and of its parts, or than the presence and the
 -- orders of the members that a relation compares.
-use Rattle.std.specs.Prelude.{◌≡◌, ℕ, zero, suc, true, ◌&&◌, ◌||◌, List, [], ◌∷◌, Option, Some, None, slice_get}
-use Rattle.std.proofs.Common.{refl, ap, ◌∙◌}
+use Rattle.std.specs.Prelude.{◌≡◌, ℕ, zero, suc, ◌+◌, ℤ, true, ◌&&◌, ◌||◌, List, [], ◌∷◌, Option, Some, None, slice_get}
+use Rattle.std.proofs.Common.{refl, sym, ap, cond, ◌∙◌}
 use Rattle.std.proofs.lemmas.Bool.{or_left, or_right}
+use Rattle.std.proofs.lemmas.List.Sums.{sum_by-cons}
 use Rattle.sched_base.specs.declared.ids.Itv.{Itv}
 use Rattle.sched_base.specs.declared.ids.Seq.{Seq}
 use Rattle.sched_model.specs.declared.types.Constraint.{Constraint}
@@ -15,7 +16,7 @@ use Rattle.region.specs.laws.OneSequence.{same_self}
 use Rattle.refute_basic.specs.laws.Alike.{SameTwo, stand_alike}
 use Rattle.refute_hier.specs.declared.parts.Role.{Role}
 use Rattle.refute_hier.specs.declared.parts.Role.TheVariants.{IsThere, StartsBefore, EndsAfter, Clashes, MayStart, MayEnd, MayMatch}
-use Rattle.refute_hier.specs.Parts.{plays, plays_in, is_there, is_away, at_part, some_part}
+use Rattle.refute_hier.specs.Parts.{plays, plays_in, is_there, is_away, at_part, some_part, part_count}
 use Rattle.refute_hier.specs.Span.{span_case, span_of, span_row}
 use Rattle.refute_hier.specs.Alt.{alt_case, alt_of, alt_row}
 use Rattle.refute_hier.specs.Sync.{sync_case, sync_of, sync_row}
@@ -45,6 +46,14 @@ some_part_alike r q role a [] whole each = refl
 some_part_alike r q role a (b ∷ bs) whole each =
     ap (λ p. p || some_part r role a bs) (role_same r q role a b whole (first_same r q b bs each)) ∙ ap (λ p. plays_in q role a b || p) (some_part_alike r q role a bs whole (rest_same r q b bs each))
 
+pub part_count_alike : (r q : Region) (role : Role) (a : Itv) (bs : List Itv) → bounds_of r a ≡ bounds_of q a → SameEach r q bs → part_count r role a bs ≡ part_count q role a bs
+part_count_alike r q role a [] whole each = refl
+part_count_alike r q role a (b ∷ bs) whole each =
+    sum_by-cons (λ x. cond (plays_in r role a x) 1 0) b bs
+    ∙ ap (λ p. cond p 1 0 + part_count r role a bs) (role_same r q role a b whole (first_same r q b bs each))
+    ∙ ap (λ n. cond (plays_in q role a b) 1 0 + n) (part_count_alike r q role a bs whole (rest_same r q b bs each))
+    ∙ sym (sum_by-cons (λ x. cond (plays_in q role a x) 1 0) b bs)
+
 pub there_alike : (r q : Region) (a : Itv) → bounds_of r a ≡ bounds_of q a → is_there r a ≡ is_there q a
 there_alike r q a whole = ap (λ c. says_present c.presence) whole
 
@@ -65,8 +74,8 @@ span_case_alike r q k i a bs each =
       at_part_alike r q EndsAfter a bs i whole parts,
     ) refl
 
-alt_case_alike : (r q : Region) (k i j : ℕ) (a : Itv) (bs : List Itv) → SameEach r q (a ∷ bs) → alt_case r k i j a bs ≡ alt_case q k i j a bs
-alt_case_alike r q k i j a bs each =
+alt_case_alike : (r q : Region) (k i j : ℕ) (n : ℤ) (a : Itv) (bs : List Itv) → SameEach r q (a ∷ bs) → alt_case r k i j n a bs ≡ alt_case q k i j n a bs
+alt_case_alike r q k i j n a bs each =
     let whole = first_same r q a bs each in
     let parts = rest_same r q a bs each in
     rw (
@@ -74,7 +83,8 @@ alt_case_alike r q k i j a bs each =
       there_alike r q a whole,
       at_part_alike r q IsThere a bs i whole parts,
       at_part_alike r q IsThere a bs j whole parts,
-      some_part_alike r q MayMatch a bs whole parts,
+      part_count_alike r q MayMatch a bs whole parts,
+      part_count_alike r q IsThere a bs whole parts,
       at_part_alike r q Clashes a bs i whole parts,
     ) refl
 
@@ -90,37 +100,15 @@ span_alike m l k c n i each = at (slice_get m.constraints c) each
     at : (o : Option Constraint) → SameEach l.region k.region (family_of o) → passes (span_of l.region n i) o ≡ passes (span_of k.region n i) o
     at None each = refl
     at (Some (constraint.Span a parts)) each = span_case_alike l.region k.region n i a parts each
-    at (Some (constraint.Temporal from to equal x y z)) each = refl
-    at (Some (constraint.Logic e)) each = refl
-    at (Some (constraint.Alternative a parts)) each = refl
-    at (Some (constraint.Synchronize a parts)) each = refl
-    at (Some (constraint.NoOverlap p matrix direct)) each = refl
-    at (Some (constraint.First p x)) each = refl
-    at (Some (constraint.Last p x)) each = refl
-    at (Some (constraint.Before p x y)) each = refl
-    at (Some (constraint.Prev p x y)) each = refl
-    at (Some (constraint.CumulIn f w lo hi)) each = refl
-    at (Some (constraint.AlwaysEqual g x v p q)) each = refl
-    at (Some (constraint.AlwaysNoState g x)) each = refl
+    at (Some other) each = refl
 
 pub alt_alike : (m : Data) (l k : Seen) (c n i j : ℕ) → SameEach l.region k.region (family_of (slice_get m.constraints c)) → alt_row m l c n i j ≡ alt_row m k c n i j
 alt_alike m l k c n i j each = at (slice_get m.constraints c) each
   where
     at : (o : Option Constraint) → SameEach l.region k.region (family_of o) → passes (alt_of l.region n i j) o ≡ passes (alt_of k.region n i j) o
     at None each = refl
-    at (Some (constraint.Alternative a parts)) each = alt_case_alike l.region k.region n i j a parts each
-    at (Some (constraint.Temporal from to equal x y z)) each = refl
-    at (Some (constraint.Logic e)) each = refl
-    at (Some (constraint.Span a parts)) each = refl
-    at (Some (constraint.Synchronize a parts)) each = refl
-    at (Some (constraint.NoOverlap p matrix direct)) each = refl
-    at (Some (constraint.First p x)) each = refl
-    at (Some (constraint.Last p x)) each = refl
-    at (Some (constraint.Before p x y)) each = refl
-    at (Some (constraint.Prev p x y)) each = refl
-    at (Some (constraint.CumulIn f w lo hi)) each = refl
-    at (Some (constraint.AlwaysEqual g x v p q)) each = refl
-    at (Some (constraint.AlwaysNoState g x)) each = refl
+    at (Some (constraint.Alternative a parts count)) each = alt_case_alike l.region k.region n i j count a parts each
+    at (Some other) each = refl
 
 pub sync_alike : (m : Data) (l k : Seen) (c i : ℕ) → SameEach l.region k.region (family_of (slice_get m.constraints c)) → sync_row m l c i ≡ sync_row m k c i
 sync_alike m l k c i each = at (slice_get m.constraints c) each
@@ -128,18 +116,7 @@ sync_alike m l k c i each = at (slice_get m.constraints c) each
     at : (o : Option Constraint) → SameEach l.region k.region (family_of o) → passes (sync_of l.region i) o ≡ passes (sync_of k.region i) o
     at None each = refl
     at (Some (constraint.Synchronize a parts)) each = sync_case_alike l.region k.region i a parts each
-    at (Some (constraint.Temporal from to equal x y z)) each = refl
-    at (Some (constraint.Logic e)) each = refl
-    at (Some (constraint.Span a parts)) each = refl
-    at (Some (constraint.Alternative a parts)) each = refl
-    at (Some (constraint.NoOverlap p matrix direct)) each = refl
-    at (Some (constraint.First p x)) each = refl
-    at (Some (constraint.Last p x)) each = refl
-    at (Some (constraint.Before p x y)) each = refl
-    at (Some (constraint.Prev p x y)) each = refl
-    at (Some (constraint.CumulIn f w lo hi)) each = refl
-    at (Some (constraint.AlwaysEqual g x v p q)) each = refl
-    at (Some (constraint.AlwaysNoState g x)) each = refl
+    at (Some other) each = refl
 
 -- SEQREL reads how each two members stand that the relation compares, beside one more
 abbrev pub SameRelated : Region → Region → Itv → Option Constraint → Type 0
@@ -164,12 +141,4 @@ seqrel_alike m l k c x each = at (slice_get m.constraints c) each
     at (Some (constraint.Last p a)) h = stand_alike l.region k.region p a one h
     at (Some (constraint.Before p a b)) h = ap (λ t. same one b && t) (stand_alike l.region k.region p b a h)
     at (Some (constraint.Prev p a b)) h = prev_alike l.region k.region p a b one h
-    at (Some (constraint.Temporal from to equal u v z)) h = refl
-    at (Some (constraint.Logic e)) h = refl
-    at (Some (constraint.Span u parts)) h = refl
-    at (Some (constraint.Alternative u parts)) h = refl
-    at (Some (constraint.Synchronize u parts)) h = refl
-    at (Some (constraint.NoOverlap p matrix direct)) h = refl
-    at (Some (constraint.CumulIn f w lo hi)) h = refl
-    at (Some (constraint.AlwaysEqual g u v i j)) h = refl
-    at (Some (constraint.AlwaysNoState g u)) h = refl
+    at (Some other) h = refl

@@ -40,48 +40,21 @@ witness_refutes m l kind a bs c w is one = true_both (is_valid w) (row_of m l w)
 -- a constraint that is none on an interval and its parts has no witness of these kinds
 pub no_span : (r : Region) (k i : ℕ) (d : Constraint) → is_family d ≡ false → span_of r k i d ≡ false
 no_span r k i (constraint.Span a bs) h = cc
-no_span r k i (constraint.Alternative a bs) h = cc
+no_span r k i (constraint.Alternative a bs n) h = cc
 no_span r k i (constraint.Synchronize a bs) h = cc
-no_span r k i (constraint.Temporal from to equal x y z) h = refl
-no_span r k i (constraint.Logic e) h = refl
-no_span r k i (constraint.NoOverlap p matrix direct) h = refl
-no_span r k i (constraint.First p x) h = refl
-no_span r k i (constraint.Last p x) h = refl
-no_span r k i (constraint.Before p x y) h = refl
-no_span r k i (constraint.Prev p x y) h = refl
-no_span r k i (constraint.CumulIn f w lo hi) h = refl
-no_span r k i (constraint.AlwaysEqual g x v p q) h = refl
-no_span r k i (constraint.AlwaysNoState g x) h = refl
+no_span r k i other h = refl
 
 pub no_alt : (r : Region) (k i j : ℕ) (d : Constraint) → is_family d ≡ false → alt_of r k i j d ≡ false
 no_alt r k i j (constraint.Span a bs) h = cc
-no_alt r k i j (constraint.Alternative a bs) h = cc
+no_alt r k i j (constraint.Alternative a bs n) h = cc
 no_alt r k i j (constraint.Synchronize a bs) h = cc
-no_alt r k i j (constraint.Temporal from to equal x y z) h = refl
-no_alt r k i j (constraint.Logic e) h = refl
-no_alt r k i j (constraint.NoOverlap p matrix direct) h = refl
-no_alt r k i j (constraint.First p x) h = refl
-no_alt r k i j (constraint.Last p x) h = refl
-no_alt r k i j (constraint.Before p x y) h = refl
-no_alt r k i j (constraint.Prev p x y) h = refl
-no_alt r k i j (constraint.CumulIn f w lo hi) h = refl
-no_alt r k i j (constraint.AlwaysEqual g x v p q) h = refl
-no_alt r k i j (constraint.AlwaysNoState g x) h = refl
+no_alt r k i j other h = refl
 
 pub no_sync : (r : Region) (i : ℕ) (d : Constraint) → is_family d ≡ false → sync_of r i d ≡ false
 no_sync r i (constraint.Span a bs) h = cc
-no_sync r i (constraint.Alternative a bs) h = cc
+no_sync r i (constraint.Alternative a bs n) h = cc
 no_sync r i (constraint.Synchronize a bs) h = cc
-no_sync r i (constraint.Temporal from to equal x y z) h = refl
-no_sync r i (constraint.Logic e) h = refl
-no_sync r i (constraint.NoOverlap p matrix direct) h = refl
-no_sync r i (constraint.First p x) h = refl
-no_sync r i (constraint.Last p x) h = refl
-no_sync r i (constraint.Before p x y) h = refl
-no_sync r i (constraint.Prev p x y) h = refl
-no_sync r i (constraint.CumulIn f w lo hi) h = refl
-no_sync r i (constraint.AlwaysEqual g x v p q) h = refl
-no_sync r i (constraint.AlwaysNoState g x) h = refl
+no_sync r i other h = refl
 
 no_row : (m : Data) (l : Seen) (d : Constraint) (w : HierWitness) → slice_get m.constraints (constraint_of w) ≡ Some d → is_family d ≡ false → ((x : Itv) → seqrel_of l.region x d ≡ false) → row_of m l w ≡ false
 no_row m l d (witness.Span n k i) is none nobody = ap (passes (span_of l.region k i)) is ∙ no_span l.region k i d none

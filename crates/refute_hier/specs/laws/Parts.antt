@@ -1,5 +1,5 @@
 -- A constraint of a valid model has few parts, and none of them twice.
-use Rattle.std.specs.Prelude.{◌≡◌, ℕ, ◌<◌, ◌^◌, true, false, not, List, [], ◌∷◌, map, length, Some, slice_get, nat_eq, nat_lt}
+use Rattle.std.specs.Prelude.{◌≡◌, ℕ, ◌<◌, ◌^◌, pos, true, false, not, ◌&&◌, List, [], ◌∷◌, map, length, Some, slice_get, nat_eq, nat_lt, int_le}
 use Rattle.std.specs.List.{list_any, list_all, IsDistinct, AllByRecursion}
 use Rattle.std.proofs.Common.{inl, inr, refl, sym, ap, ◌∙◌, arith}
 use Rattle.std.proofs.lemmas.Bool.{not-true}
@@ -10,6 +10,7 @@ use Rattle.std.proofs.lemmas.Option.{slice_get_within}
 use Rattle.sched_base.specs.declared.ids.Itv.{Itv}
 use Rattle.sched_model.specs.declared.types.Constraint.{Constraint}
 use Rattle.sched_model.specs.Data.{Data, same}
+use Rattle.sched_model.specs.Bounds.{is_small}
 use Rattle.sched_model.specs.Valid.{IsValid, is_itv, is_constraint, are_parts, are_distinct}
 use Rattle.sched_model.specs.laws.Limits.{limits_of}
 use Rattle.sched_model.specs.laws.Listed.{valid_at}
@@ -58,14 +59,15 @@ few_parts m xs valid h =
     let few = (limits_of m valid.limits).intervals in
     omega (arith, n, same_length, few)
 
-parts_of : (m : Data) (kind : Kind) (a : Itv) (bs : List Itv) → is_constraint m (as_constraint kind a bs) ≡ true → are_parts m bs ≡ true
-parts_of m Span a bs h = (both_true (is_itv m a) (are_parts m bs) h).1
-parts_of m Alternative a bs h = (both_true (is_itv m a) (are_parts m bs) h).1
-parts_of m Synchronize a bs h = (both_true (is_itv m a) (are_parts m bs) h).1
+-- the interval and the parts are the model's
+pub family_named : (m : Data) (kind : Kind) (a : Itv) (bs : List Itv) → is_constraint m (as_constraint kind a bs) ≡ true → (is_itv m a && are_parts m bs) ≡ true
+family_named m Span a bs h = h
+family_named m (Alternative n) a bs h = (both_true (is_itv m a && are_parts m bs) (is_small n) (both_true (is_itv m a && are_parts m bs && is_small n) (int_le (pos 0) n) h).0).0
+family_named m Synchronize a bs h = h
 
 pub is_one : (m : Data) (c : ℕ) (kind : Kind) (a : Itv) (bs : List Itv) → IsValid m → slice_get m.constraints c ≡ Some (as_constraint kind a bs) → IsFamily m c kind a bs
 is_one m c kind a bs valid is =
-    let parts = parts_of m kind a bs (valid_at m m.constraints c (as_constraint kind a bs) valid refl is) in
+    let parts = (both_true (is_itv m a) (are_parts m bs) (family_named m kind a bs (valid_at m m.constraints c (as_constraint kind a bs) valid refl is))).1 in
     let within = slice_get_within m.constraints c (as_constraint kind a bs) is in
     let few = (limits_of m valid.limits).constraints in
     record { is = is; few = record { constraint = omega (arith, within, few); parts = few_parts m bs valid parts }; distinct = (both_true _ (are_distinct bs) parts).1 }

@@ -61,15 +61,7 @@ related_member m r (constraint.First q a) p x of is h = let e : p ≡ q = cc is 
 related_member m r (constraint.Last q a) p x of is h = let e : p ≡ q = cc is in subst (λ s. has (members_of m s) x ≡ true) (sym e) (member_second m r q a x of h)
 related_member m r (constraint.Before q a b) p x of is h = let e : p ≡ q = cc is in subst (λ s. has (members_of m s) x ≡ true) (sym e) (member_same m r q x a b of h)
 related_member m r (constraint.Prev q a b) p x of is h = let e : p ≡ q = cc is in subst (λ s. has (members_of m s) x ≡ true) (sym e) (member_prev m r q x a b of (has_cases (same x b && stand r q b a) (stand r q a x && stand r q x b) h))
-related_member m r (constraint.Temporal from to equal u v z) p x of is h = cc
-related_member m r (constraint.Logic e) p x of is h = cc
-related_member m r (constraint.Span u parts) p x of is h = cc
-related_member m r (constraint.Alternative u parts) p x of is h = cc
-related_member m r (constraint.Synchronize u parts) p x of is h = cc
-related_member m r (constraint.NoOverlap q matrix direct) p x of is h = cc
-related_member m r (constraint.CumulIn f w lo hi) p x of is h = cc
-related_member m r (constraint.AlwaysEqual g u v i j) p x of is h = cc
-related_member m r (constraint.AlwaysNoState g u) p x of is h = cc
+related_member m r other p x of is h = cc
 
 -- a constraint of another kind has nobody who stands so
 pub unrelated : (r : Region) (d : Constraint) (x : Itv) → None ≡ related_in d → seqrel_of r x d ≡ false
@@ -77,15 +69,7 @@ unrelated r (constraint.First q a) x is = cc
 unrelated r (constraint.Last q a) x is = cc
 unrelated r (constraint.Before q a b) x is = cc
 unrelated r (constraint.Prev q a b) x is = cc
-unrelated r (constraint.Temporal from to equal u v z) x is = refl
-unrelated r (constraint.Logic e) x is = refl
-unrelated r (constraint.Span u parts) x is = refl
-unrelated r (constraint.Alternative u parts) x is = refl
-unrelated r (constraint.Synchronize u parts) x is = refl
-unrelated r (constraint.NoOverlap q matrix direct) x is = refl
-unrelated r (constraint.CumulIn f w lo hi) x is = refl
-unrelated r (constraint.AlwaysEqual g u v i j) x is = refl
-unrelated r (constraint.AlwaysNoState g u) x is = refl
+unrelated r other x is = refl
 
 -- an assignment that a settled region leaves, whose order of a sequence lists the present members as the region allows;
 -- constraint c is a relation of that sequence, and no witness refutes
@@ -242,15 +226,7 @@ related_holds m l a c (constraint.First q x) p is ok un = let e : q ≡ p = cc i
 related_holds m l a c (constraint.Last q x) p is ok un = let e : q ≡ p = cc is in last_holds m l a c q x (subst (IsUnrefuted m l a c (constraint.Last q x)) (sym e) un)
 related_holds m l a c (constraint.Before q x y) p is ok un = let e : q ≡ p = cc is in before_holds m l a c q x y (subst (IsUnrefuted m l a c (constraint.Before q x y)) (sym e) un) (members m q x y ok)
 related_holds m l a c (constraint.Prev q x y) p is ok un = let e : q ≡ p = cc is in prev_holds m l a c q x y (subst (IsUnrefuted m l a c (constraint.Prev q x y)) (sym e) un) (members m q x y ok)
-related_holds m l a c (constraint.Temporal from to equal u v z) p is ok un = cc
-related_holds m l a c (constraint.Logic e) p is ok un = cc
-related_holds m l a c (constraint.Span u parts) p is ok un = cc
-related_holds m l a c (constraint.Alternative u parts) p is ok un = cc
-related_holds m l a c (constraint.Synchronize u parts) p is ok un = cc
-related_holds m l a c (constraint.NoOverlap q matrix direct) p is ok un = cc
-related_holds m l a c (constraint.CumulIn f w lo hi) p is ok un = cc
-related_holds m l a c (constraint.AlwaysEqual g u v i j) p is ok un = cc
-related_holds m l a c (constraint.AlwaysNoState g u) p is ok un = cc
+related_holds m l a c other p is ok un = cc
 
 -- where no witness refutes, a relation of the members of a sequence holds
 pub unrefuted_related : (m : Data) (l : Seen) (a : Assignment) (c : ℕ) (d : Constraint) (p : Seq) → IsValid m → IsSettledTo m l.region a → Lists (cells_of l.region p).members a (order_of a p) → AllowsOrder (cells_of l.region p) a (order_of a p)

@@ -1,10 +1,11 @@
 -- Some row of a constraint refutes exactly where a witness of the constraint does.
-use Rattle.std.specs.Prelude.{◌≡◌, ℕ, zero, suc, ◌+◌, ◌<◌, ◌^◌, Bool, true, false, not, ◌&&◌, ◌||◌, List, [], ◌∷◌, length, Some, slice_get, nat_eq, nat_lt}
-use Rattle.std.specs.List.{list_any, count_by}
+use Rattle.std.specs.Prelude.{◌≡◌, ℕ, suc, ◌<◌, ◌^◌, ℤ, pos, Bool, true, false, not, ◌&&◌, ◌||◌, List, [], ◌∷◌, length, Some, slice_get, nat_eq, nat_lt, int_lt}
+use Rattle.std.specs.Ordering.{int_eq}
+use Rattle.std.specs.List.{list_any}
 use Rattle.std.proofs.Common.{refl, sym, ap, ◌∙◌, arith, inl, inr}
 use Rattle.std.proofs.lemmas.Bool.{true≢false, or_left, or_right}
 use Rattle.std.proofs.lemmas.Bool.Decides.{nat_tests}
-use Rattle.base_laws.specs.laws.Kept.{count_yes, count_no}
+use Rattle.std.proofs.lemmas.Int.{ints}
 use Rattle.sched_base.specs.declared.ids.Itv.{Itv}
 use Rattle.sched_model.specs.Words.{passes}
 use Rattle.sched_model.specs.Data.{Data}
@@ -14,48 +15,48 @@ use Rattle.region.specs.Cells.{Region, bounds_of, says_present, says_absent}
 use Rattle.region.specs.Looks.{Seen}
 use Rattle.region.specs.laws.Lists.{both_true, true_both}
 use Rattle.region.specs.laws.OneSequence.{has_cases}
-use Rattle.refute_hier.specs.declared.parts.Role.TheVariants.{IsThere, StartsBefore, EndsAfter, Clashes, MayStart, MayEnd, MayMatch}
+use Rattle.refute_hier.specs.declared.parts.Role.TheVariants.{IsThere, StartsBefore, EndsAfter, Clashes, MayStart, MayEnd}
 use Rattle.refute_hier.specs.declared.witness.HierWitness.{HierWitness}
 use Rattle.refute_hier.specs.declared.witness.HierWitness.TheVariants as witness
 use Rattle.refute_hier.specs.Witness.{is_valid, constraint_of}
-use Rattle.refute_hier.specs.Parts.{plays_in, is_there, is_away, at_part, some_part}
+use Rattle.refute_hier.specs.Parts.{plays_in, is_there, is_away, at_part, some_part, part_count}
 use Rattle.refute_hier.specs.Span.{span_case, span_of}
-use Rattle.refute_hier.specs.Alt.{are_two, alt_case, alt_of}
+use Rattle.refute_hier.specs.Alt.{are_two, is_crowded, is_short, alt_case, alt_of}
 use Rattle.refute_hier.specs.Sync.{sync_case, sync_of}
 use Rattle.refute_hier.specs.SeqRel.{seqrel_of}
 use Rattle.refute_hier.specs.Hier.{row_of}
 use Rattle.region.specs.laws.Found.{never}
-use Rattle.refute_hier.specs.laws.Filtered.{chosen}
+use Rattle.refute_hier.specs.laws.Filtered.{chosen, some_at, two_counted}
 use Rattle.refute_hier.specs.declared.family.Kind.{Kind}
 use Rattle.refute_hier.specs.declared.family.Kind.TheVariants.{Span, Alternative, Synchronize}
-use Rattle.refute_hier.specs.code.Rows.{as_constraint, family_row, two_parts, some_case, some_refutes, IsWitness}
+use Rattle.refute_hier.specs.code.Rows.{as_constraint, family_row, some_case, some_refutes, IsWitness}
 use Rattle.sched_model.specs.laws.Small.{number_fits}
 use Rattle.sched_model.specs.Bounds.{is_number}
 
 -- the row of a witness of the constraint
 span_shape : (r : Region) (k i : ℕ) (kind : Kind) (a : Itv) (bs : List Itv) (c : ℕ) → span_of r k i (as_constraint kind a bs) ≡ family_row kind r a bs (witness.Span c k i)
 span_shape r k i Span a bs c = refl
-span_shape r k i Alternative a bs c = refl
+span_shape r k i (Alternative n) a bs c = refl
 span_shape r k i Synchronize a bs c = refl
 
 alt_shape : (r : Region) (k i j : ℕ) (kind : Kind) (a : Itv) (bs : List Itv) (c : ℕ) → alt_of r k i j (as_constraint kind a bs) ≡ family_row kind r a bs (witness.Alt c k i j)
 alt_shape r k i j Span a bs c = refl
-alt_shape r k i j Alternative a bs c = refl
+alt_shape r k i j (Alternative n) a bs c = refl
 alt_shape r k i j Synchronize a bs c = refl
 
 sync_shape : (r : Region) (i : ℕ) (kind : Kind) (a : Itv) (bs : List Itv) (c : ℕ) → sync_of r i (as_constraint kind a bs) ≡ family_row kind r a bs (witness.Sync c i)
 sync_shape r i Span a bs c = refl
-sync_shape r i Alternative a bs c = refl
+sync_shape r i (Alternative n) a bs c = refl
 sync_shape r i Synchronize a bs c = refl
 
 seqrel_shape : (r : Region) (x : Itv) (kind : Kind) (a : Itv) (bs : List Itv) → seqrel_of r x (as_constraint kind a bs) ≡ false
 seqrel_shape r x Span a bs = refl
-seqrel_shape r x Alternative a bs = refl
+seqrel_shape r x (Alternative n) a bs = refl
 seqrel_shape r x Synchronize a bs = refl
 
 no_relation : (kind : Kind) (r : Region) (a : Itv) (bs : List Itv) (c x : ℕ) → family_row kind r a bs (witness.SeqRel c x) ≡ false
 no_relation Span r a bs c x = refl
-no_relation Alternative r a bs c x = refl
+no_relation (Alternative n) r a bs c x = refl
 no_relation Synchronize r a bs c x = refl
 
 pub row_is : (m : Data) (l : Seen) (kind : Kind) (a : Itv) (bs : List Itv) (c : ℕ) (w : HierWitness) → slice_get m.constraints c ≡ Some (as_constraint kind a bs) → constraint_of w ≡ c → row_of m l w ≡ family_row kind l.region a bs w
@@ -69,32 +70,8 @@ row_is m l kind a bs c (witness.SeqRel n x) is names =
     ap (λ d. passes (seqrel_of l.region (record { 0 = x })) (slice_get m.constraints d)) names ∙ ap (passes (seqrel_of l.region (record { 0 = x }))) is ∙ seqrel_shape l.region (record { 0 = x }) kind a bs
     ∙ sym (no_relation kind l.region a bs n x)
 
--- what passes at a place makes some pass, and two places that pass are two
-some_at : {X : Type 0} (test : X → Bool) (xs : List X) (i : ℕ) → passes test (slice_get xs i) ≡ true → list_any test xs ≡ true
-some_at test [] i h = never h
-some_at test (x ∷ xs) zero h = or_left (test x) (list_any test xs) h
-some_at test (x ∷ xs) (suc i) h = or_right (test x) (list_any test xs) (some_at test xs i h)
-
-counted_more : {X : Type 0} (test : X → Bool) (x : X) (xs : List X) (b : Bool) → test x ≡ b → count_by test xs < count_by test (x ∷ xs) + 1
-counted_more test x xs true e = let n = count_yes test x xs e in omega (arith, n)
-counted_more test x xs false e = let n = count_no test x xs e in omega (arith, n)
-
-pub one_counted : {X : Type 0} (test : X → Bool) (xs : List X) (i : ℕ) → passes test (slice_get xs i) ≡ true → 0 < count_by test xs
-one_counted test [] i h = never h
-one_counted test (x ∷ xs) zero h = let n = count_yes test x xs h in omega (arith, n)
-one_counted test (x ∷ xs) (suc i) h = let n = counted_more test x xs (test x) refl in let before = one_counted test xs i h in omega (arith, n, before)
-
-two_counted : {X : Type 0} (test : X → Bool) (xs : List X) (i j : ℕ) → i < j → passes test (slice_get xs i) ≡ true → passes test (slice_get xs j) ≡ true → 1 < count_by test xs
-two_counted test [] i j less h k = never h
-two_counted test (x ∷ xs) i zero less h k = absurd (omega (arith, less))
-two_counted test (x ∷ xs) zero (suc j) less h k = let n = count_yes test x xs h in let one = one_counted test xs j k in omega (arith, n, one)
-two_counted test (x ∷ xs) (suc i) (suc j) less h k = let n = counted_more test x xs (test x) refl in let before = two_counted test xs i j (omega (arith, less)) h k in omega (arith, n, before)
-
 less_of : (i j : ℕ) → nat_lt i j ≡ true → i < j
 less_of i j h = grind (arith, nat_tests)
-
-is_less : (i j : ℕ) → i < j → nat_lt i j ≡ true
-is_less i j h = grind (arith, nat_tests)
 
 not_there : (r : Region) (a : Itv) (p : Presence) → (bounds_of r a).presence ≡ p → says_present p ≡ false → is_there r a ≡ true → ⊥
 not_there r a p e none h = true≢false (sym h ∙ ap says_present e ∙ none)
@@ -158,52 +135,58 @@ span_some r k i a bs =
         span_third r a bs (bounds_of r a).presence refl two.0 (or_right (some_part r StartsBefore a bs) (some_part r EndsAfter a bs) (some_at (plays_in r EndsAfter a) bs i two.1))
 
 -- the rows of an alternative
-two_are_some : (r : Region) (a : Itv) (bs : List Itv) (i j : ℕ) → are_two r i j a bs ≡ true → (two_parts r a bs ≡ true) × (some_part r IsThere a bs ≡ true)
-two_are_some r a bs i j h =
+pub more_than_one : (n : ℤ) (k : ℕ) → int_eq n (pos 1) ≡ true → 1 < k → int_lt n (pos k) ≡ true
+more_than_one n k h i = grind (arith, ints)
+
+two_are_crowded : (r : Region) (n : ℤ) (a : Itv) (bs : List Itv) (i j : ℕ) → int_eq n (pos 1) ≡ true → are_two r i j a bs ≡ true → is_crowded r n a bs ≡ true
+two_are_crowded r n a bs i j single h =
     let two = both_true (nat_lt i j && at_part r IsThere a bs i) (at_part r IsThere a bs j) h in
     let one = both_true (nat_lt i j) (at_part r IsThere a bs i) two.0 in
-    (is_less 1 (count_by (plays_in r IsThere a) bs) (two_counted (plays_in r IsThere a) bs i j (less_of i j one.0) one.1 two.1), some_at (plays_in r IsThere a) bs i one.1)
+    more_than_one n (part_count r IsThere a bs) single (two_counted (plays_in r IsThere a) bs i j (less_of i j one.0) one.1 two.1)
 
-alt_first : (r : Region) (a : Itv) (bs : List Itv) (p : Presence) → (bounds_of r a).presence ≡ p → is_away r a ≡ true → some_part r IsThere a bs ≡ true → some_case Alternative p r a bs ≡ true
-alt_first r a bs Absent e away h = h
-alt_first r a bs Present e away h = absurd (not_away r a Present e refl away)
-alt_first r a bs Maybe e away h = absurd (not_away r a Maybe e refl away)
+alt_first : (r : Region) (n : ℤ) (a : Itv) (bs : List Itv) (p : Presence) → (bounds_of r a).presence ≡ p → is_away r a ≡ true → some_part r IsThere a bs ≡ true → some_case (Alternative n) p r a bs ≡ true
+alt_first r n a bs Absent e away h = or_left (some_part r IsThere a bs) (is_crowded r n a bs) h
+alt_first r n a bs Present e away h = absurd (not_away r a Present e refl away)
+alt_first r n a bs Maybe e away h = absurd (not_away r a Maybe e refl away)
 
-alt_second : (r : Region) (a : Itv) (bs : List Itv) (p : Presence) → two_parts r a bs ≡ true → some_part r IsThere a bs ≡ true → some_case Alternative p r a bs ≡ true
-alt_second r a bs Absent two one = one
-alt_second r a bs Present two one = or_left (two_parts r a bs || not (some_part r MayMatch a bs)) (some_part r Clashes a bs) (or_left (two_parts r a bs) (not (some_part r MayMatch a bs)) two)
-alt_second r a bs Maybe two one = or_left (two_parts r a bs) (some_part r Clashes a bs) two
+alt_crowded : (r : Region) (n : ℤ) (a : Itv) (bs : List Itv) (p : Presence) → is_crowded r n a bs ≡ true → some_case (Alternative n) p r a bs ≡ true
+alt_crowded r n a bs Absent many = or_right (some_part r IsThere a bs) (is_crowded r n a bs) many
+alt_crowded r n a bs Present many = or_left (is_crowded r n a bs || is_short r n a bs) (some_part r Clashes a bs) (or_left (is_crowded r n a bs) (is_short r n a bs) many)
+alt_crowded r n a bs Maybe many = or_left (is_crowded r n a bs) (some_part r Clashes a bs) many
 
-alt_third : (r : Region) (a : Itv) (bs : List Itv) (p : Presence) → (bounds_of r a).presence ≡ p → is_there r a ≡ true → not (some_part r MayMatch a bs) ≡ true → some_case Alternative p r a bs ≡ true
-alt_third r a bs Absent e there h = absurd (not_there r a Absent e refl there)
-alt_third r a bs Present e there h = or_left (two_parts r a bs || not (some_part r MayMatch a bs)) (some_part r Clashes a bs) (or_right (two_parts r a bs) (not (some_part r MayMatch a bs)) h)
-alt_third r a bs Maybe e there h = absurd (not_there r a Maybe e refl there)
+alt_third : (r : Region) (n : ℤ) (a : Itv) (bs : List Itv) (p : Presence) → (bounds_of r a).presence ≡ p → is_there r a ≡ true → is_short r n a bs ≡ true → some_case (Alternative n) p r a bs ≡ true
+alt_third r n a bs Absent e there h = absurd (not_there r a Absent e refl there)
+alt_third r n a bs Present e there h = or_left (is_crowded r n a bs || is_short r n a bs) (some_part r Clashes a bs) (or_right (is_crowded r n a bs) (is_short r n a bs) h)
+alt_third r n a bs Maybe e there h = absurd (not_there r a Maybe e refl there)
 
-alt_fourth : (r : Region) (a : Itv) (bs : List Itv) (p : Presence) → (bounds_of r a).presence ≡ p → not (is_away r a) ≡ true → some_part r Clashes a bs ≡ true → some_case Alternative p r a bs ≡ true
-alt_fourth r a bs Absent e here h = absurd (but_away r a Absent e refl here)
-alt_fourth r a bs Present e here h = or_right (two_parts r a bs || not (some_part r MayMatch a bs)) (some_part r Clashes a bs) h
-alt_fourth r a bs Maybe e here h = or_right (two_parts r a bs) (some_part r Clashes a bs) h
+alt_fourth : (r : Region) (n : ℤ) (a : Itv) (bs : List Itv) (p : Presence) → (bounds_of r a).presence ≡ p → not (is_away r a) ≡ true → some_part r Clashes a bs ≡ true → some_case (Alternative n) p r a bs ≡ true
+alt_fourth r n a bs Absent e here h = absurd (but_away r a Absent e refl here)
+alt_fourth r n a bs Present e here h = or_right (is_crowded r n a bs || is_short r n a bs) (some_part r Clashes a bs) h
+alt_fourth r n a bs Maybe e here h = or_right (is_crowded r n a bs) (some_part r Clashes a bs) h
 
-alt_some : (r : Region) (k i j : ℕ) (a : Itv) (bs : List Itv) → alt_case r k i j a bs ≡ true → some_refutes Alternative r a bs ≡ true
-alt_some r k i j a bs = chosen (nat_eq k 1) _ _ first (chosen (nat_eq k 2) _ _ second (chosen (nat_eq k 3) _ _ third (chosen (nat_eq k 4) _ _ fourth never)))
+alt_some : (r : Region) (k i j : ℕ) (n : ℤ) (a : Itv) (bs : List Itv) → alt_case r k i j n a bs ≡ true → some_refutes (Alternative n) r a bs ≡ true
+alt_some r k i j n a bs = chosen (nat_eq k 1) _ _ first (chosen (nat_eq k 2) _ _ second (chosen (nat_eq k 3) _ _ third (chosen (nat_eq k 4) _ _ fourth (chosen (nat_eq k 5) _ _ fifth never))))
   where
-    first : (nat_eq j 0 && is_away r a && at_part r IsThere a bs i) ≡ true → some_refutes Alternative r a bs ≡ true
+    first : (nat_eq j 0 && is_away r a && at_part r IsThere a bs i) ≡ true → some_refutes (Alternative n) r a bs ≡ true
     first h =
         let two = both_true (nat_eq j 0 && is_away r a) (at_part r IsThere a bs i) h in
-        alt_first r a bs (bounds_of r a).presence refl (both_true (nat_eq j 0) (is_away r a) two.0).1 (some_at (plays_in r IsThere a) bs i two.1)
+        alt_first r n a bs (bounds_of r a).presence refl (both_true (nat_eq j 0) (is_away r a) two.0).1 (some_at (plays_in r IsThere a) bs i two.1)
 
-    second : are_two r i j a bs ≡ true → some_refutes Alternative r a bs ≡ true
-    second h = let two = two_are_some r a bs i j h in alt_second r a bs (bounds_of r a).presence two.0 two.1
+    second : (int_eq n (pos 1) && are_two r i j a bs) ≡ true → some_refutes (Alternative n) r a bs ≡ true
+    second h = let two = both_true (int_eq n (pos 1)) (are_two r i j a bs) h in alt_crowded r n a bs (bounds_of r a).presence (two_are_crowded r n a bs i j two.0 two.1)
 
-    third : (nat_eq i 0 && nat_eq j 0 && is_there r a && not (some_part r MayMatch a bs)) ≡ true → some_refutes Alternative r a bs ≡ true
+    third : (nat_eq i 0 && nat_eq j 0 && is_there r a && is_short r n a bs) ≡ true → some_refutes (Alternative n) r a bs ≡ true
     third h =
-        let two = both_true (nat_eq i 0 && nat_eq j 0 && is_there r a) (not (some_part r MayMatch a bs)) h in
-        alt_third r a bs (bounds_of r a).presence refl (both_true (nat_eq i 0 && nat_eq j 0) (is_there r a) two.0).1 two.1
+        let two = both_true (nat_eq i 0 && nat_eq j 0 && is_there r a) (is_short r n a bs) h in
+        alt_third r n a bs (bounds_of r a).presence refl (both_true (nat_eq i 0 && nat_eq j 0) (is_there r a) two.0).1 two.1
 
-    fourth : (nat_eq j 0 && not (is_away r a) && at_part r Clashes a bs i) ≡ true → some_refutes Alternative r a bs ≡ true
+    fourth : (nat_eq j 0 && not (is_away r a) && at_part r Clashes a bs i) ≡ true → some_refutes (Alternative n) r a bs ≡ true
     fourth h =
         let two = both_true (nat_eq j 0 && not (is_away r a)) (at_part r Clashes a bs i) h in
-        alt_fourth r a bs (bounds_of r a).presence refl (both_true (nat_eq j 0) (not (is_away r a)) two.0).1 (some_at (plays_in r Clashes a) bs i two.1)
+        alt_fourth r n a bs (bounds_of r a).presence refl (both_true (nat_eq j 0) (not (is_away r a)) two.0).1 (some_at (plays_in r Clashes a) bs i two.1)
+
+    fifth : (nat_eq i 0 && nat_eq j 0 && is_crowded r n a bs) ≡ true → some_refutes (Alternative n) r a bs ≡ true
+    fifth h = alt_crowded r n a bs (bounds_of r a).presence (both_true (nat_eq i 0 && nat_eq j 0) (is_crowded r n a bs) h).1
 
 sync_first : (r : Region) (a : Itv) (bs : List Itv) (p : Presence) → (bounds_of r a).presence ≡ p → is_there r a ≡ true → some_part r Clashes a bs ≡ true → some_case Synchronize p r a bs ≡ true
 sync_first r a bs Absent e there h = absurd (not_there r a Absent e refl there)
@@ -219,10 +202,10 @@ some_if_row Span r a bs (witness.Span c k i) h = span_some r k i a bs h
 some_if_row Span r a bs (witness.Alt c k i j) h = never h
 some_if_row Span r a bs (witness.Sync c i) h = never h
 some_if_row Span r a bs (witness.SeqRel c x) h = never h
-some_if_row Alternative r a bs (witness.Span c k i) h = never h
-some_if_row Alternative r a bs (witness.Alt c k i j) h = alt_some r k i j a bs h
-some_if_row Alternative r a bs (witness.Sync c i) h = never h
-some_if_row Alternative r a bs (witness.SeqRel c x) h = never h
+some_if_row (Alternative n) r a bs (witness.Span c k i) h = never h
+some_if_row (Alternative n) r a bs (witness.Alt c k i j) h = alt_some r k i j n a bs h
+some_if_row (Alternative n) r a bs (witness.Sync c i) h = never h
+some_if_row (Alternative n) r a bs (witness.SeqRel c x) h = never h
 some_if_row Synchronize r a bs (witness.Span c k i) h = never h
 some_if_row Synchronize r a bs (witness.Alt c k i j) h = never h
 some_if_row Synchronize r a bs (witness.Sync c i) h = sync_some r i a bs h
@@ -243,34 +226,6 @@ place_of_some test (x ∷ xs) h = elim (has_cases (test x) (list_any test xs) h)
   | inl here ↦ record { at = 0; within = omega arith; passes = here }
   | inr later ↦ next_place test x xs (place_of_some test xs later)
 ]
-
-pub record TwoPlaces {X : Type 0} (test : X → Bool) (xs : List X) : Type 0 where
-  pub at : ℕ
-  pub second : ℕ
-  pub less : at < second
-  pub within : second < length xs
-  pub is : passes test (slice_get xs at) ≡ true
-  pub also : passes test (slice_get xs second) ≡ true
-
-place_of_count : {X : Type 0} (test : X → Bool) (xs : List X) → 0 < count_by test xs → Place test xs
-place_of_count test [] h = absurd (omega (arith, h))
-place_of_count test (x ∷ xs) h = counted_here test x xs h (test x) refl (place_of_count test xs)
-  where
-    counted_here : {X : Type 0} (test : X → Bool) (x : X) (xs : List X) → 0 < count_by test (x ∷ xs) → (b : Bool) → test x ≡ b → (0 < count_by test xs → Place test xs) → Place test (x ∷ xs)
-    counted_here test x xs h true e rest = record { at = 0; within = omega arith; passes = e }
-    counted_here test x xs h false e rest = next_place test x xs (rest (let n = count_no test x xs e in omega (arith, n, h)))
-
-two_places : {X : Type 0} (test : X → Bool) (xs : List X) → 1 < count_by test xs → TwoPlaces test xs
-two_places test [] h = absurd (omega (arith, h))
-two_places test (x ∷ xs) h = counted_here test x xs h (test x) refl (two_places test xs)
-  where
-    counted_here : {X : Type 0} (test : X → Bool) (x : X) (xs : List X) → 1 < count_by test (x ∷ xs) → (b : Bool) → test x ≡ b → (1 < count_by test xs → TwoPlaces test xs) → TwoPlaces test (x ∷ xs)
-    counted_here test x xs h true e rest =
-        let p = place_of_count test xs (let n = count_yes test x xs e in omega (arith, n, h)) in
-        record { at = 0; second = suc p.at; less = omega arith; within = (let within = p.within in omega (arith, within)); is = e; also = p.passes }
-    counted_here test x xs h false e rest =
-        let p = rest (let n = count_no test x xs e in omega (arith, n, h)) in
-        record { at = suc p.at; second = suc p.second; less = (let less = p.less in omega (arith, less)); within = (let within = p.within in omega (arith, within)); is = p.is; also = p.also }
 
 place_fits : (n k : ℕ) → n < k → k < 2 ^ 32 → is_number n ≡ true
 place_fits n k h few = grind (arith, nat_tests)
@@ -331,39 +286,31 @@ span_witness r a bs c Present e few h =
       | inr outside ↦ span_outside r a bs c few (here r a Present e refl) outside
     ]
 
-alt_two : (r : Region) (a : Itv) (bs : List Itv) (c : ℕ) → AreNumbered bs c → two_parts r a bs ≡ true → HasWitness Alternative r a bs c
-alt_two r a bs c few h =
-    let p = two_places (plays_in r IsThere a) bs (less_of 1 (count_by (plays_in r IsThere a) bs) h) in
-    let less = p.less in
-    let within = p.within in
-    record {
-      witness = witness.Alt c 2 p.at p.second;
-      is = record {
-        constraint = refl;
-        valid = valid_alt c 2 p.at p.second (number bs c few) refl (place_fits p.at (length bs) (omega (arith, less, within)) few.parts) (place_fits p.second (length bs) p.within few.parts);
-        row = true_both (nat_lt p.at p.second && at_part r IsThere a bs p.at) (at_part r IsThere a bs p.second) (true_both (nat_lt p.at p.second) (at_part r IsThere a bs p.at) (is_less p.at p.second p.less) p.is) p.also;
-      };
-    }
+-- where more are present than the count
+alt_crowd : (r : Region) (n : ℤ) (a : Itv) (bs : List Itv) (c : ℕ) → AreNumbered bs c → is_crowded r n a bs ≡ true → HasWitness (Alternative n) r a bs c
+alt_crowd r n a bs c few h = record { witness = witness.Alt c 5 0 0; is = record { constraint = refl; valid = valid_alt c 5 0 0 (number bs c few) refl refl refl; row = h } }
 
-alt_clash : (r : Region) (a : Itv) (bs : List Itv) (c : ℕ) → AreNumbered bs c → not (is_away r a) ≡ true → some_part r Clashes a bs ≡ true → HasWitness Alternative r a bs c
-alt_clash r a bs c few on h =
+alt_clash : (r : Region) (n : ℤ) (a : Itv) (bs : List Itv) (c : ℕ) → AreNumbered bs c → not (is_away r a) ≡ true → some_part r Clashes a bs ≡ true → HasWitness (Alternative n) r a bs c
+alt_clash r n a bs c few on h =
     let p = place_of_some (plays_in r Clashes a) bs h in
     record { witness = witness.Alt c 4 p.at 0; is = record { constraint = refl; valid = valid_alt c 4 p.at 0 (number bs c few) refl (place_fits p.at (length bs) p.within few.parts) refl; row = true_both (not (is_away r a)) (at_part r Clashes a bs p.at) on p.passes } }
 
-alt_witness : (r : Region) (a : Itv) (bs : List Itv) (c : ℕ) (p : Presence) → (bounds_of r a).presence ≡ p → AreNumbered bs c → some_case Alternative p r a bs ≡ true → HasWitness Alternative r a bs c
-alt_witness r a bs c Absent e few h =
-    let p = place_of_some (plays_in r IsThere a) bs h in
-    record { witness = witness.Alt c 1 p.at 0; is = record { constraint = refl; valid = valid_alt c 1 p.at 0 (number bs c few) refl (place_fits p.at (length bs) p.within few.parts) refl; row = true_both (is_away r a) (at_part r IsThere a bs p.at) (ap says_absent e) p.passes } }
-alt_witness r a bs c Maybe e few h = elim (has_cases (two_parts r a bs) (some_part r Clashes a bs) h) [
-  | inl two ↦ alt_two r a bs c few two
-  | inr one ↦ alt_clash r a bs c few (here r a Maybe e refl) one
+alt_witness : (r : Region) (n : ℤ) (a : Itv) (bs : List Itv) (c : ℕ) (p : Presence) → (bounds_of r a).presence ≡ p → AreNumbered bs c → some_case (Alternative n) p r a bs ≡ true → HasWitness (Alternative n) r a bs c
+alt_witness r n a bs c Absent e few h = elim (has_cases (some_part r IsThere a bs) (is_crowded r n a bs) h) [
+  | inl one ↦ (let p = place_of_some (plays_in r IsThere a) bs one in
+      record { witness = witness.Alt c 1 p.at 0; is = record { constraint = refl; valid = valid_alt c 1 p.at 0 (number bs c few) refl (place_fits p.at (length bs) p.within few.parts) refl; row = true_both (is_away r a) (at_part r IsThere a bs p.at) (ap says_absent e) p.passes } })
+  | inr many ↦ alt_crowd r n a bs c few many
 ]
-alt_witness r a bs c Present e few h = elim (has_cases (two_parts r a bs || not (some_part r MayMatch a bs)) (some_part r Clashes a bs) h) [
-  | inl more ↦ elim (has_cases (two_parts r a bs) (not (some_part r MayMatch a bs)) more) [
-    | inl two ↦ alt_two r a bs c few two
-    | inr none ↦ record { witness = witness.Alt c 3 0 0; is = record { constraint = refl; valid = valid_alt c 3 0 0 (number bs c few) refl refl refl; row = true_both (is_there r a) (not (some_part r MayMatch a bs)) (ap says_present e) none } }
+alt_witness r n a bs c Maybe e few h = elim (has_cases (is_crowded r n a bs) (some_part r Clashes a bs) h) [
+  | inl many ↦ alt_crowd r n a bs c few many
+  | inr one ↦ alt_clash r n a bs c few (here r a Maybe e refl) one
+]
+alt_witness r n a bs c Present e few h = elim (has_cases (is_crowded r n a bs || is_short r n a bs) (some_part r Clashes a bs) h) [
+  | inl more ↦ elim (has_cases (is_crowded r n a bs) (is_short r n a bs) more) [
+    | inl many ↦ alt_crowd r n a bs c few many
+    | inr none ↦ record { witness = witness.Alt c 3 0 0; is = record { constraint = refl; valid = valid_alt c 3 0 0 (number bs c few) refl refl refl; row = true_both (is_there r a) (is_short r n a bs) (ap says_present e) none } }
   ]
-  | inr one ↦ alt_clash r a bs c few (here r a Present e refl) one
+  | inr one ↦ alt_clash r n a bs c few (here r a Present e refl) one
 ]
 
 sync_witness : (r : Region) (a : Itv) (bs : List Itv) (c : ℕ) (p : Presence) → (bounds_of r a).presence ≡ p → AreNumbered bs c → some_case Synchronize p r a bs ≡ true → HasWitness Synchronize r a bs c
@@ -376,5 +323,5 @@ sync_witness r a bs c Present e few h =
 -- where some row refutes, a witness of the constraint does
 pub witness_from : (kind : Kind) (r : Region) (a : Itv) (bs : List Itv) (c : ℕ) → AreNumbered bs c → some_refutes kind r a bs ≡ true → HasWitness kind r a bs c
 witness_from Span r a bs c few h = span_witness r a bs c (bounds_of r a).presence refl few h
-witness_from Alternative r a bs c few h = alt_witness r a bs c (bounds_of r a).presence refl few h
+witness_from (Alternative n) r a bs c few h = alt_witness r n a bs c (bounds_of r a).presence refl few h
 witness_from Synchronize r a bs c few h = sync_witness r a bs c (bounds_of r a).presence refl few h

@@ -1,12 +1,11 @@
 -- On a settled region where no witness of this crate refutes, spans, alternatives and synchronizations hold.
-use Rattle.std.specs.Prelude.{◌≡◌, ◌⊎◌, ℕ, ◌≤◌, ℤ, Bool, true, false, not, ◌&&◌, ◌||◌, if◌then◌else◌, List, [], ◌∷◌, length, map, Some, slice_get, nat_lt, int_le, int_lt}
+use Rattle.std.specs.Prelude.{◌≡◌, ◌⊎◌, ℕ, ◌≤◌, ℤ, pos, ◌≤ℤ◌, Bool, true, false, not, ◌&&◌, ◌||◌, if◌then◌else◌, List, length, map, Some, slice_get, int_le, int_lt}
 use Rattle.std.specs.Int.{int_max, int_min}
 use Rattle.std.specs.Ordering.{int_eq}
-use Rattle.std.specs.List.{list_any, list_all, count_by}
+use Rattle.std.specs.List.{list_any, list_all}
 use Rattle.std.proofs.Common.{inl, inr, refl, sym, ap, ◌∙◌, arith}
 use Rattle.std.proofs.lemmas.Int.{ints}
 use Rattle.std.proofs.lemmas.Bool.{true≢false, or_parts}
-use Rattle.std.proofs.lemmas.Bool.Decides.{nat_tests}
 use Rattle.sched_base.specs.declared.ids.Itv.{Itv}
 use Rattle.sched_model.specs.declared.types.Assignment.{Assignment}
 use Rattle.sched_model.specs.declared.types.Constraint.{Constraint}
@@ -15,7 +14,7 @@ use Rattle.sched_model.specs.Words.{◌implies◌, is_least, is_greatest, is_emp
 use Rattle.sched_model.specs.Data.{Data}
 use Rattle.sched_model.specs.Valid.{IsValid, is_itv, are_parts, are_distinct, is_constraint}
 use Rattle.sched_model.specs.Value.{is_present, start_of, end_of, present_of}
-use Rattle.sched_model.specs.Hierarchy.{stand_alike, spans, is_only, is_alternative, is_synchronized}
+use Rattle.sched_model.specs.Hierarchy.{stand_alike, spans, is_alternative, is_synchronized}
 use Rattle.sched_model.specs.Sentences.{holds}
 use Rattle.sched_model.specs.laws.Listed.{valid_at}
 use Rattle.region.specs.declared.types.Presence.{Presence}
@@ -27,14 +26,15 @@ use Rattle.refute_hier.specs.declared.parts.Role.TheVariants.{IsThere, StartsBef
 use Rattle.refute_hier.specs.declared.witness.HierWitness.{HierWitness}
 use Rattle.refute_hier.specs.declared.family.Kind.{Kind}
 use Rattle.refute_hier.specs.declared.family.Kind.TheVariants.{Span, Alternative, Synchronize}
-use Rattle.refute_hier.specs.Parts.{clash, plays_in, is_there, is_away, some_part}
+use Rattle.refute_hier.specs.Parts.{clash, plays_in, is_there, is_away, some_part, part_count}
+use Rattle.refute_hier.specs.Alt.{is_crowded, is_short}
 use Rattle.refute_hier.specs.Hier.{refutes}
-use Rattle.refute_hier.specs.code.Rows.{as_constraint, is_family, two_parts, some_case, some_refutes}
+use Rattle.refute_hier.specs.code.Rows.{as_constraint, is_family, some_case, some_refutes}
 use Rattle.region.specs.laws.Found.{never}
-use Rattle.refute_hier.specs.laws.Filtered.{any_made, all_made, all_but, kept_pass, kept_some, none_left, kept_count}
+use Rattle.refute_hier.specs.laws.Filtered.{any_made, all_made, all_but, kept_pass, kept_some, none_left, kept_count, counted_kept}
 use Rattle.refute_hier.specs.laws.Rows.{witness_from}
 use Rattle.refute_hier.specs.laws.Families.{witness_refutes}
-use Rattle.refute_hier.specs.laws.Parts.{is_one}
+use Rattle.refute_hier.specs.laws.Parts.{is_one, family_named}
 use Rattle.region.specs.laws.Pinned.{IsSettledTo, Pinned, pinned}
 use Rattle.sched_model.specs.laws.Words.{if_implied}
 use Rattle.base_laws.specs.laws.Items.{all_listed}
@@ -184,34 +184,37 @@ all_alike m r a x bs ok on none = kept_pass (λ b. is_itv m b && not (plays_in r
     unclashing r a x b (at m r a x bs x ok ok.whole) q on here (other_fails (is_there r b) (clash (bounds_of r x) (bounds_of r b)) (false_of _ two.1) (sym q.there ∙ here)))
     bs (all_but (is_itv m) (plays_in r Clashes x) bs ok.parts none)
 
-some_present : (m : Data) (r : Region) (a : Assignment) (x : Itv) (bs : List Itv) → AreSettled m r a x bs → some_part r MayMatch x bs ≡ true → list_any (λ b. true) (present_of a bs) ≡ true
-some_present m r a x bs ok some = kept_some (is_itv m) (plays_in r MayMatch x) (λ b. true) (is_present a)
-    (λ b is may. (is_here r a b (at m r a x bs b ok is) (both_true (not (is_away r b)) (not (clash (bounds_of r x) (bounds_of r b))) may).0, refl)) bs ok.parts some
+-- as many are present as are shown to be
+shown_count : (m : Data) (r : Region) (a : Assignment) (x : Itv) (bs : List Itv) → AreSettled m r a x bs → length (present_of a bs) ≡ part_count r IsThere x bs
+shown_count m r a x bs ok = kept_count (is_itv m) (plays_in r IsThere x) (is_present a) (λ b is. (at m r a x bs b ok is).there) bs ok.parts
 
-few : (k : ℕ) → nat_lt 1 k ≡ false → k ≤ 1
-few k h = grind (arith, nat_tests)
+-- and as may match, at least
+matched_count : (m : Data) (r : Region) (a : Assignment) (x : Itv) (bs : List Itv) → AreSettled m r a x bs → part_count r MayMatch x bs ≤ length (present_of a bs)
+matched_count m r a x bs ok = counted_kept (is_itv m) (plays_in r MayMatch x) (is_present a)
+    (λ b is may. is_here r a b (at m r a x bs b ok is) (both_true (not (is_away r b)) (not (clash (bounds_of r x) (bounds_of r b))) may).0) bs ok.parts
 
-at_most_one : (m : Data) (r : Region) (a : Assignment) (x : Itv) (bs : List Itv) → AreSettled m r a x bs → two_parts r x bs ≡ false → length (present_of a bs) ≤ 1
-at_most_one m r a x bs ok none =
-    let n = kept_count (is_itv m) (plays_in r IsThere x) (is_present a) (λ b is. (at m r a x bs b ok is).there) bs ok.parts in
-    let k = few (count_by (plays_in r IsThere x) bs) none in
-    omega (arith, n, k)
+exactly : (n : ℤ) (t m p : ℕ) → int_lt n (pos t) ≡ false → int_lt (pos m) n ≡ false → p ≡ t → m ≤ p → int_eq (pos p) n ≡ true
+exactly n t m p few many shown less = equal (pos p) n (omega (arith, ints, at_most n (pos t) few, shown)) (omega (arith, ints, at_most (pos m) n many, less))
+  where
+    at_most : (x y : ℤ) → int_lt x y ≡ false → y ≤ℤ x
+    at_most x y h = grind (arith, ints)
 
-the_only : (a : Assignment) (x : Itv) (bs : List Itv) → list_any (λ b. true) bs ≡ true → length bs ≤ 1 → list_all (λ b. stand_alike a b x) bs ≡ true → is_only a x bs ≡ true
-the_only a x [] some one all = never some
-the_only a x (b ∷ []) some one all = (both_true (stand_alike a b x) true all).0
-the_only a x (b ∷ c ∷ bs) some one all = absurd (omega (arith, one))
+    equal : (x y : ℤ) → x ≤ℤ y → y ≤ℤ x → int_eq x y ≡ true
+    equal x y h i = grind (arith, ints)
 
-alternative_holds : (m : Data) (r : Region) (a : Assignment) (x : Itv) (bs : List Itv) (p : Presence) → AreSettled m r a x bs → (bounds_of r x).presence ≡ p → some_case Alternative p r x bs ≡ false → is_alternative a x (present_of a bs) ≡ true
-alternative_holds m r a x bs Absent ok e none =
-    ap (λ b. if b then is_only a x (present_of a bs) else is_empty (present_of a bs)) (away r a x (at m r a x bs x ok ok.whole) e) ∙ none_present m r a x bs ok none
-alternative_holds m r a x bs Maybe ok e none = never_maybe r a x (at m r a x bs x ok ok.whole) e
-alternative_holds m r a x bs Present ok e none =
+alternative_holds : (m : Data) (r : Region) (a : Assignment) (n : ℤ) (x : Itv) (bs : List Itv) (p : Presence) → AreSettled m r a x bs → (bounds_of r x).presence ≡ p → some_case (Alternative n) p r x bs ≡ false → is_alternative a x n (present_of a bs) ≡ true
+alternative_holds m r a n x bs Absent ok e none =
+    ap (λ b. if b then int_eq (pos (length (present_of a bs))) n && list_all (λ y. stand_alike a y x) (present_of a bs) else is_empty (present_of a bs)) (away r a x (at m r a x bs x ok ok.whole) e)
+    ∙ none_present m r a x bs ok (or_parts (some_part r IsThere x bs) (is_crowded r n x bs) none).0
+alternative_holds m r a n x bs Maybe ok e none = never_maybe r a x (at m r a x bs x ok ok.whole) e
+alternative_holds m r a n x bs Present ok e none =
     let on = there r a x (at m r a x bs x ok ok.whole) e in
-    let two = or_parts (two_parts r x bs || not (some_part r MayMatch x bs)) (some_part r Clashes x bs) none in
-    let one = or_parts (two_parts r x bs) (not (some_part r MayMatch x bs)) two.0 in
-    ap (λ b. if b then is_only a x (present_of a bs) else is_empty (present_of a bs)) on
-    ∙ the_only a x (present_of a bs) (some_present m r a x bs ok (true_of (some_part r MayMatch x bs) one.1)) (at_most_one m r a x bs ok one.0) (all_alike m r a x bs ok on two.1)
+    let two = or_parts (is_crowded r n x bs || is_short r n x bs) (some_part r Clashes x bs) none in
+    let one = or_parts (is_crowded r n x bs) (is_short r n x bs) two.0 in
+    ap (λ b. if b then int_eq (pos (length (present_of a bs))) n && list_all (λ y. stand_alike a y x) (present_of a bs) else is_empty (present_of a bs)) on
+    ∙ true_both (int_eq (pos (length (present_of a bs))) n) (list_all (λ y. stand_alike a y x) (present_of a bs))
+    (exactly n (part_count r IsThere x bs) (part_count r MayMatch x bs) (length (present_of a bs)) one.0 one.1 (shown_count m r a x bs ok) (matched_count m r a x bs ok))
+    (all_alike m r a x bs ok on two.1)
 
 synchronize_holds : (m : Data) (r : Region) (a : Assignment) (x : Itv) (bs : List Itv) (p : Presence) → AreSettled m r a x bs → (bounds_of r x).presence ≡ p → some_case Synchronize p r x bs ≡ false → is_synchronized a x (present_of a bs) ≡ true
 synchronize_holds m r a x bs Absent ok e none = ap (λ b. b implies list_all (λ y. stand_alike a y x) (present_of a bs)) (away r a x (at m r a x bs x ok ok.whole) e)
@@ -221,14 +224,12 @@ synchronize_holds m r a x bs Present ok e none =
     ap (λ b. b implies list_all (λ y. stand_alike a y x) (present_of a bs)) on ∙ all_alike m r a x bs ok on none
 
 members : (m : Data) (kind : Kind) (x : Itv) (bs : List Itv) → is_constraint m (as_constraint kind x bs) ≡ true → (is_itv m x ≡ true) × (list_all (is_itv m) bs ≡ true)
-members m Span x bs h = let two = both_true (is_itv m x) (are_parts m bs) h in (two.0, (both_true (list_all (is_itv m) bs) (are_distinct bs) two.1).0)
-members m Alternative x bs h = let two = both_true (is_itv m x) (are_parts m bs) h in (two.0, (both_true (list_all (is_itv m) bs) (are_distinct bs) two.1).0)
-members m Synchronize x bs h = let two = both_true (is_itv m x) (are_parts m bs) h in (two.0, (both_true (list_all (is_itv m) bs) (are_distinct bs) two.1).0)
+members m kind x bs h = let two = both_true (is_itv m x) (are_parts m bs) (family_named m kind x bs h) in (two.0, (both_true (list_all (is_itv m) bs) (are_distinct bs) two.1).0)
 
 -- where no row refutes, the constraint holds
 rows_hold : (m : Data) (r : Region) (a : Assignment) (kind : Kind) (x : Itv) (bs : List Itv) → AreSettled m r a x bs → some_refutes kind r x bs ≡ false → holds m a (as_constraint kind x bs) ≡ true
 rows_hold m r a Span x bs ok none = span_holds m r a x bs (bounds_of r x).presence ok refl none
-rows_hold m r a Alternative x bs ok none = alternative_holds m r a x bs (bounds_of r x).presence ok refl none
+rows_hold m r a (Alternative n) x bs ok none = alternative_holds m r a n x bs (bounds_of r x).presence ok refl none
 rows_hold m r a Synchronize x bs ok none = synchronize_holds m r a x bs (bounds_of r x).presence ok refl none
 
 -- a witness that refutes the look
@@ -252,18 +253,9 @@ held_or_refuted m l a c kind x bs valid to is = by_case (some_refutes kind l.reg
 -- each constraint on an interval and its parts holds, or a witness refutes
 pub holds_or_refuted : (m : Data) (l : Seen) (a : Assignment) (c : ℕ) (d : Constraint) → IsValid m → IsSettledTo m l.region a → slice_get m.constraints c ≡ Some d → is_family d ≡ true → (holds m a d ≡ true) ⊎ HasRefuting m l
 holds_or_refuted m l a c (constraint.Span x bs) valid to is of = held_or_refuted m l a c Span x bs valid to is
-holds_or_refuted m l a c (constraint.Alternative x bs) valid to is of = held_or_refuted m l a c Alternative x bs valid to is
+holds_or_refuted m l a c (constraint.Alternative x bs n) valid to is of = held_or_refuted m l a c (Alternative n) x bs valid to is
 holds_or_refuted m l a c (constraint.Synchronize x bs) valid to is of = held_or_refuted m l a c Synchronize x bs valid to is
-holds_or_refuted m l a c (constraint.Temporal from to' equal x y z) valid to is of = never of
-holds_or_refuted m l a c (constraint.Logic e) valid to is of = never of
-holds_or_refuted m l a c (constraint.NoOverlap p matrix direct) valid to is of = never of
-holds_or_refuted m l a c (constraint.First p x) valid to is of = never of
-holds_or_refuted m l a c (constraint.Last p x) valid to is of = never of
-holds_or_refuted m l a c (constraint.Before p x y) valid to is of = never of
-holds_or_refuted m l a c (constraint.Prev p x y) valid to is of = never of
-holds_or_refuted m l a c (constraint.CumulIn f w lo hi) valid to is of = never of
-holds_or_refuted m l a c (constraint.AlwaysEqual g x v p q) valid to is of = never of
-holds_or_refuted m l a c (constraint.AlwaysNoState g x) valid to is of = never of
+holds_or_refuted m l a c other valid to is of = never of
 
 -- so where no witness refutes it holds
 pub unrefuted_holds : (m : Data) (l : Seen) (a : Assignment) (c : ℕ) (d : Constraint) → IsValid m → IsSettledTo m l.region a → ((w : HierWitness) → refutes m l w ≡ false) → slice_get m.constraints c ≡ Some d → is_family d ≡ true → holds m a d ≡ true

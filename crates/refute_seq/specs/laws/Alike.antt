@@ -82,15 +82,4 @@ pair_alike m l k c x y n h = at (slice_get m.constraints c) h
     at : (o : Option Constraint) → SameRead m l.region k.region a b o → passes (pair_of m l.region n a b) o ≡ passes (pair_of m k.region n a b) o
     at None h = refl
     at (Some (constraint.NoOverlap p matrix direct)) h = case_alike m l.region k.region n a b p matrix direct h
-    at (Some (constraint.Temporal from to equal u v z)) h = refl
-    at (Some (constraint.Logic e)) h = refl
-    at (Some (constraint.Span u parts)) h = refl
-    at (Some (constraint.Alternative u parts)) h = refl
-    at (Some (constraint.Synchronize u parts)) h = refl
-    at (Some (constraint.First p u)) h = refl
-    at (Some (constraint.Last p u)) h = refl
-    at (Some (constraint.Before p u v)) h = refl
-    at (Some (constraint.Prev p u v)) h = refl
-    at (Some (constraint.CumulIn f w lo hi)) h = refl
-    at (Some (constraint.AlwaysEqual g u v i j)) h = refl
-    at (Some (constraint.AlwaysNoState g u)) h = refl
+    at (Some other) h = refl

@@ -64,18 +64,7 @@ part_few m r p s u valid h part =
 row_found : (row : Seq → Bool) (o : Option Constraint) → passes (without_overlap row) o ≡ true → (p : Seq) × (row p ≡ true)
 row_found row (Some (constraint.NoOverlap p matrix direct)) h = (p, h)
 row_found row None h = cc
-row_found row (Some (constraint.Temporal from to equal x y z)) h = cc
-row_found row (Some (constraint.Logic e)) h = cc
-row_found row (Some (constraint.Span x parts)) h = cc
-row_found row (Some (constraint.Alternative x parts)) h = cc
-row_found row (Some (constraint.Synchronize x parts)) h = cc
-row_found row (Some (constraint.First p x)) h = cc
-row_found row (Some (constraint.Last p x)) h = cc
-row_found row (Some (constraint.Before p x y)) h = cc
-row_found row (Some (constraint.Prev p x y)) h = cc
-row_found row (Some (constraint.CumulIn k w lo hi)) h = cc
-row_found row (Some (constraint.AlwaysEqual k x v i j)) h = cc
-row_found row (Some (constraint.AlwaysNoState k x)) h = cc
+row_found row (Some other) h = cc
 
 row_holds : (m : Data) (l : Seen) (w : SeqWitness) → refutes m l w ≡ true → row_of m l w ≡ true
 row_holds m l w h = (both_true (is_valid w) (row_of m l w) h).1

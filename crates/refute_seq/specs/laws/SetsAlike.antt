@@ -98,18 +98,7 @@ SameMembers m r q _ = Unit {0}
 row_same : (m : Data) (r q : Region) (f g : Seq → Bool) (o : Option Constraint) → ((p : Seq) → SameTimes m r q p → f p ≡ g p) → SameMembers m r q o → passes (without_overlap f) o ≡ passes (without_overlap g) o
 row_same m r q f g None same h = refl
 row_same m r q f g (Some (constraint.NoOverlap p matrix direct)) same h = same p h
-row_same m r q f g (Some (constraint.Temporal from to equal x y z)) same h = refl
-row_same m r q f g (Some (constraint.Logic e)) same h = refl
-row_same m r q f g (Some (constraint.Span x parts)) same h = refl
-row_same m r q f g (Some (constraint.Alternative x parts)) same h = refl
-row_same m r q f g (Some (constraint.Synchronize x parts)) same h = refl
-row_same m r q f g (Some (constraint.First p x)) same h = refl
-row_same m r q f g (Some (constraint.Last p x)) same h = refl
-row_same m r q f g (Some (constraint.Before p x y)) same h = refl
-row_same m r q f g (Some (constraint.Prev p x y)) same h = refl
-row_same m r q f g (Some (constraint.CumulIn k w lo hi)) same h = refl
-row_same m r q f g (Some (constraint.AlwaysEqual k x v i j)) same h = refl
-row_same m r q f g (Some (constraint.AlwaysNoState k x)) same h = refl
+row_same m r q f g (Some other) same h = refl
 
 pub overload_alike : (m : Data) (l k : Seen) (c : ℕ) (s : List ℕ) → SameMembers m l.region k.region (slice_get m.constraints c) → overload_at m l c s ≡ overload_at m k c s
 overload_alike m l k c s h = row_same m l.region k.region _ _ (slice_get m.constraints c) (λ p same.

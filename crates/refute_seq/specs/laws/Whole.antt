@@ -11,7 +11,7 @@ use Rattle.sched_base.specs.declared.ids.Seq.{Seq}
 use Rattle.sched_model.specs.declared.types.SequenceDef.{SequenceDef}
 use Rattle.sched_model.specs.declared.types.Assignment.{Assignment}
 use Rattle.sched_model.specs.declared.types.Constraint.{Constraint}
-use Rattle.sched_model.specs.declared.types.Constraint.TheVariants.{Temporal, Logic, Span, Alternative, Synchronize, NoOverlap, First, Last, Before, Prev, CumulIn, AlwaysEqual, AlwaysNoState}
+use Rattle.sched_model.specs.declared.types.Constraint.TheVariants.{NoOverlap}
 use Rattle.sched_model.specs.Words.{◌implies◌, pairwise, placewise}
 use Rattle.sched_model.specs.Data.{Data, has, sequence_of}
 use Rattle.sched_model.specs.laws.Words.{if_implied}
@@ -60,15 +60,4 @@ all_unrefuted_hold m l a ok to is = all_listed (keeps_apart m a) m.constraints k
   where
     kept : (c : ℕ) (d : Constraint) → slice_get m.constraints c ≡ Some d → keeps_apart m a d ≡ true
     kept c (NoOverlap p matrix direct) here = unrefuted_holds m l a c p matrix direct ok.valid (settled_ordered m l a p ok to (orders_settled l.region a p is)) ok.none here
-    kept c (Temporal from to' equal x y z) here = refl
-    kept c (Logic e) here = refl
-    kept c (Span x parts) here = refl
-    kept c (Alternative x parts) here = refl
-    kept c (Synchronize x parts) here = refl
-    kept c (First p x) here = refl
-    kept c (Last p x) here = refl
-    kept c (Before p x y) here = refl
-    kept c (Prev p x y) here = refl
-    kept c (CumulIn f w lo hi) here = refl
-    kept c (AlwaysEqual g x v i j) here = refl
-    kept c (AlwaysNoState g x) here = refl
+    kept c other here = refl

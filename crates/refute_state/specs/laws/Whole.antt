@@ -16,7 +16,7 @@ use Rattle.sched_base.specs.declared.ids.Itv.{Itv}
 use Rattle.sched_base.specs.declared.ids.Stf.{Stf}
 use Rattle.sched_model.specs.declared.types.Assignment.{Assignment}
 use Rattle.sched_model.specs.declared.types.Constraint.{Constraint}
-use Rattle.sched_model.specs.declared.types.Constraint.TheVariants.{Temporal, Logic, Span, Alternative, Synchronize, NoOverlap, First, Last, Before, Prev, CumulIn, AlwaysEqual, AlwaysNoState}
+use Rattle.sched_model.specs.declared.types.Constraint.TheVariants.{AlwaysEqual, AlwaysNoState}
 use Rattle.sched_model.specs.declared.types.IntervalDef.{IntervalDef}
 use Rattle.sched_model.specs.declared.types.Slot.{Slot}
 use Rattle.sched_model.specs.declared.types.Slot.TheVariants.{Absent, Present}
@@ -481,14 +481,4 @@ all_unrefuted_hold m l a valid to is none = all_listed (keeps_state m a) m.const
     kept : (c : Constraint) → In m.constraints c → keeps_state m a c ≡ true
     kept (AlwaysEqual g x v i j) here = subst (λ b. holds m b (AlwaysEqual g x v i j) ≡ true) same (sentence_kept m a (AlwaysEqual g x v i j) valid (serve_each m l a valid to none) here refl)
     kept (AlwaysNoState g x) here = subst (λ b. holds m b (AlwaysNoState g x) ≡ true) same (sentence_kept m a (AlwaysNoState g x) valid (serve_each m l a valid to none) here refl)
-    kept (Temporal from to' equal x y z) here = refl
-    kept (Logic e) here = refl
-    kept (Span x parts) here = refl
-    kept (Alternative x parts) here = refl
-    kept (Synchronize x parts) here = refl
-    kept (NoOverlap p matrix direct) here = refl
-    kept (First p x) here = refl
-    kept (Last p x) here = refl
-    kept (Before p x y) here = refl
-    kept (Prev p x y) here = refl
-    kept (CumulIn f w lo hi) here = refl
+    kept other here = refl

@@ -7,7 +7,6 @@ use Rattle.sched_base.specs.declared.reading.ReadError.TheVariants.{Failed, NoMe
 use Rattle.sched_base.specs.State.{State, left_in}
 use Rattle.sched_base.specs.Calls.{Rose, Moved, Took, ReadsAtMost}
 use Rattle.textline.specs.Lines.{Bytes}
-use Rattle.logtext.specs.declared.entry.Entry.{Entry}
 use Rattle.logtext.specs.Entries.{line_limit}
 use Rattle.logtext.specs.Reading.{HasNoWholeLine, BeginsWithNone, IsLineAt}
 use Rattle.log_lines.specs.code.Pieces.{Fed, fed_more}

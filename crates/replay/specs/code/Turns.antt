@@ -69,7 +69,7 @@ abbrev pub Turns : {W S : Type 0} → Refuting W → (W → List ℤ) → (W →
 Turns {W} refutes numbers valid noted m version start now fed place (Ok Stepped) lines s t before after = (all : Bytes) × ReadsOn start now fed all place × ((to : ℕ) × (l : Line W) × IsLineAt numbers valid all place to (Step l) × (may_hold version l ≡ true) × (step (refutes_with refutes) m l s ≡ Ok t) × (after ≡ noted before l) × Holds lines all to)
 Turns refutes numbers valid noted m version start now fed place (Ok Ended) lines s t before after = (all : Bytes) × ReadsOn start now fed all place × ((to : ℕ) × IsLineAt numbers valid all place to Finish × (t ≡ s) × (after ≡ before) × Holds lines all to)
 Turns refutes numbers valid noted m version start now fed place (Ok Wrong) lines s t before after = (all : Bytes) × ReadsOn start now fed all place × IsWrong refutes numbers valid m version s (drop place all)
-Turns refutes numbers valid noted m version start now fed place (Ok Missing) lines s t before after = (all : Bytes) × ReadsOn start now fed all place × HasNoWholeLine (drop place all) × IsAtEnd now × (length all < log_limit)
+Turns refutes numbers valid noted m version start now fed place (Ok Missing) lines s t before after = (all : Bytes) × ReadsOn start now fed all place × HasNoWholeLine (drop place all) × IsAtEnd now × (length all < log_limit) × (t ≡ s) × (after ≡ before)
 Turns refutes numbers valid noted m version start now fed place (Ok Beyond) lines s t before after = (all : Bytes) × ReadsOn start now fed all place × HasNoWholeLine (drop place all) × (length all ≡ log_limit)
 Turns refutes numbers valid noted m version start now fed place (Err e) lines s t before after = Fails log_limit e start now
 

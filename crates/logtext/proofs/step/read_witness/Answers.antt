@@ -5,7 +5,7 @@ use Rattle.refute_seq.specs.Witness.{numbers_of as seq_numbers, is_valid as is_v
 use Rattle.refute_cumul.specs.Witness.{numbers_of as cumul_numbers, is_valid as is_valid_cumul}
 use Rattle.refute_state.specs.Witness.{numbers_of as state_numbers, is_valid as is_valid_state}
 use Rattle.logtext.specs.Spelling.{basic_kinds, hier_kinds, seq_kinds, cumul_kinds, state_kinds}
-use Rattle.logtext.proofs.Witnesses.{no_word, basic_fails, hier_fails, seq_fails, cumul_fails, state_fails, has_kind, behind_extra, other_word, never}
+use Rattle.logtext.proofs.Witnesses.{no_word, seq_fails, cumul_fails, state_fails, never}
 use Rattle.logtext.proofs.step.read_witness.Goals as goal
 
 pub returns-in_default : goal.returns-in_default

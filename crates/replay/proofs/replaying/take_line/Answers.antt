@@ -1,6 +1,6 @@
 use Rattle.std.proofs.Common.{◌≡◌, drop, Ok, Err, refl, sym, subst, rules}
 use Rattle.logtext.specs.declared.entry.Entry.TheVariants.{Head, Step, Finish}
-use Rattle.replay.specs.declared.reading.Found.TheVariants.{Wrong}
+use Rattle.replay.specs.declared.reading.Found.TheVariants.{Wrong, Missing}
 use Rattle.replay.specs.code.Pieces.{FindsLine}
 use Rattle.replay.specs.code.Turns.{Turns}
 use Rattle.replay.proofs.Spelt.{Spellings}
@@ -23,7 +23,9 @@ returns-in-Wrong-clause-turns g c = λ start fed place reading fits.
 
 pub returns-in-Missing-clause-turns : goal.returns-in-Missing-clause-turns
 returns-in-Missing-clause-turns g c = λ start fed place reading fits.
-    subst (λ f. FindsLine g.X.Witness.Numbers.numbers g.X.Witness.Numbers.is_valid start (g.D.Desk.state c.next_line.new.desk) fed place (Ok f) c.next_line.new.lines) c.in-Missing.is (c.in_ok-entry.ensures.finds start fed place reading fits)
+    let found : FindsLine g.X.Witness.Numbers.numbers g.X.Witness.Numbers.is_valid start (g.D.Desk.state c.next_line.new.desk) fed place (Ok Missing) c.next_line.new.lines =
+    subst (λ f. FindsLine g.X.Witness.Numbers.numbers g.X.Witness.Numbers.is_valid start (g.D.Desk.state c.next_line.new.desk) fed place (Ok f) c.next_line.new.lines) c.in-Missing.is (c.in_ok-entry.ensures.finds start fed place reading fits) in
+    (found.0, found.1, found.2, found.3, found.4, refl, refl)
 
 pub returns-in-Beyond-clause-turns : goal.returns-in-Beyond-clause-turns
 returns-in-Beyond-clause-turns g c = λ start fed place reading fits.

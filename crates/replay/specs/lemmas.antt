@@ -1,0 +1,2 @@
+pub mod LastSchedule
+pub mod Told
