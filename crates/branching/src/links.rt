@@ -15,7 +15,7 @@ pub struct Links {
 /// The master and the parts of an alternative.
 pub fn alternative(model: &Model, c: u32) -> Option<(Itv, &[Itv])> {
     match at(model.constraints(), c as usize)? {
-        Constraint::Alternative { a, parts } => Some((*a, parts.as_slice())),
+        Constraint::Alternative { a, parts, .. } => Some((*a, parts.as_slice())),
         _ => None,
     }
 }
@@ -63,7 +63,7 @@ impl Links {
 
     fn put_constraint(&mut self, model: &Model, c: u32) -> Result<(), NoMemory> {
         match at(model.constraints(), c as usize) {
-            Some(Constraint::Alternative { a, parts }) => {
+            Some(Constraint::Alternative { a, parts, .. }) => {
                 self.put_alternative(c, *a, parts.as_slice())
             }
             Some(Constraint::NoOverlap { p, .. }) => {

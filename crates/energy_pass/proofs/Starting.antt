@@ -112,16 +112,6 @@ less a b h = grind (arith, ints, h)
 less_true : (a b : ℤ) → a <ℤ b → int_lt a b ≡ true
 less_true a b h = grind (arith, ints, h)
 
--- before the first step, with one row more, and at the end
-pub summed_start : (rows : List Row) (c end : ℤ) (k : ℕ) → k ≡ length rows → Summed rows c end k (pos 0)
-summed_start rows c end k is = record {
-  within = omega (arith, is);
-  load = sym (at_drop_all (λ rs. load_by rs end) rows k (omega (arith, is)));
-  none = λ j low within. absurd (omega (arith, is, low, within));
-  low = omega (arith, ints);
-  high = omega (arith, ints);
-}
-
 sum_is : (rows : List Row) (c end : ℤ) (k : ℕ) (sum new : ℤ) → k + 1 ≤ length rows → Summed rows c end (k + 1) sum → new ≡ sum +ℤ energy_by end (row_at rows k) → new ≡ load_by (drop k rows) end
 sum_is rows c end k sum new within summed is = turned sum new _ _ is summed.load ∙ sym (at_drop_more (λ rs. load_by rs end) rows k no_row (omega (arith, within)))
   where

@@ -28,13 +28,6 @@ pub record Walked (rows : List Row) (ends : List End) (c : ℤ) (i : ℕ) (t : B
   pub on : (k : ℕ) → is_on t k ≡ is_among (take i ends) k
   pub quiet : IsQuiet rows c (is_among (take i ends))
 
-pub walk_start : (rows : List Row) (ends : List End) (c : ℤ) (t : Bars) → Fits t rows c → IsOff t → Walked rows ends c 0 t
-walk_start rows ends c t fits off = record {
-  fits = fits;
-  on = off;
-  quiet = λ end k ks once each. let none : false ≡ true = (each k (has_first k ks)).0 in cc;
-}
-
 among_more : (ends : List End) (i : ℕ) (e : End) (k : ℕ) → i < length ends → e ≡ get_or ends i no_end → is_among (take (i + 1) ends) k ≡ (is_among (take i ends) k || nat_eq e.place k)
 among_more ends i e k within is = ap (λ es. is_among es k) (take_more ends i no_end within) ∙ (any_push (λ x. nat_eq x.place k) (take i ends) (get_or ends i no_end) ∙ ap (λ (x : End). is_among (take i ends) k || nat_eq x.place k) (sym is))
 

@@ -25,22 +25,6 @@ below_push n k ks less all = All-append (λ j. j < n) ks (k ∷ []) all (one n k
     one n k less zero d within = less
     one n k less (suc i) d within = absurd (omega (arith, within))
 
-all_none : (n : ℕ) → All (λ j. j < n) []
-all_none n i d within = absurd (omega (arith, within))
-
--- an empty list at the end
-pub padded_none : (lists : List (List ℕ)) → IsPadded lists lists
-padded_none lists n = refl
-
-pub padded_more : (a b : List (List ℕ)) → IsPadded a b → IsPadded a (b ++ [] ∷ [])
-padded_more a b before n = at b n ∙ before n
-  where
-    at : (b : List (List ℕ)) (n : ℕ) → noted_at (b ++ [] ∷ []) n ≡ noted_at b n
-    at [] zero = refl
-    at [] (suc n) = refl
-    at (ks ∷ b) zero = refl
-    at (ks ∷ b) (suc n) = at b n
-
 -- a number noted in one list
 abbrev itself : ℕ → ℕ
 itself n = n
@@ -65,13 +49,6 @@ noted_push old lists new at k padded within is = record {
     elsewhere : (i : ℕ) → (i ≡ at → ⊥) → noted_at new i ≡ noted_at lists i
     elsewhere i other = ap (λ l. noted_at l i) is ∙ get_or-set_other lists at i (noted_at lists at ++ k ∷ []) [] other
 
-pub noted_none : {X : Type 0} (k : ℕ) (place : X → ℕ) (lists : List (List ℕ)) → Noted k place [] lists lists
-noted_none k place lists = record {
-  kept = λ i j h. h;
-  noted = λ i one. absurd (true≢false (sym one));
-  below = λ n less all. all;
-}
-
 next : (n : ℕ) → n + 1 ≡ suc n
 next n = omega arith
 
@@ -84,18 +61,6 @@ noted_more k place xs n x a b c before within is now = record {
   ];
   below = λ m less all. now.below m less (before.below m less all);
 }
-
--- before the first
-pub listed_none : (watching : ℕ → CellName → Bool) (watching_best : ℕ → Bool) → AreListed 0 watching watching_best (record { by_presence = []; by_bound = []; by_sequence = []; by_best = [] })
-listed_none watching watching_best = record {
-  cells = λ k c less. absurd (omega (arith, less));
-  best = λ k less. absurd (omega (arith, less));
-  below = record { by_presence = λ i. none i; by_bound = λ i. none i; by_sequence = λ i. none i; by_best = all_none 0 };
-}
-  where
-    none : (i : ℕ) → All (λ k. k < 0) (noted_at [] i)
-    none zero = all_none 0
-    none (suc i) = all_none 0
 
 below_more : (n : ℕ) (ks : List ℕ) → All (λ k. k < n) ks → All (λ k. k < n + 1) ks
 below_more n ks all i d within = omega (arith, all i d within)

@@ -14,9 +14,6 @@ pub record IsCalmed (n : ℕ) (quiet : ℕ → Type 0) (a b : Waking) : Type 0 w
   pub calm : IsCalm n quiet b
   pub lighter : weight b.levels < weight a.levels
 
-abbrev with_levels : Waking → List (List ℕ) → Waking
-with_levels a kss = record a { levels = kss }
-
 pub asleep : (n : ℕ) (quiet : ℕ → Type 0) (a b : Waking) (o : Option Turn) (t : Turn) → o ≡ first_turn a.levels → o ≡ Some t → b ≡ record a { levels = without_on_all t.k a.levels } → quiet t.k → IsCalm n quiet a → IsCalmed n quiet a b
 asleep n quiet a b o t first some is here calm = subst (IsCalmed n quiet a) (sym is) (record {
   below = refl;

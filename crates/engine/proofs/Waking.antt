@@ -22,15 +22,6 @@ use Rattle.base_laws.specs.laws.Truth.{fails_before}
 abbrev pub Unwatched : {P : Type 0} → Ghosts P → Type 0
 Unwatched p = (m : Data) (k : ℕ) (r q : Region) (b c : Option ℤ) → IsRegionOf m r → IsRegionOf m q → ((cell : CellName) → IsTrue (p.watching m k cell) → SameCell cell r q) → (IsTrue (p.watching_best m k) → b ≡ c) → p.quiet m k r b → p.quiet m k q c
 
--- the watchers of a cell are all below the bound, and the same under its other name
-pub below_of : (n : ℕ) (w : Watching) (c : CellName) → AreBelow n w → All (λ k. k < n) (watchers_of w c)
-below_of n w (Presence x) below = below.by_presence x.0
-below_of n w (StartMin x) below = below.by_bound x.0
-below_of n w (StartMax x) below = below.by_bound x.0
-below_of n w (EndMin x) below = below.by_bound x.0
-below_of n w (EndMax x) below = below.by_bound x.0
-below_of n w (Order p x y) below = below.by_sequence p.0
-
 turned_watchers : (w : Watching) (c : CellName) → watchers_of w (turned c) ≡ watchers_of w c
 turned_watchers w (Presence x) = refl
 turned_watchers w (StartMin x) = refl
@@ -39,22 +30,12 @@ turned_watchers w (EndMin x) = refl
 turned_watchers w (EndMax x) = refl
 turned_watchers w (Order p x y) = refl
 
--- other levels don't unmake an engine
-abbrev with_waking : {P : Type 0} → EngineValue P → Waking → EngineValue P
-with_waking e a = record e { waking = a }
-
-pub still_for : {P : Type 0} (p : Ghosts P) (m : Data) (old new : EngineValue P) → new ≡ record old { waking = new.waking } → new.waking.below ≡ old.waking.below → IsFor p m old → IsFor p m new
-still_for p m old new same below is = subst (IsFor p m) (sym same) (record { of = is.of; below = below ∙ is.below; cells = is.cells; best = is.best })
-
 -- nor do other notes of the propagators
 pub told_for : {P : Type 0} (p : Ghosts P) (m : Data) (old new : EngineValue P) → new ≡ record old { propagators = new.propagators } → ((d : Data) → p.is_of old.propagators d → p.is_of new.propagators d) → IsFor p m old → IsFor p m new
 told_for p m old new same kept is = subst (IsFor p m) (sym same) (record { of = kept m is.of; below = is.below; cells = is.cells; best = is.best })
 
 pub told_calm : {P : Type 0} (p : Ghosts P) (m : Data) (r : Region) (best : Option ℤ) (old new : EngineValue P) → new ≡ record old { propagators = new.propagators } → IsCalm p m r best old → IsCalm p m r best new
 told_calm p m r best old new same calm = subst (IsCalm p m r best) (sym same) calm
-
-pub all_awake : {P : Type 0} (p : Ghosts P) (m : Data) (old new : EngineValue P) → ((k : ℕ) → k < old.waking.below → IsTrue (is_awake new.waking k)) → IsFor p m old → AreAwake p m new
-all_awake p m old new all is k within = all k (subst (λ n. k < n) (sym is.below) within)
 
 -- who watches the cell that changed is awake
 pub calm_after : {P : Type 0} (p : Ghosts P) → Unwatched p → (cell : CellName) (old new : EngineValue P) → WakesEach (watchers_of old.watching cell) old.waking new.waking
@@ -65,17 +46,3 @@ calm_after p unwatched cell old new wakes m r q best is of also others calm k wi
   where
     awake : (c : CellName) → IsTrue (p.watching m k c) → watchers_of old.watching c ≡ watchers_of old.watching cell → ⊥
     awake c watched e = true≢false (sym (wakes.woken k (subst (λ ks. is_in k ks ≡ true) e (is.cells k c within watched))) ∙ asleep)
-
-pub calm_after_best : {P : Type 0} (p : Ghosts P) → Unwatched p → (old new : EngineValue P) → WakesEach old.watching.by_best old.waking new.waking
-    → (m : Data) (r : Region) (b c : Option ℤ) → IsFor p m old → IsRegionOf m r → IsCalm p m r b old → IsCalm p m r c new
-calm_after_best p unwatched old new wakes m r b c is of calm k within asleep =
-    unwatched m k r r b c of of (λ cell watched. same cell r) (λ watched. absurd (true≢false (sym (wakes.woken k (is.best k within watched)) ∙ asleep)))
-    (calm k within (fails_before (is_awake old.waking k) (is_awake new.waking k) (wakes.kept k) asleep))
-  where
-    same : (cell : CellName) (r : Region) → SameCell cell r r
-    same (Presence x) r = refl
-    same (StartMin x) r = refl
-    same (StartMax x) r = refl
-    same (EndMin x) r = refl
-    same (EndMax x) r = refl
-    same (Order p x y) r = refl

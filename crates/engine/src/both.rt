@@ -123,5 +123,13 @@ impl<A: Propagator, B: Propagator> Propagator for Both<A, B> {
         self.second.level(k - n)
     }
 
+    fn is_last(&self, k: u32) -> bool {
+        let n = self.split;
+        if k < n {
+            return self.first.is_last(k);
+        }
+        self.second.is_last(k - n)
+    }
+
     ghost unwatched = { λ m k r q b c of also cells best. unwatched_pair (nat_lt k (A.size m)) (A.watching m k) (B.watching m (k - A.size m)) (A.watching_best m k) (B.watching_best m (k - A.size m)) _ _ _ _ _ _ (A.unwatched m k r q b c of also) (B.unwatched m (k - A.size m) r q b c of also) cells best };
 }

@@ -85,6 +85,9 @@ pub trait Propagator: Drop {
     /// The level on which it is woken; nothing hangs on it.
     fn level(&self, k: u32) -> u8;
 
+    /// Whether it is asked behind all others once it can wait, since it costs most; nothing hangs on it.
+    fn is_last(&self, k: u32) -> bool;
+
     /// Quiet stays quiet where what is watched is the same.
     ghost unwatched: { (m : Data) (k : ℕ) (r q : Cells) (b c : Option ℤ) → IsRegionOf m r → IsRegionOf m q → ((cell : CellName) → IsTrue (watching m k cell) → SameCell cell r q) → (IsTrue (watching_best m k) → b ≡ c) → quiet m k r b → quiet m k q c };
 }

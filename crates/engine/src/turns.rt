@@ -1,5 +1,5 @@
 //! Whose turn it is, and what it finds.
-ghost use Rattle.std.specs.Prelude.{◌≡◌, ◌+◌, ◌<◌, false, ℕ, length, Some, IfOk, IfSome, IfNone};
+ghost use Rattle.std.specs.Prelude.{◌≡◌, ◌+◌, ◌<◌, ◌≤◌, false, ℕ, length, Some, IfOk, IfSome, IfNone};
 ghost use Rattle.region.specs.Looks.{IsRegionOf};
 ghost use Rattle.findings.specs.Found.{IsFinding};
 ghost use Rattle.wake_levels.specs.code.Waking.{is_awake, first_turn, without_on_all, woken_on};
@@ -30,10 +30,19 @@ fn put_off(levels: &mut WakeLevels, turn: Turn, late: usize)
     levels.wake(turn.k, late);
 }
 
+/// The level to which whoever can wait is put off: the last one, or that of what is late.
+fn level_behind(levels: &WakeLevels, is_last: bool, late: usize) -> usize
+    requires { late < length levels.now.levels }
+    ensures behind { late ≤ result }
+    ensures within { result < length levels.now.levels }
+{
+    if is_last { levels.levels() - 1 } else { late }
+}
+
 /// Asks those that are awake, the most urgent first, until one finds something; nothing once none is
 /// awake. Whoever finds nothing is put to sleep on every level; who can wait, or finds what is late, on
-/// all but the level `LATE`, where it is asked again, as on each behind it. Whoever found what is
-/// answered stays the first of its level.
+/// all but the level `LATE`, or the last one, where it is asked again, as on each behind it. Whoever found
+/// what is answered stays the first of its level.
 pub fn find<P: Propagator>(
     propagators: &mut P,
     levels: &mut WakeLevels,
@@ -57,7 +66,8 @@ pub fn find<P: Propagator>(
             return Ok(None);
         };
         if turn.level < late && propagators.can_wait(turn.k, model, region) {
-            put_off(levels, turn, late);
+            let behind = level_behind(levels, propagators.is_last(turn.k), late);
+            put_off(levels, turn, behind);
             continue;
         }
         let Some(f) = propagators.next(turn.k, model, region, best)? else {

@@ -10,6 +10,7 @@ mod likely;
 mod moves;
 mod reaching;
 mod searching;
+mod view;
 
 pub use asking::{ask, ask_by, ask_end, ask_likely, ask_reaching};
 pub use ends::{Ends, ends_at, ends_in};
@@ -17,3 +18,4 @@ pub use finding::{Finding, Pair};
 pub use likely::Likely;
 pub use moves::Moves;
 pub use reaching::Reaching;
+pub use view::View;

@@ -40,17 +40,6 @@ unrefuted_same p q r xs same none guess asked = sym (same guess) ∙ none guess 
 turned : (p q : Option Guess → Bool) → Same p q → Same q p
 turned p q same guess = sym (same guess)
 
-tight_same : (p q : Option Guess → Bool) (r : Region) (guess : Option Guess) → Same p q → passes_if_any (is_tight (λ h. p (Some h)) r) guess ≡ true → passes_if_any (is_tight (λ h. q (Some h)) r) guess ≡ true
-tight_same p q r None same h = refl
-tight_same p q r (Some g) same h = at (weaker r g) h
-  where
-    at : (o : Option Guess) → passes_if_any (λ h. not (p (Some h))) o ≡ true → passes_if_any (λ h. not (q (Some h))) o ≡ true
-    at None h = refl
-    at (Some k) h = ap not (sym (same (Some k))) ∙ h
-
-found_same : (p q : Option Guess → Bool) (r : Region) (guess : Option Guess) → Same p q → IsFound p r guess → IsFound q r guess
-found_same p q r guess same found = record { admitted = found.admitted; refuted = sym (same guess) ∙ found.refuted; tight = tight_same p q r guess same found.tight }
-
 -- EXPR and OBJ by what the expression misses
 abbrev pub row : Data → Region → Option ℤ → BasicWitness → Option Guess → Bool
 row m r best w guess = refutes m (seen_at r best guess) w

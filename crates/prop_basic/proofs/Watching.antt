@@ -3,7 +3,7 @@ use Rattle.std.specs.Prelude.{◌≡◌, ℕ, zero, suc, ◌+◌, ◌<◌, ◌�
 use Rattle.std.proofs.Common.{refl, sym, ap, subst, ◌∙◌, arith, get_or, take, drop}
 use Rattle.sched_base.specs.declared.ids.Itv.{Itv}
 use Rattle.sched_model.specs.declared.types.Constraint.{Constraint}
-use Rattle.sched_model.specs.declared.types.Constraint.TheVariants.{Temporal, Logic, Span, Alternative, Synchronize, NoOverlap, First, Last, Before, Prev, CumulIn, AlwaysEqual, AlwaysNoState}
+use Rattle.sched_model.specs.declared.types.Constraint.TheVariants.{Logic}
 use Rattle.sched_model.specs.declared.types.Objective.{Objective}
 use Rattle.sched_model.specs.Data.{Data, has}
 use Rattle.region.specs.declared.types.CellName.{CellName}
@@ -41,18 +41,7 @@ fit_logic : (o : Option Constraint) (t : Option Tree) → Fits (logic_of o) t �
 fit_logic None t fits x h = cc
 fit_logic (Some (Logic e)) (Some t) fits x h = fits.names x h
 fit_logic (Some (Logic e)) None fits x h = absurd fits
-fit_logic (Some (Temporal from to equal a b z)) t fits x h = cc
-fit_logic (Some (Span a parts)) t fits x h = cc
-fit_logic (Some (Alternative a parts)) t fits x h = cc
-fit_logic (Some (Synchronize a parts)) t fits x h = cc
-fit_logic (Some (NoOverlap p matrix direct)) t fits x h = cc
-fit_logic (Some (First p a)) t fits x h = cc
-fit_logic (Some (Last p a)) t fits x h = cc
-fit_logic (Some (Before p a b)) t fits x h = cc
-fit_logic (Some (Prev p a b)) t fits x h = cc
-fit_logic (Some (CumulIn f w lo hi)) t fits x h = cc
-fit_logic (Some (AlwaysEqual g a v i j)) t fits x h = cc
-fit_logic (Some (AlwaysNoState g a)) t fits x h = cc
+fit_logic (Some other) t fits x h = cc
 
 pub watched_objective : (m : Data) (t : Table) (k : ℕ) (xs : List Itv) (tree : Option Tree) → k ≡ 0 → xs ≡ names_in tree → tree ≡ t.objective → IsFor t m → (c : CellName) → watching m k c ≡ true → is_cell_of xs c ≡ true
 watched_objective m t k xs tree first is at for_it c h =

@@ -66,16 +66,6 @@ step_still i u h a to n is first = record {
       ∙ sym (ap (λ s. signed i.minus (height_at s a)) is);
 }
 
-pub rest_still : (i : Part) (a to : ℤ) → a <ℤ to → ((u v h : ℤ) → i.shape ≡ Pulse u v h → ⊥) → ((u h : ℤ) → i.shape ≡ Step u h → ⊥) → IsStillOf i a to to
-rest_still i a to some no_pulse no_step = record { later = some; within = omega (arith, ints); same = λ t since until. flat i.shape refl t }
-  where
-    flat : (s : Shape) → i.shape ≡ s → (t : ℤ) → signed i.minus (height_at i.shape t) ≡ signed i.minus (height_at i.shape a)
-    flat (Pulse u v h) is t = absurd (no_pulse u v h is)
-    flat (Step u h) is t = absurd (no_step u h is)
-    flat (PulseOf x h) is t = rw is refl
-    flat (StepAtStart x h) is t = rw is refl
-    flat (StepAtEnd x h) is t = rw is refl
-
 pub both_still : (r q : Region) (below : Bool) (i : Part) (a to m n : ℤ) → IsStillOf (bounded r below i) a to m → IsStillOf (bounded q below i) a m n → AreStill r q below i a to n
 both_still r q below i a to m n first second = record {
   later = second.later;
@@ -150,12 +140,6 @@ one_alone [] d one = absurd (omega (arith, one))
 one_alone (i ∷ []) d one = refl
 one_alone (i ∷ j ∷ is) d one = absurd (omega (arith, one))
 
-pub alone_raised : (ps : List Level) (r q : Region) (below : Bool) (is : List Part) (d : Part) (from to limit t : ℤ) → length is ≡ 1
-    → IsRaisedAbove ps (gain (bounded r below (get_or is 0 d)) (bounded q below (get_or is 0 d))) from to limit t → IsRaisedAbove ps (extra r q below is) from to limit t
-alone_raised ps r q below is d from to limit t one raised =
-    subst (λ l. IsRaisedAbove ps (extra r q below l) from to limit t) (one_alone is d one)
-    (raised.0, raised.1, subst (λ z. limit <ℤ (level_in ps t +ℤ z)) (alone r q below (get_or is 0 d) t) raised.2)
-
 pub alone_low : (ps : List Level) (r q : Region) (below : Bool) (is : List Part) (d : Part) (from to limit : ℤ) → length is ≡ 1
     → StaysLow ps (gain (bounded r below (get_or is 0 d)) (bounded q below (get_or is 0 d))) from to limit → StaysLow ps (extra r q below is) from to limit
 alone_low ps r q below is d from to limit one low =
@@ -166,12 +150,6 @@ alone_low ps r q below is d from to limit one low =
 pub record IsLowUntil (ps : List Level) (e : ℤ → ℤ) (from a limit : ℤ) : Type 0 where
   pub since : from ≤ℤ a
   pub low : (t : ℤ) → from ≤ℤ t → t <ℤ a → (level_in ps t +ℤ e t) ≤ℤ limit
-
-pub low_first : (ps : List Level) (e : ℤ → ℤ) (from limit : ℤ) → IsLowUntil ps e from from limit
-low_first ps e from limit = record { since = omega (arith, ints); low = λ t since until. absurd (never from t since until) }
-  where
-    never : (from t : ℤ) → from ≤ℤ t → t <ℤ from → ⊥
-    never from t h k = omega (arith, ints, h, k)
 
 pub low_more : (ps : List Level) (e : ℤ → ℤ) (from a to n limit added less : ℤ) → IsLowUntil ps e from a limit → IsStill e a to n → added ≡ e a → less ≡ limit -ℤ added → StaysBelow ps a n less
     → IsLowUntil ps e from n limit
@@ -195,9 +173,6 @@ low_more ps e from a to n limit plus less before still value is_less stays = rec
     by_case : (t : ℤ) → from ≤ℤ t → t <ℤ n → (b : Bool) → int_lt t a ≡ b → (level_in ps t +ℤ e t) ≤ℤ limit
     by_case t since until true is = before.low t since (earlier t a is)
     by_case t since until false is = under (level_in ps t) (e t) plus limit less (stays t (later t a is) until) (still.same t (later t a is) until ∙ sym value) is_less
-
-pub low_all : (ps : List Level) (e : ℤ → ℤ) (from to a limit : ℤ) → IsLowUntil ps e from a limit → to ≤ℤ a → StaysLow ps e from to limit
-low_all ps e from to a limit so_far past t since until = so_far.low t since (less_up t to a until past)
 
 pub raised : (ps : List Level) (e : ℤ → ℤ) (from a to n limit added less t : ℤ) → IsLowUntil ps e from a limit → IsStill e a to n → added ≡ e a → less ≡ limit -ℤ added → IsFirstAbove ps a n less t
     → IsRaisedAbove ps e from to limit t

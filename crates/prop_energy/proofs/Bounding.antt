@@ -67,18 +67,7 @@ of_bound m c (constraint.CumulIn f window.Always lo hi) b h =
     let two = taken (is_capacity hi (parts_of m f)) (record { c = c; f = f; hi = hi }) b h in record { f = f; lo = lo; hi = hi; is = refl; capacity = two.0; made = two.1 }
 of_bound m c (constraint.CumulIn f (window.Moments u v) lo hi) b h = cc
 of_bound m c (constraint.CumulIn f (window.During x) lo hi) b h = cc
-of_bound m c (constraint.NoOverlap p matrix direct) b h = cc
-of_bound m c (constraint.Temporal from to equal x y z) b h = cc
-of_bound m c (constraint.Logic e) b h = cc
-of_bound m c (constraint.Span x parts) b h = cc
-of_bound m c (constraint.Alternative x parts) b h = cc
-of_bound m c (constraint.Synchronize x parts) b h = cc
-of_bound m c (constraint.First p x) b h = cc
-of_bound m c (constraint.Last p x) b h = cc
-of_bound m c (constraint.Before p x y) b h = cc
-of_bound m c (constraint.Prev p x y) b h = cc
-of_bound m c (constraint.AlwaysEqual g x v i j) b h = cc
-of_bound m c (constraint.AlwaysNoState g x) b h = cc
+of_bound m c other b h = cc
 
 -- each constraint of which a set can be above its capacity has one
 pub has_bound : (m : Data) (c : ℕ) (r : Region) (s : List ℕ) (d : Constraint) → energy_of m r s d ≡ true → (b : Bound) × (bound_of m c d ≡ Some b)
@@ -86,18 +75,7 @@ has_bound m c r s (constraint.CumulIn f window.Always lo hi) h =
     (record { c = c; f = f; hi = hi }, ap (λ t. if t then Some (record { c = c; f = f; hi = hi }) else None) (and_parts (is_capacity hi (parts_of m f)) (overflows r (parts_of m f) hi s) h).0)
 has_bound m c r s (constraint.CumulIn f (window.Moments u v) lo hi) h = cc
 has_bound m c r s (constraint.CumulIn f (window.During x) lo hi) h = cc
-has_bound m c r s (constraint.NoOverlap p matrix direct) h = cc
-has_bound m c r s (constraint.Temporal from to equal x y z) h = cc
-has_bound m c r s (constraint.Logic e) h = cc
-has_bound m c r s (constraint.Span x parts) h = cc
-has_bound m c r s (constraint.Alternative x parts) h = cc
-has_bound m c r s (constraint.Synchronize x parts) h = cc
-has_bound m c r s (constraint.First p x) h = cc
-has_bound m c r s (constraint.Last p x) h = cc
-has_bound m c r s (constraint.Before p x y) h = cc
-has_bound m c r s (constraint.Prev p x y) h = cc
-has_bound m c r s (constraint.AlwaysEqual g x v i j) h = cc
-has_bound m c r s (constraint.AlwaysNoState g x) h = cc
+has_bound m c r s other h = cc
 
 -- a bound in the list is that of its constraint
 record IsFrom (m : Data) (c : ℕ) (ds : List Constraint) (b : Bound) : Type 0 where

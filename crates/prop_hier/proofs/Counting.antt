@@ -22,6 +22,7 @@ use Rattle.region.specs.laws.OneSequence.{same_is, same_turned, has_cases}
 use Rattle.refute_hier.specs.declared.parts.Role.{Role}
 use Rattle.refute_hier.specs.declared.parts.Role.TheVariants.{IsThere, StartsBefore, EndsAfter, Clashes, MayStart, MayEnd, MayMatch}
 use Rattle.refute_hier.specs.Parts.{plays, plays_in}
+use Rattle.refute_hier.specs.Alt.{is_crowded, is_short}
 use Rattle.region.specs.laws.Found.{never}
 use Rattle.refute_hier.specs.declared.family.Kind.{Kind}
 use Rattle.refute_hier.specs.declared.family.Kind.TheVariants.{Span, Alternative, Synchronize}
@@ -55,9 +56,9 @@ counts_tell : (kind : Kind) (p : Presence) (r : Region) (a : Itv) (bs : List Itv
 counts_tell Span Absent r a bs = some_counted (plays_in r IsThere a) bs
 counts_tell Span Present r a bs = rw (← some_counted (plays_in r MayStart a) bs, ← some_counted (plays_in r MayEnd a) bs, ← some_counted (plays_in r StartsBefore a) bs, ← some_counted (plays_in r EndsAfter a) bs) refl
 counts_tell Span Maybe r a bs = rw (← some_counted (plays_in r StartsBefore a) bs, ← some_counted (plays_in r EndsAfter a) bs) refl
-counts_tell Alternative Absent r a bs = some_counted (plays_in r IsThere a) bs
-counts_tell Alternative Present r a bs = rw (← some_counted (plays_in r MayMatch a) bs, ← some_counted (plays_in r Clashes a) bs) refl
-counts_tell Alternative Maybe r a bs = rw (← some_counted (plays_in r Clashes a) bs) refl
+counts_tell (Alternative n) Absent r a bs = ap (λ b. b || is_crowded r n a bs) (some_counted (plays_in r IsThere a) bs)
+counts_tell (Alternative n) Present r a bs = ap (λ b. is_crowded r n a bs || is_short r n a bs || b) (some_counted (plays_in r Clashes a) bs)
+counts_tell (Alternative n) Maybe r a bs = ap (λ b. is_crowded r n a bs || b) (some_counted (plays_in r Clashes a) bs)
 counts_tell Synchronize Absent r a bs = refl
 counts_tell Synchronize Present r a bs = some_counted (plays_in r Clashes a) bs
 counts_tell Synchronize Maybe r a bs = refl

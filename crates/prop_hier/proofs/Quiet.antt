@@ -1,5 +1,5 @@
 -- A part of which no guess is refuted.
-use Rattle.std.specs.Prelude.{◌≡◌, ℕ, ◌+◌, ◌-◌, ◌<◌, ℤ, ◌+ℤ◌, ◌-ℤ◌, ◌≤ℤ◌, Bool, true, false, not, ◌&&◌, ◌||◌, List, [], ◌∷◌, length, Some, None, nat_lt, int_le, int_lt}
+use Rattle.std.specs.Prelude.{◌≡◌, ℕ, ◌+◌, ◌-◌, ◌<◌, ℤ, pos, ◌+ℤ◌, ◌-ℤ◌, ◌≤ℤ◌, Bool, true, false, not, ◌&&◌, ◌||◌, List, [], ◌∷◌, length, Some, None, nat_lt, int_le, int_lt}
 use Rattle.std.specs.Int.{int_max, int_min}
 use Rattle.std.specs.Ordering.{int_eq}
 use Rattle.std.proofs.Common.{refl, sym, subst, arith}
@@ -33,10 +33,10 @@ use Rattle.refute_hier.specs.declared.family.Kind.{Kind}
 use Rattle.refute_hier.specs.declared.family.Kind.TheVariants.{Span, Alternative, Synchronize}
 use Rattle.refute_hier.specs.code.Rows.{some_refutes}
 use Rattle.prop_hier.specs.declared.counts.Counts.{Counts}
-use Rattle.prop_hier.specs.code.Counts.{one_if, counts_after, counts_refute}
+use Rattle.prop_hier.specs.code.Counts.{one_if, counts_after, is_above, is_below, counts_refute}
 use Rattle.prop_hier.specs.code.Ready.{IsReady}
 use Rattle.prop_hier.specs.code.Rows.{refutes_under}
-use Rattle.prop_hier.specs.code.Silent.{is_within, has_others, starts_match, ends_match, lasts, always_matches, has_another, is_silent}
+use Rattle.prop_hier.specs.code.Silent.{is_within, has_others, starts_match, ends_match, lasts, always_matches, leaves_room, has_another, is_silent}
 use Rattle.prop_hier.proofs.Counting.{part_told, plain_told}
 
 -- what a guess at the end of a cell leaves of a part
@@ -66,11 +66,19 @@ none_left m b true h off = absurd (true≢false off)
 none_left m true false h off = grind (arith, nat_tests, h)
 none_left m false false h off = grind (arith, nat_tests, h)
 
-one_left : (m : ℕ) (b d : Bool) → nat_lt 1 m ≡ false → (b || not (nat_lt 0 m)) ≡ true → nat_lt 1 ((m - one_if b) + one_if d) ≡ false
-one_left m true true few h = grind (arith, nat_tests, few)
-one_left m true false few h = grind (arith, nat_tests, few)
-one_left m false true few h = grind (arith, nat_tests, h)
-one_left m false false few h = grind (arith, nat_tests, few)
+-- no more than the count, where one that is counted, or has room, is present
+room_left : (k : ℤ) (m : ℕ) (b d : Bool) → int_lt k (pos m) ≡ false → ((b && nat_lt 0 m) || int_lt (pos m) k) ≡ true → int_lt k (pos ((m - one_if b) + one_if d)) ≡ false
+room_left k m true true few h = grind (arith, ints, nat_tests, few, h)
+room_left k m true false few h = grind (arith, ints, nat_tests, few)
+room_left k m false true few h = grind (arith, ints, nat_tests, h)
+room_left k m false false few h = grind (arith, ints, nat_tests, few)
+
+-- no fewer than the count, where there are more
+others_left : (k : ℤ) (m : ℕ) (b d : Bool) → int_lt k (pos m) ≡ true → int_lt (pos ((m - one_if b) + one_if d)) k ≡ false
+others_left k m true true h = grind (arith, ints, nat_tests, h)
+others_left k m true false h = grind (arith, ints, nat_tests, h)
+others_left k m false true h = grind (arith, ints, nat_tests, h)
+others_left k m false false h = grind (arith, ints, nat_tests, h)
 
 -- where each of some tests fails
 four_fail : (w x y z : Bool) → w ≡ true → x ≡ true → y ≡ false → z ≡ false → (not w || not x || y || z) ≡ false
@@ -79,12 +87,6 @@ four_fail true true true z e f g h = cc
 four_fail true true false true e f g h = cc
 four_fail true false y z e f g h = cc
 four_fail false x y z e f g h = cc
-
-three_fail : (w x y : Bool) → w ≡ false → x ≡ true → y ≡ false → (w || not x || y) ≡ false
-three_fail false true false e f g = refl
-three_fail false true true e f g = cc
-three_fail false false y e f g = cc
-three_fail true x y e f g = cc
 
 -- no guess on a part makes it clash with its interval
 record Fits (a c : Bounds) : Type 0 where
@@ -219,17 +221,19 @@ quiet_span Maybe k a c n e calm others within =
     or_from _ _ (none_left n.starts_before (plays StartsBefore a c) (plays StartsBefore a (guessed k c)) two.0 (never_before k a c e within))
     (none_left n.ends_after (plays EndsAfter a c) (plays EndsAfter a (guessed k c)) two.1 (never_after k a c e within))
 
-quiet_alternative : (p : Presence) (k : Claim) (a c : Bounds) (n : Counts) → is_end_at k c ≡ true → counts_refute Alternative p n ≡ false → has_another p c.presence n ≡ true → always_matches a c ≡ true → counts_refute Alternative p (counts_after Alternative a c (guessed k c) n) ≡ false
-quiet_alternative Absent k a c n e calm other all = cc
-quiet_alternative Present k a c n e calm other all =
-    let two = or_parts (nat_lt 1 n.there || not (nat_lt 0 n.may_match)) (nat_lt 0 n.clashes) calm in
-    let one = or_parts (nat_lt 1 n.there) (not (nat_lt 0 n.may_match)) two.0 in
-    let both = both_true (says_present c.presence || not (nat_lt 0 n.there)) (nat_lt 1 n.may_match) other in
-    three_fail _ _ _ (one_left n.there (plays IsThere a c) (plays IsThere a (guessed k c)) one.0 both.0) (more_left n.may_match (plays MayMatch a c) (plays MayMatch a (guessed k c)) both.1)
+quiet_alternative : (count : ℤ) (p : Presence) (k : Claim) (a c : Bounds) (n : Counts) → is_end_at k c ≡ true → counts_refute (Alternative count) p n ≡ false → has_another count p c.presence n ≡ true → always_matches a c ≡ true
+    → counts_refute (Alternative count) p (counts_after (Alternative count) a c (guessed k c) n) ≡ false
+quiet_alternative count Absent k a c n e calm other all = cc
+quiet_alternative count Present k a c n e calm other all =
+    let two = or_parts (is_above count n || is_below count n) (nat_lt 0 n.clashes) calm in
+    let one = or_parts (is_above count n) (is_below count n) two.0 in
+    let both = both_true (leaves_room count c.presence n) (int_lt count (pos n.may_match)) other in
+    or_from _ _
+    (or_from _ _ (room_left count n.there (plays IsThere a c) (plays IsThere a (guessed k c)) one.0 both.0) (others_left count n.may_match (plays MayMatch a c) (plays MayMatch a (guessed k c)) both.1))
     (none_left n.clashes (plays Clashes a c) (plays Clashes a (guessed k c)) two.1 (never_clash k a c e all))
-quiet_alternative Maybe k a c n e calm other all =
-    let two = or_parts (nat_lt 1 n.there) (nat_lt 0 n.clashes) calm in
-    or_from _ _ (one_left n.there (plays IsThere a c) (plays IsThere a (guessed k c)) two.0 other) (none_left n.clashes (plays Clashes a c) (plays Clashes a (guessed k c)) two.1 (never_clash k a c e all))
+quiet_alternative count Maybe k a c n e calm other all =
+    let two = or_parts (is_above count n) (nat_lt 0 n.clashes) calm in
+    or_from _ _ (room_left count n.there (plays IsThere a c) (plays IsThere a (guessed k c)) two.0 other) (none_left n.clashes (plays Clashes a c) (plays Clashes a (guessed k c)) two.1 (never_clash k a c e all))
 
 quiet_synchronize : (p : Presence) (k : Claim) (a c : Bounds) (n : Counts) → is_end_at k c ≡ true → counts_refute Synchronize p n ≡ false → always_matches a c ≡ true → counts_refute Synchronize p (counts_after Synchronize a c (guessed k c) n) ≡ false
 quiet_synchronize Absent k a c n e calm all = refl
@@ -238,7 +242,7 @@ quiet_synchronize Maybe k a c n e calm all = refl
 
 quiet_part : (kind : Kind) (k : Claim) (a c : Bounds) (n : Counts) → is_end_at k c ≡ true → counts_refute kind a.presence n ≡ false → is_silent kind a c n ≡ true → counts_refute kind a.presence (counts_after kind a c (guessed k c) n) ≡ false
 quiet_part Span k a c n e calm h = let two = both_true (has_others a.presence n) (is_within a (ends_of c)) h in quiet_span a.presence k a c n e calm two.0 two.1
-quiet_part Alternative k a c n e calm h = let two = both_true (has_another a.presence c.presence n) (always_matches a c) h in quiet_alternative a.presence k a c n e calm two.0 two.1
+quiet_part (Alternative count) k a c n e calm h = let two = both_true (has_another count a.presence c.presence n) (always_matches a c) h in quiet_alternative count a.presence k a c n e calm two.0 two.1
 quiet_part Synchronize k a c n e calm h = quiet_synchronize a.presence k a c n e calm h
 
 -- neither the region nor a guess on the part is refuted

@@ -2,7 +2,7 @@
 ghost use Rattle.std.specs.Prelude.{◌≡◌, ◌<◌, ◌^◌};
 ghost use Rattle.region.specs.Looks.{HasMoments};
 ghost use Rattle.refute_hier.specs.code.Rows.{some_refutes};
-ghost use Rattle.prop_hier.specs.code.Counts.{asks, counts_of, counted_with, counts_with, recounted, counts_after, counts_refute};
+ghost use Rattle.prop_hier.specs.code.Counts.{asks, counts_of, counted_with, counts_with, recounted, counts_after, is_above, is_below, counts_refute};
 ghost use Rattle.prop_hier.specs.code.Few.{AreFew, AreBelow};
 
 use refute_hier::{Family, Kind, Role, known, plays};
@@ -43,7 +43,7 @@ fn asks(kind: Kind, role: Role) -> bool
             Role::MayMatch => false,
             _ => true,
         },
-        Kind::Alternative => match role {
+        Kind::Alternative { count: _ } => match role {
             Role::IsThere => true,
             Role::Clashes => true,
             Role::MayMatch => true,
@@ -152,6 +152,20 @@ pub fn counts_after(kind: Kind, change: &Change, n: Counts) -> Counts
     }
 }
 
+/// Whether more parts are present than the count of an alternative.
+fn is_above(count: i64, n: Counts) -> bool
+    ensures { result ≡ is_above count n }
+{
+    i128::from(count) < n.there as i128
+}
+
+/// Whether fewer parts may match the interval of an alternative than its count.
+fn is_below(count: i64, n: Counts) -> bool
+    ensures { result ≡ is_below count n }
+{
+    (n.may_match as i128) < i128::from(count)
+}
+
 /// Whether some row refutes, by whether the interval is present.
 pub fn counts_refute(kind: Kind, presence: Presence, n: Counts) -> bool
     ensures { result ≡ counts_refute kind presence n }
@@ -164,10 +178,10 @@ pub fn counts_refute(kind: Kind, presence: Presence, n: Counts) -> bool
             }
             Presence::Maybe => n.starts_before > 0 || n.ends_after > 0,
         },
-        Kind::Alternative => match presence {
-            Presence::Absent => n.there > 0,
-            Presence::Present => n.there > 1 || n.may_match == 0 || n.clashes > 0,
-            Presence::Maybe => n.there > 1 || n.clashes > 0,
+        Kind::Alternative { count } => match presence {
+            Presence::Absent => n.there > 0 || is_above(count, n),
+            Presence::Present => is_above(count, n) || is_below(count, n) || n.clashes > 0,
+            Presence::Maybe => is_above(count, n) || n.clashes > 0,
         },
         Kind::Synchronize => match presence {
             Presence::Present => n.clashes > 0,

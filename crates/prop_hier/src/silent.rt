@@ -1,9 +1,9 @@
 //! Where no guess on a part is refuted, by a few comparisons.
-ghost use Rattle.std.specs.Prelude.{◌≡◌, ◌&&◌, ◌+ℤ◌, int_le};
+ghost use Rattle.std.specs.Prelude.{◌≡◌, ◌&&◌, ◌+ℤ◌, pos, int_le, int_lt};
 ghost use Rattle.findings.specs.code.Numbers.{ends_of};
 ghost use Rattle.region.specs.Cells.{bounds_of};
 ghost use Rattle.region.specs.Looks.{HasMoments, lst_in, ect_in};
-ghost use Rattle.prop_hier.specs.code.Silent.{is_within, has_others, starts_match, ends_match, lasts, always_matches, has_another, is_silent};
+ghost use Rattle.prop_hier.specs.code.Silent.{is_within, has_others, starts_match, ends_match, lasts, always_matches, leaves_room, has_another, is_silent};
 
 use crate::counts::Counts;
 use findings::{Ends, ends_at};
@@ -97,15 +97,35 @@ fn always_matches(a: Bounds, b: Bounds) -> bool
     starts_match(a, b) & ends_match(a, b) & lasts(b)
 }
 
-/// Whether another part may stand for their interval, and no other is present, whatever is guessed of one.
-fn has_another(presence: Presence, part: Presence, n: Counts) -> bool
-    ensures { result ≡ has_another presence part n }
+/// Whether so many are fewer than the count of an alternative.
+fn is_fewer(n: usize, count: i64) -> bool
+    ensures { result ≡ int_lt (pos n) count }
 {
-    let is_alone = part == Presence::Present || n.there == 0;
+    (n as i128) < i128::from(count)
+}
+
+/// Whether so many are more than the count of an alternative.
+fn is_more(n: usize, count: i64) -> bool
+    ensures { result ≡ int_lt count (pos n) }
+{
+    i128::from(count) < n as i128
+}
+
+/// Whether no more parts are present than the count, whatever is guessed of one.
+fn leaves_room(count: i64, part: Presence, n: Counts) -> bool
+    ensures { result ≡ leaves_room count part n }
+{
+    (part == Presence::Present && 0 < n.there) || is_fewer(n.there, count)
+}
+
+/// The same, and no fewer may match their interval.
+fn has_another(count: i64, presence: Presence, part: Presence, n: Counts) -> bool
+    ensures { result ≡ has_another count presence part n }
+{
     match presence {
         Presence::Absent => false,
-        Presence::Present => is_alone && 1 < n.may_match,
-        Presence::Maybe => is_alone,
+        Presence::Present => leaves_room(count, part, n) && is_more(n.may_match, count),
+        Presence::Maybe => leaves_room(count, part, n),
     }
 }
 
@@ -116,9 +136,9 @@ pub fn is_silent(look: &Look<'_>, kind: Kind, a: Bounds, x: Itv, n: Counts) -> b
 {
     match kind {
         Kind::Span => has_others(a.presence, n) && is_within(a, ends_at(look, x)),
-        Kind::Alternative => {
+        Kind::Alternative { count } => {
             let b = known(look, x);
-            has_another(a.presence, b.presence, n) && always_matches(a, b)
+            has_another(count, a.presence, b.presence, n) && always_matches(a, b)
         }
         Kind::Synchronize => always_matches(a, known(look, x)),
     }

@@ -47,7 +47,7 @@ fn intervals_of(
 {
     match constraint {
         Constraint::Span { a, parts } => joined(alloc, *a, parts.as_slice()),
-        Constraint::Alternative { a, parts } => joined(alloc, *a, parts.as_slice()),
+        Constraint::Alternative { a, parts, count: _ } => joined(alloc, *a, parts.as_slice()),
         Constraint::Synchronize { a, parts } => joined(alloc, *a, parts.as_slice()),
         Constraint::First { p, a: _ } => copied(alloc, members_of(model, *p)),
         Constraint::Last { p, a: _ } => copied(alloc, members_of(model, *p)),

@@ -44,9 +44,6 @@ none_more n ks h = record { size = length_push ks None ∙ ap (λ k. k + 1) h.si
     pushed (x ∷ xs) zero = refl
     pushed (x ∷ xs) (suc k) = pushed xs k
 
-pub none_at_first : (later : Bool) (members : List (List Itv)) (n k : ℕ) (ks : List (Option (List Numbers))) → k ≡ n → length members ≡ n → AreUnknown k ks → AreKnown later members ks
-none_at_first later members n k ks same size h = record { size = h.size ∙ same ∙ sym size; each = λ j low. subst (IfKnown later (get_or members j [])) (sym (h.each j)) tt }
-
 -- two lists of as many numbers, one after the other
 pub same_numbers : (a b : Numbers) → a.presence ≡ b.presence → a.est ≡ b.est → a.lct ≡ b.lct → a.lst ≡ b.lst → a.ect ≡ b.ect → a.p ≡ b.p → a ≡ b
 same_numbers a b h est lct lst ect p =

@@ -10,7 +10,7 @@ ghost use Rattle.prop_sets.specs.code.Busy.{IsBusy, IsNext, IsNextOf, name_at, i
 
 use crate::passes::{Behind, Cut};
 use crate::probe::{Hint, WORDS};
-use findings::{Finding, Likely, Reaching, ask, ask_end, ask_reaching};
+use findings::{Finding, Likely, Reaching, View, ask, ask_end, ask_reaching};
 use place_sets::PlaceSet;
 use refute_seq::{Few, OnSequence, SeqWitness};
 use region::Region;
@@ -145,22 +145,20 @@ pub fn answer_overload(
 /// What a set gives that a member must come behind, by how far the guess can likely be moved.
 pub fn answer_detect(
     alloc: Global,
-    model: &Model,
-    region: &Region,
-    best: Option<i64>,
+    view: &View<'_>,
     c: u32,
     back: bool,
     members: &[Itv],
     found: &Behind,
     far: u64,
 ) -> Result<Option<Finding<SeqWitness>>, NoMemory>
-    requires of { IsRegionOf model.now region.now.region }
-    requires busy { IsBusy model.now region.now.region best (member_at members.now found.now.place) (witness.Detect c (side_of back) (name_at members.now found.now.place) (ids_of members.now found.now.set.items (length model.now.intervals))) }
+    requires of { IsRegionOf view.now.model.now view.now.region.now.region }
+    requires busy { IsBusy view.now.model.now view.now.region.now.region view.now.best (member_at members.now found.now.place) (witness.Detect c (side_of back) (name_at members.now found.now.place) (ids_of members.now found.now.set.items (length view.now.model.now.intervals))) }
     ensures none { IfOk result (λ o. IfNone o ⊥) }
-    ensures some { IfOk result (λ o. IfSome o (IsFinding refutes model.now region.now.region best)) }
-    ensures busy { IfOk result (λ o. IfSome o (λ f. quiet false model.now c region.now.region best → ⊥)) }
+    ensures some { IfOk result (λ o. IfSome o (IsFinding refutes view.now.model.now view.now.region.now.region view.now.best)) }
+    ensures busy { IfOk result (λ o. IfSome o (λ f. quiet false view.now.model.now c view.now.region.now.region view.now.best → ⊥)) }
 {
-    let s = few_ids(alloc, model, members, &found.set)?;
+    let s = few_ids(alloc, view.model, members, &found.set)?;
     let i = member_at(members, found.place);
     let w = SeqWitness::Detect {
         c,
@@ -168,7 +166,16 @@ pub fn answer_detect(
         i: i.0,
         s,
     };
-    Ok(answer_reaching(model, region, best, c, i, far, likely_pushed(back, i), w))
+    Ok(answer_reaching(
+        view.model,
+        view.region,
+        view.best,
+        c,
+        i,
+        far,
+        likely_pushed(back, i),
+        w,
+    ))
 }
 
 /// The ids of the members that a hint names, in rising order.
@@ -251,22 +258,20 @@ pub fn answer_hinted(
 /// What a set gives that a member can't come behind all of.
 pub fn answer_not_end(
     alloc: Global,
-    model: &Model,
-    region: &Region,
-    best: Option<i64>,
+    view: &View<'_>,
     c: u32,
     back: bool,
     members: &[Itv],
     found: &Behind,
     far: u64,
 ) -> Result<Option<Finding<SeqWitness>>, NoMemory>
-    requires of { IsRegionOf model.now region.now.region }
-    requires busy { IsBusy model.now region.now.region best (member_at members.now found.now.place) (witness.NotEnd c (side_of back) (name_at members.now found.now.place) (ids_of members.now found.now.set.items (length model.now.intervals))) }
+    requires of { IsRegionOf view.now.model.now view.now.region.now.region }
+    requires busy { IsBusy view.now.model.now view.now.region.now.region view.now.best (member_at members.now found.now.place) (witness.NotEnd c (side_of back) (name_at members.now found.now.place) (ids_of members.now found.now.set.items (length view.now.model.now.intervals))) }
     ensures none { IfOk result (λ o. IfNone o ⊥) }
-    ensures some { IfOk result (λ o. IfSome o (IsFinding refutes model.now region.now.region best)) }
-    ensures busy { IfOk result (λ o. IfSome o (λ f. quiet true model.now c region.now.region best → ⊥)) }
+    ensures some { IfOk result (λ o. IfSome o (IsFinding refutes view.now.model.now view.now.region.now.region view.now.best)) }
+    ensures busy { IfOk result (λ o. IfSome o (λ f. quiet true view.now.model.now c view.now.region.now.region view.now.best → ⊥)) }
 {
-    let s = few_ids(alloc, model, members, &found.set)?;
+    let s = few_ids(alloc, view.model, members, &found.set)?;
     let i = member_at(members, found.place);
     let w = SeqWitness::NotEnd {
         c,
@@ -274,33 +279,49 @@ pub fn answer_not_end(
         i: i.0,
         s,
     };
-    Ok(answer_reaching(model, region, best, c, i, far, likely_pushed(!back, i), w))
+    Ok(answer_reaching(
+        view.model,
+        view.region,
+        view.best,
+        c,
+        i,
+        far,
+        likely_pushed(!back, i),
+        w,
+    ))
 }
 
 /// What a set gives that a member must come behind all of, by its parts.
 pub fn answer_edge(
     alloc: Global,
-    model: &Model,
-    region: &Region,
-    best: Option<i64>,
+    view: &View<'_>,
     c: u32,
     back: bool,
     members: &[Itv],
     found: &Cut,
     far: u64,
 ) -> Result<Option<Finding<SeqWitness>>, NoMemory>
-    requires of { IsRegionOf model.now region.now.region }
-    requires busy { IsBusy model.now region.now.region best (member_at members.now found.now.place) (witness.Edge c (side_of back) (name_at members.now found.now.place) (ids_of members.now found.now.s.items (length model.now.intervals)) (ids_of members.now found.now.u.items (length model.now.intervals)) (ids_of members.now found.now.v.items (length model.now.intervals))) }
+    requires of { IsRegionOf view.now.model.now view.now.region.now.region }
+    requires busy { IsBusy view.now.model.now view.now.region.now.region view.now.best (member_at members.now found.now.place) (witness.Edge c (side_of back) (name_at members.now found.now.place) (ids_of members.now found.now.s.items (length view.now.model.now.intervals)) (ids_of members.now found.now.u.items (length view.now.model.now.intervals)) (ids_of members.now found.now.v.items (length view.now.model.now.intervals))) }
     ensures none { IfOk result (λ o. IfNone o ⊥) }
-    ensures some { IfOk result (λ o. IfSome o (IsFinding refutes model.now region.now.region best)) }
-    ensures busy { IfOk result (λ o. IfSome o (λ f. quiet true model.now c region.now.region best → ⊥)) }
+    ensures some { IfOk result (λ o. IfSome o (IsFinding refutes view.now.model.now view.now.region.now.region view.now.best)) }
+    ensures busy { IfOk result (λ o. IfSome o (λ f. quiet true view.now.model.now c view.now.region.now.region view.now.best → ⊥)) }
 {
-    let s = few_ids(alloc, model, members, &found.s)?;
-    let u = few_ids(alloc, model, members, &found.u)?;
-    let v = few_ids(alloc, model, members, &found.v)?;
+    let s = few_ids(alloc, view.model, members, &found.s)?;
+    let u = few_ids(alloc, view.model, members, &found.u)?;
+    let v = few_ids(alloc, view.model, members, &found.v)?;
     let i = member_at(members, found.place);
     let w = SeqWitness::edge(alloc, c, side_of(back), i.0, s, u, v)?;
-    Ok(answer_reaching(model, region, best, c, i, far, likely_pushed(back, i), w))
+    Ok(answer_reaching(
+        view.model,
+        view.region,
+        view.best,
+        c,
+        i,
+        far,
+        likely_pushed(back, i),
+        w,
+    ))
 }
 
 /// The side of a row.

@@ -225,6 +225,23 @@ impl Ordered {
     }
 }
 
+/// Both orders of members: by one side and by the other.
+#[derive(Debug, Drop)]
+pub struct Orders {
+    pub first: Ordered,
+    pub second: Ordered,
+}
+
+impl Orders {
+    /// None of them.
+    pub fn new(alloc: Global) -> Orders {
+        Orders {
+            first: Ordered::new(alloc),
+            second: Ordered::new(alloc),
+        }
+    }
+}
+
 /// Puts the members in the order of their earliest starts on a side.
 #[tactic(auto, using(crate::proofs::Ordering::starts_low, crate::proofs::Ordering::in_start_order, crate::proofs::Ordering::by_start))]
 pub fn by_start(

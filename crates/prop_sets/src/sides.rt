@@ -20,7 +20,7 @@ use crate::numbers::rows_of;
 use crate::orders::Keyed;
 use crate::passes::{Behind, find_edge, find_late, find_overload};
 use crate::reaches::{end_reach, start_reach};
-use findings::Finding;
+use findings::{Finding, View};
 use refute_seq::SeqWitness;
 use region::Region;
 use sched_base::{Itv, NoMemory, Seq};
@@ -116,40 +116,28 @@ fn rows_for(
 #[tactic(auto, using(crate::proofs::Asking::busy_edge, crate::proofs::Asking::no_edge))]
 fn edge_of(
     alloc: Global,
-    model: &Model,
-    region: &Region,
-    best: Option<i64>,
+    view: &View<'_>,
     back: bool,
     asked: &Asked<'_>,
     rows: &[Row],
     keyed: &mut Vec<Keyed>,
     order: &mut Vec<u32>,
 ) -> Result<Option<Finding<SeqWitness>>, NoMemory>
-    requires is { IsOf model.now asked.now.c asked.now.p region.now.region asked.now.members.now }
-    requires rowed { IsRowed model.now asked.now.c asked.now.p region.now.region asked.now.members.now back true (not back) rows.now }
+    requires is { IsOf view.now.model.now asked.now.c asked.now.p view.now.region.now.region asked.now.members.now }
+    requires rowed { IsRowed view.now.model.now asked.now.c asked.now.p view.now.region.now.region asked.now.members.now back true (not back) rows.now }
     requires few { length rows.now ≤ 500 }
     requires near { (k : ℕ) → IsNearRow (row_at rows.now k) }
     requires sized { IsSized (times_at rows.now) }
     requires sorted { IsByEst rows.now }
     requires spanned { AreSpanned rows.now }
     requires overloads { NoOverloads rows.now }
-    ensures none { IfOk result (λ o. IfNone o (NoEdge (side_of back) region.now.region asked.now.members.now)) }
-    ensures some { IfOk result (λ o. IfSome o (IsFinding refutes model.now region.now.region best)) }
-    ensures busy { IfOk result (λ o. IfSome o (λ f. quiet true model.now asked.now.c region.now.region best → ⊥)) }
+    ensures none { IfOk result (λ o. IfNone o (NoEdge (side_of back) view.now.region.now.region asked.now.members.now)) }
+    ensures some { IfOk result (λ o. IfSome o (IsFinding refutes view.now.model.now view.now.region.now.region view.now.best)) }
+    ensures busy { IfOk result (λ o. IfSome o (λ f. quiet true view.now.model.now asked.now.c view.now.region.now.region view.now.best → ⊥)) }
 {
     if let Some(found) = find_edge(alloc, keyed, order, rows)? {
         let far = start_reach(rows, &found.v, found.place);
-        return answer_edge(
-            alloc,
-            model,
-            region,
-            best,
-            asked.c,
-            back,
-            asked.members,
-            &found,
-            far,
-        );
+        return answer_edge(alloc, view, asked.c, back, asked.members, &found, far);
     }
     Ok(None)
 }
@@ -178,7 +166,12 @@ fn ask_full_edges(
         return answer_overload(alloc, model, region, best, asked.c, asked.members, &found);
     }
     let (keyed, order) = (&mut spare.keyed, &mut spare.order);
-    edge_of(alloc, model, region, best, false, asked, rows, keyed, order)
+    let view = View {
+        model,
+        region,
+        best,
+    };
+    edge_of(alloc, &view, false, asked, rows, keyed, order)
 }
 
 /// EDGE on the other side, where nothing is found on the first: no set overloads on one side alone.
@@ -204,7 +197,12 @@ fn ask_edges(
 {
     rows_for(&mut spare.rows, model, region, second, true, true, false)?;
     let (rows, keyed, order) = (spare.rows.as_slice(), &mut spare.keyed, &mut spare.order);
-    edge_of(alloc, model, region, best, true, second, rows, keyed, order)
+    let view = View {
+        model,
+        region,
+        best,
+    };
+    edge_of(alloc, &view, true, second, rows, keyed, order)
 }
 
 /// What DETECT finds of a member that is late behind a set.
@@ -226,17 +224,12 @@ fn answer_late(
     ensures busy { IfOk result (λ o. IfSome o (λ f. quiet false model.now asked.now.c region.now.region best → ⊥)) }
 {
     let far = start_reach(rows, &found.set, found.place);
-    answer_detect(
-        alloc,
+    let view = View {
         model,
         region,
         best,
-        asked.c,
-        back,
-        asked.members,
-        found,
-        far,
-    )
+    };
+    answer_detect(alloc, &view, asked.c, back, asked.members, found, far)
 }
 
 /// DETECT, by the rows.
@@ -343,17 +336,12 @@ fn ask_not_ends(
     rows_for(rows, model, region, asked, back, false, back)?;
     if let Some(found) = find_late(alloc, rows)? {
         let far = end_reach(rows, &found.set, found.place);
-        return answer_not_end(
-            alloc,
+        let view = View {
             model,
             region,
             best,
-            asked.c,
-            back,
-            asked.members,
-            &found,
-            far,
-        );
+        };
+        return answer_not_end(alloc, &view, asked.c, back, asked.members, &found, far);
     }
     Ok(None)
 }

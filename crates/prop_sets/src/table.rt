@@ -15,11 +15,11 @@ ghost use Rattle.prop_sets.specs.code.Known.{IsStill, AreUnknown, AreNumbers};
 
 use crate::answering::answer_hinted;
 use crate::known::{Numbers, is_remembered, numbers_in, remember};
-use crate::orders::{Ordered, by_start};
+use crate::orders::{Orders, by_start};
 use crate::probe::{Hint, Told};
 use crate::probes::AnyProbe;
 use crate::sides::{Asked, Spare, ask_rest, ask_side};
-use findings::Finding;
+use findings::{Finding, View};
 use place_sets::MovedPlaces;
 use refute_seq::{SeqWitness, members_of};
 use region::Region;
@@ -41,8 +41,7 @@ pub struct PropSets {
     known: Vec<Option<List<Numbers>>>,
     /// Their numbers in this call, and memory that each call uses again.
     numbers: Vec<Numbers>,
-    first: Ordered,
-    second: Ordered,
+    orders: Orders,
     spare: Spare,
     /// What was told of each when it was asked whether it can wait, whom DETECT finds something of then,
     /// and which members have moved since. Nothing hangs on it.
@@ -138,18 +137,16 @@ fn probes_of(alloc: Global, members: &[List<Itv>]) -> Result<Vec<AnyProbe>, NoMe
 /// for it.
 fn ask_told(
     alloc: Global,
-    model: &Model,
-    region: &Region,
-    best: Option<i64>,
+    view: &View<'_>,
     later: bool,
     c: u32,
     members: &[Itv],
     hint: Option<Hint>,
     ids: &mut Vec<u32>,
 ) -> Result<Option<Finding<SeqWitness>>, NoMemory>
-    requires of { IsRegionOf model.now region.now.region }
-    ensures some { IfOk result (λ o. IfSome o (IsFinding refutes model.now region.now.region best)) }
-    ensures busy { IfOk result (λ o. IfSome o (λ f. quiet later model.now c region.now.region best → ⊥)) }
+    requires of { IsRegionOf view.now.model.now view.now.region.now.region }
+    ensures some { IfOk result (λ o. IfSome o (IsFinding refutes view.now.model.now view.now.region.now.region view.now.best)) }
+    ensures busy { IfOk result (λ o. IfSome o (λ f. quiet later view.now.model.now c view.now.region.now.region view.now.best → ⊥)) }
 {
     if later {
         return Ok(None);
@@ -157,7 +154,16 @@ fn ask_told(
     let Some(hint) = hint else {
         return Ok(None);
     };
-    answer_hinted(alloc, model, region, best, c, members, hint, ids)
+    answer_hinted(
+        alloc,
+        view.model,
+        view.region,
+        view.best,
+        c,
+        members,
+        hint,
+        ids,
+    )
 }
 
 /// What a round finds of the members of a sequence, whose numbers are given.
@@ -165,46 +171,60 @@ fn ask_told(
 #[tactic(auto, using(crate::proofs::Making::is_of))]
 fn ask_members(
     alloc: Global,
-    model: &Model,
-    region: &Region,
-    best: Option<i64>,
+    view: &View<'_>,
     later: bool,
     c: u32,
     p: Seq,
     numbers: &[Numbers],
-    xs: &mut Ordered,
-    ys: &mut Ordered,
+    orders: &mut Orders,
     spare: &mut Spare,
 ) -> Result<Option<Finding<SeqWitness>>, NoMemory>
-    requires of { IsRegionOf model.now region.now.region }
-    requires within { c < length model.now.constraints }
-    requires sequence { sequence_at model.now c ≡ Some p }
-    requires are { AreNumbers region.now.region (members_of model.now p) (length (members_of model.now p)) numbers.now }
-    ensures none { IfOk result (λ o. IfNone o (IsStill later region.now.region (members_of model.now p))) }
-    ensures some { IfOk result (λ o. IfSome o (IsFinding refutes model.now region.now.region best)) }
-    ensures busy { IfOk result (λ o. IfSome o (λ f. quiet later model.now c region.now.region best → ⊥)) }
+    requires of { IsRegionOf view.now.model.now view.now.region.now.region }
+    requires within { c < length view.now.model.now.constraints }
+    requires sequence { sequence_at view.now.model.now c ≡ Some p }
+    requires are { AreNumbers view.now.region.now.region (members_of view.now.model.now p) (length (members_of view.now.model.now p)) numbers.now }
+    ensures none { IfOk result (λ o. IfNone o (IsStill later view.now.region.now.region (members_of view.now.model.now p))) }
+    ensures some { IfOk result (λ o. IfSome o (IsFinding refutes view.now.model.now view.now.region.now.region view.now.best)) }
+    ensures busy { IfOk result (λ o. IfSome o (λ f. quiet later view.now.model.now c view.now.region.now.region view.now.best → ⊥)) }
 {
-    let members = few_members(model, p);
-    by_start(xs, region, members, numbers, false)?;
+    let members = few_members(view.model, p);
+    by_start(&mut orders.first, view.region, members, numbers, false)?;
     let first = Asked {
         c,
         p,
-        members: &xs.members,
-        places: &xs.places,
+        members: &orders.first.members,
+        places: &orders.first.places,
         numbers,
     };
-    if let Some(found) = ask_side(alloc, model, region, best, later, &first, spare)? {
+    if let Some(found) = ask_side(
+        alloc,
+        view.model,
+        view.region,
+        view.best,
+        later,
+        &first,
+        spare,
+    )? {
         return Ok(Some(found));
     }
-    by_start(ys, region, members, numbers, true)?;
+    by_start(&mut orders.second, view.region, members, numbers, true)?;
     let second = Asked {
         c,
         p,
-        members: &ys.members,
-        places: &ys.places,
+        members: &orders.second.members,
+        places: &orders.second.places,
         numbers,
     };
-    if let Some(found) = ask_rest(alloc, model, region, best, later, &first, &second, spare)? {
+    if let Some(found) = ask_rest(
+        alloc,
+        view.model,
+        view.region,
+        view.best,
+        later,
+        &first,
+        &second,
+        spare,
+    )? {
         return Ok(Some(found));
     }
     Ok(None)
@@ -232,8 +252,7 @@ impl PropSets {
             members,
             known,
             numbers: Vec::new(alloc),
-            first: Ordered::new(alloc),
-            second: Ordered::new(alloc),
+            orders: Orders::new(alloc),
             spare: Spare::new(alloc),
             probes,
             hints,
@@ -275,18 +294,20 @@ impl PropSets {
         let (alloc, later) = (self.alloc, self.later);
         let hint = hint_at(&self.hints, i);
         let ids = &mut self.spare.order;
-        if let Some(found) = ask_told(alloc, model, region, best, later, k, members, hint, ids)? {
+        let view = View {
+            model,
+            region,
+            best,
+        };
+        if let Some(found) = ask_told(alloc, &view, later, k, members, hint, ids)? {
             return Ok(Some(found));
         }
         numbers_in(region, members, &mut self.numbers)?;
         if is_remembered(&self.known[i], &self.numbers) {
             return Ok(None);
         }
-        let (xs, ys, spare) = (&mut self.first, &mut self.second, &mut self.spare);
-        let numbers = &self.numbers;
-        let Some(found) = ask_members(
-            alloc, model, region, best, later, k, p, numbers, xs, ys, spare,
-        )?
+        let (orders, spare) = (&mut self.orders, &mut self.spare);
+        let Some(found) = ask_members(alloc, &view, later, k, p, &self.numbers, orders, spare)?
         else {
             remember(self.alloc, &mut self.known, i, &mut self.numbers);
             return Ok(None);

@@ -17,7 +17,7 @@ use crate::demands::{NONE, Named, Noted, note_demands};
 use crate::known::{note_fresh, remember};
 use crate::pairs::ask_pairs;
 use crate::triples::ask_triples;
-use findings::Finding;
+use findings::{Finding, View};
 use refute_state::{StateWitness, demand_at, demands_of};
 use region::{Bounds, Region};
 use sched_base::{Itv, List, NoMemory};
@@ -143,9 +143,7 @@ fn ask_fresh<'a>(
 
 /// What they find of the demands of a state function.
 fn ask_demands(
-    model: &Model,
-    region: &Region,
-    best: Option<i64>,
+    view: &View<'_>,
     k: u32,
     known: &Option<List<Bounds>>,
     cs: &[u32],
@@ -153,18 +151,18 @@ fn ask_demands(
     fresh: &mut Vec<u32>,
     others: &mut Vec<Named>,
 ) -> Result<Option<Finding<StateWitness>>, NoMemory>
-    requires of { IsRegionOf model.now region.now.region }
-    requires known { IfKnown model.now k known.now }
-    requires demands { cs.now ≡ demands_of model.now k }
+    requires of { IsRegionOf view.now.model.now view.now.region.now.region }
+    requires known { IfKnown view.now.model.now k known.now }
+    requires demands { cs.now ≡ demands_of view.now.model.now k }
     requires room { length cs.now ≤ length notes.old }
     ensures same { length notes.new ≡ length notes.old }
-    ensures noted { IfOk result (λ o. AreAll model.now region.now.region k cs.now notes.new) }
-    ensures none { IfOk result (λ o. IfNone o (quiet model.now k region.now.region best)) }
-    ensures some { IfOk result (λ o. IfSome o (IsFinding refutes model.now region.now.region best)) }
-    ensures busy { IfOk result (λ o. IfSome o (λ f. quiet model.now k region.now.region best → ⊥)) }
+    ensures noted { IfOk result (λ o. AreAll view.now.model.now view.now.region.now.region k cs.now notes.new) }
+    ensures none { IfOk result (λ o. IfNone o (quiet view.now.model.now k view.now.region.now.region view.now.best)) }
+    ensures some { IfOk result (λ o. IfSome o (IsFinding refutes view.now.model.now view.now.region.now.region view.now.best)) }
+    ensures busy { IfOk result (λ o. IfSome o (λ f. quiet view.now.model.now k view.now.region.now.region view.now.best → ⊥)) }
 {
-    note_demands(model, region, k, cs, notes);
-    note_fresh(model, region, k, cs, notes, known, fresh, others)?;
+    note_demands(view.model, view.region, k, cs, notes);
+    note_fresh(view.model, view.region, k, cs, notes, known, fresh, others)?;
     let all = Noted { cs, notes };
     let changed = Noted {
         cs: fresh,
@@ -173,7 +171,7 @@ fn ask_demands(
     if changed.cs.is_empty() {
         return Ok(None);
     }
-    Ok(ask_fresh(model, region, best, k, &all, &changed))
+    Ok(ask_fresh(view.model, view.region, view.best, k, &all, &changed))
 }
 
 impl PropState {
@@ -225,8 +223,12 @@ impl PropState {
         let cs = self.demands[i].as_slice();
         let known = &self.known[i];
         let (notes, fresh, others) = (&mut self.notes, &mut self.fresh, &mut self.others);
-        let Some(found) = ask_demands(model, region, best, k, known, cs, notes, fresh, others)?
-        else {
+        let view = View {
+            model,
+            region,
+            best,
+        };
+        let Some(found) = ask_demands(&view, k, known, cs, notes, fresh, others)? else {
             let now = remember(self.alloc, region, &self.notes, cs.len())?;
             self.known[i] = Some(now);
             return Ok(None);

@@ -11,7 +11,7 @@ ghost use Rattle.prop_state.specs.code.Walks.{AreAll, AreNamed, EachOf, EachThre
 use crate::demands::{Named, Noted};
 use crate::parts::longest_of;
 use crate::silence::{may_refute_around, may_refute_triple};
-use findings::{Finding, ask};
+use findings::{Finding, View, ask};
 use refute_state::{OnState, StateWitness, same_state};
 use region::Region;
 use sched_model::Model;
@@ -111,9 +111,7 @@ fn ask_between(
 /// The same where the third may be of any state. Mostly
 /// the two stand so far apart that no compulsory part of this length reaches from one to the other.
 fn ask_around(
-    model: &Model,
-    region: &Region,
-    best: Option<i64>,
+    view: &View<'_>,
     k: u32,
     longest: i64,
     a: Named,
@@ -121,15 +119,15 @@ fn ask_around(
     cs: &[u32],
     notes: &[Named],
 ) -> Option<Finding<StateWitness>>
-    requires of { IsRegionOf model.now region.now.region }
-    requires first { IsOf model.now region.now.region k a }
-    requires third { IsOf model.now region.now.region k b }
-    requires covered { EachOf (IsCovered model.now region.now.region longest) cs.now }
+    requires of { IsRegionOf view.now.model.now view.now.region.now.region }
+    requires first { IsOf view.now.model.now view.now.region.now.region k a }
+    requires third { IsOf view.now.model.now view.now.region.now.region k b }
+    requires covered { EachOf (IsCovered view.now.model.now view.now.region.now.region longest) cs.now }
     requires room { length cs.now ≤ length notes.now }
-    requires noted { AreNamed model.now region.now.region k cs.now notes.now }
-    ensures none { IfNone result (SilentAround model.now region.now.region best k a.c cs.now b.c) }
-    ensures some { IfSome result (IsFinding refutes model.now region.now.region best) }
-    ensures busy { IfSome result (λ f. quiet model.now k region.now.region best → ⊥) }
+    requires noted { AreNamed view.now.model.now view.now.region.now.region k cs.now notes.now }
+    ensures none { IfNone result (SilentAround view.now.model.now view.now.region.now.region view.now.best k a.c cs.now b.c) }
+    ensures some { IfSome result (IsFinding refutes view.now.model.now view.now.region.now.region view.now.best) }
+    ensures busy { IfSome result (λ f. quiet view.now.model.now k view.now.region.now.region view.now.best → ⊥) }
 {
     if a.c == b.c {
         return None;
@@ -137,10 +135,10 @@ fn ask_around(
     if !same_state(a.demand.state, b.demand.state) {
         return None;
     }
-    if !may_refute_around(model, longest, a, b) {
+    if !may_refute_around(view.model, longest, a, b) {
         return None;
     }
-    ask_between(model, region, best, k, a, b, cs, notes)
+    ask_between(view.model, view.region, view.best, k, a, b, cs, notes)
 }
 
 /// What is found of a demand and two others.
@@ -163,19 +161,14 @@ fn ask_row(
     ensures some { IfSome result (IsFinding refutes model.now region.now.region best) }
     ensures busy { IfSome result (λ f. quiet model.now k region.now.region best → ⊥) }
 {
+    let view = View {
+        model,
+        region,
+        best,
+    };
     for i in 0..last.cs.len() {
         let b = last.notes[i];
-        if let Some(found) = ask_around(
-            model,
-            region,
-            best,
-            k,
-            longest,
-            a,
-            b,
-            between.cs,
-            between.notes,
-        ) {
+        if let Some(found) = ask_around(&view, k, longest, a, b, between.cs, between.notes) {
             return Some(found);
         }
     }

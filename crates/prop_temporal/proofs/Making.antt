@@ -142,23 +142,3 @@ disjunctive_all cs n ps past so_far = subst (λ ds. AreDisjunctive ds ps) (take_
 or_none : (b : Bool) → b ≡ (b || false)
 or_none true = refl
 or_none false = refl
-
-pub noted_there : (ps : List Seq) (q p : Seq) → has_sequence ps q ≡ true → has_sequence ps p ≡ (has_sequence ps p || nat_eq p.0 q.0)
-noted_there ps q p there = by_case (nat_eq p.0 q.0) refl
-  where
-    same : (i j : ℕ) → nat_eq i j ≡ true → i ≡ j
-    same i j h = grind (arith, nat_tests)
-
-    absorbed : (b : Bool) → b ≡ true → b ≡ (b || true)
-    absorbed true h = refl
-    absorbed false h = cc
-
-    by_case : (b : Bool) → nat_eq p.0 q.0 ≡ b → has_sequence ps p ≡ (has_sequence ps p || b)
-    by_case true is = absorbed (has_sequence ps p) (ap (λ n. list_any (λ z. nat_eq n z.0) ps) (same p.0 q.0 is) ∙ there)
-    by_case false is = or_none (has_sequence ps p)
-
-pub noted_last : (ps : List Seq) (q p : Seq) → has_sequence (ps ++ q ∷ []) p ≡ (has_sequence ps p || nat_eq p.0 q.0)
-noted_last ps q p = list_any-append (λ z. nat_eq p.0 z.0) ps (q ∷ []) ∙ ap (λ b. has_sequence ps p || b) (sym (or_none (nat_eq p.0 q.0)))
-
-pub noted_none : (ps : List Seq) (p : Seq) → has_sequence ps p ≡ (has_sequence ps p || false)
-noted_none ps p = or_none (has_sequence ps p)

@@ -21,10 +21,6 @@ presences_watched m t k xs first is for_it x = ap (λ i. watching m i (cell.Pres
 pub orders_watched : (m : Data) (t : Table) (k : ℕ) (ps : List Seq) → k ≡ 0 → ps ≡ t.sequences → IsFor t m → (p : Seq) (x y : Itv) → watching m k (cell.Order p x y) ≡ has_sequence ps p
 orders_watched m t k ps first is for_it p x y = ap (λ i. watching m i (cell.Order p x y)) first ∙ sym (ap (λ qs. has_sequence qs p) is ∙ for_it.sequences.each p)
 
-pub no_orders_watched : (m : Data) (k : ℕ) → (k ≡ 0 → ⊥) → (p : Seq) (x y : Itv) → watching m k (cell.Order p x y) ≡ has_sequence [] p
-no_orders_watched m zero other p x y = absurd (other refl)
-no_orders_watched m (suc k) other p x y = refl
-
 no_bounds : (m : Data) (c : CellName) → is_bound c ≡ true → is_of_walks m c ≡ is_cell_of [] c
 no_bounds m (cell.Presence x) h = absurd (true≢false (sym h))
 no_bounds m (cell.StartMin x) h = refl

@@ -385,4 +385,10 @@ impl PropTemporal {
     pub fn level(&self, k: u32) -> u8 {
         if k == 0 && self.narrow { u8::MAX } else { 0 }
     }
+
+    /// Whether it is asked behind all others once it can wait: so are walks, which take all orders that are
+    /// known.
+    pub fn is_last(&self, k: u32) -> bool {
+        k == 0
+    }
 }

@@ -40,9 +40,6 @@ busy_pair m r best d a b k is busy still = busy (pair_silent m d.c a.0 b.0 k r b
 pub silent_same : (m : Data) (r : Region) (best : Option ℤ) (d : Disjunctive) (o : OrderCell) (a b : Itv) → IsDisjunctive m d → a.0 ≡ b.0 → AreSilentWhere m r best d o a b
 silent_same m r best d o a b is same told = silent_itself m r best d a b is (ap (λ n. record { 0 = n }) same)
 
-pub silent_other : (m : Data) (r : Region) (best : Option ℤ) (d : Disjunctive) (o : OrderCell) (a b : Itv) → (order_in (cells_of r d.p) a b ≡ o → ⊥) → AreSilentWhere m r best d o a b
-silent_other m r best d o a b other told = absurd (other told)
-
 pub silent_told : (m : Data) (r : Region) (best : Option ℤ) (d : Disjunctive) (a b : Itv) → AreSilent m r best d a b → AreSilentWhere m r best d Forward a b
 silent_told m r best d a b silent told = silent
 

@@ -1,5 +1,5 @@
 -- The lists of a table name what is watched.
-use Rattle.std.specs.Prelude.{◌≡◌, ℕ, ◌-◌, ◌<◌, ◌≤◌, Bool, true, false, List, [], length, slice_get, Option, Some, None, IsTrue, nat_eq, nat_lt, if◌then◌else◌}
+use Rattle.std.specs.Prelude.{◌≡◌, ℕ, ◌-◌, ◌<◌, ◌≤◌, Bool, true, false, List, length, slice_get, Option, Some, None, IsTrue, nat_eq, nat_lt, if◌then◌else◌}
 use Rattle.std.specs.List.{list_any}
 use Rattle.std.proofs.Common.{inl, inr, sym, subst, arith}
 use Rattle.std.proofs.lemmas.Bool.{or_left}
@@ -47,14 +47,6 @@ pair_bound m (Some q) (cell.EndMax x) b h = h
 pair_bound m (Some q) (cell.Presence x) b h = cc
 pair_bound m (Some q) (cell.Order p x y) b h = cc
 
-triple_bound : {Z : Type 0} (m : Data) (p : Seq) (c : CellName) → is_bound c ≡ true → reads_cell (reads_triple m p) c ≡ true → Z
-triple_bound m p (cell.StartMin x) b h = cc
-triple_bound m p (cell.StartMax x) b h = cc
-triple_bound m p (cell.EndMin x) b h = cc
-triple_bound m p (cell.EndMax x) b h = cc
-triple_bound m p (cell.Presence x) b h = cc
-triple_bound m p (cell.Order q x y) b h = cc
-
 is_below : (i n : ℕ) → i < n → nat_lt i n ≡ true
 is_below i n h = grind (arith, nat_tests)
 
@@ -68,13 +60,6 @@ bound_watched m k xs within is c b h = subst (λ ys. is_bound_of ys c ≡ true) 
         → is_bound_of (members_in m (if t then sequence_in (slice_get m.constraints k) else Some (record { 0 = k - length m.constraints }))) c ≡ true
     at true e h = pair_bound m (sequence_in (slice_get m.constraints k)) c b h
     at false e h = cc
-
-pub no_bound_watched : (m : Data) (k : ℕ) → length m.constraints ≤ k → (c : CellName) → is_bound c ≡ true → IsTrue (watching m k c) → IsTrue (is_bound_of [] c)
-no_bound_watched m k past c b h = at (nat_lt k (length m.constraints)) (not_below k (length m.constraints) past) h
-  where
-    at : (t : Bool) → t ≡ false → reads_cell (if t then reads_pair m (sequence_in (slice_get m.constraints k)) else reads_triple m (record { 0 = k - length m.constraints })) c ≡ true → is_bound_of [] c ≡ true
-    at true e h = cc
-    at false e h = triple_bound m (record { 0 = k - length m.constraints }) c b h
 
 abbrev has_number : List Seq → Seq → Bool
 has_number ps p = list_any (λ q. nat_eq p.0 q.0) ps

@@ -17,7 +17,7 @@ use crate::keys::Keys;
 use crate::pairs::{ask_forward, is_told};
 use crate::places::{first_bit, with_bit, without_bit};
 use crate::silence::{Task, are_surely_silent, no_reach};
-use findings::Finding;
+use findings::{Finding, View};
 use refute_seq::SeqWitness;
 use region::Region;
 use sched_base::Itv;
@@ -84,9 +84,7 @@ fn ask_heard(
 
 /// What is found of a member and those at some places that it is told to stand before.
 pub fn ask_heard_row(
-    model: &Model,
-    region: &Region,
-    best: Option<i64>,
+    view: &View<'_>,
     d: &Disjunctive,
     first: Task,
     members: &[Itv],
@@ -94,17 +92,17 @@ pub fn ask_heard_row(
     heard: u64,
     is_open: &mut bool,
 ) -> Option<Finding<SeqWitness>>
-    requires of { IsRegionOf model.now region.now.region }
-    requires is { IsDisjunctive model.now d.now }
-    requires first { IsKeyed (ends_of (bounds_of region.now.region first.member)) first.keys }
+    requires of { IsRegionOf view.now.model.now view.now.region.now.region }
+    requires is { IsDisjunctive view.now.model.now d.now }
+    requires first { IsKeyed (ends_of (bounds_of view.now.region.now.region first.member)) first.keys }
     requires near { is_none d.now.matrix ≡ true }
     requires room { length members.now ≤ length keys.now }
-    requires keys { AreKeyed region.now.region members.now keys.now }
-    requires heard { AreHeard model.now region.now.region d.now first.member members.now (length members.now) heard }
-    ensures none { IfNone result (EachOf (AreSilentWhere model.now region.now.region best d.now order.Forward first.member) members.now) }
-    ensures free { IfNone result (is_open.new ≡ false → (is_open.old ≡ false) × EachOf (AreSilentWhere model.now region.now.region best d.now order.Unknown first.member) members.now) }
-    ensures some { IfSome result (IsFinding refutes model.now region.now.region best) }
-    ensures busy { IfSome result (λ f. quiet model.now d.now.c region.now.region best → ⊥) }
+    requires keys { AreKeyed view.now.region.now.region members.now keys.now }
+    requires heard { AreHeard view.now.model.now view.now.region.now.region d.now first.member members.now (length members.now) heard }
+    ensures none { IfNone result (EachOf (AreSilentWhere view.now.model.now view.now.region.now.region view.now.best d.now order.Forward first.member) members.now) }
+    ensures free { IfNone result (is_open.new ≡ false → (is_open.old ≡ false) × EachOf (AreSilentWhere view.now.model.now view.now.region.now.region view.now.best d.now order.Unknown first.member) members.now) }
+    ensures some { IfSome result (IsFinding refutes view.now.model.now view.now.region.now.region view.now.best) }
+    ensures busy { IfSome result (λ f. quiet view.now.model.now d.now.c view.now.region.now.region view.now.best → ⊥) }
 {
     let mut left = heard;
     while left != 0 {
@@ -113,7 +111,15 @@ pub fn ask_heard_row(
             member: members[k],
             keys: keys[k],
         };
-        if let Some(found) = ask_heard(model, region, best, d, first, second, is_open) {
+        if let Some(found) = ask_heard(
+            view.model,
+            view.region,
+            view.best,
+            d,
+            first,
+            second,
+            is_open,
+        ) {
             return Some(found);
         }
         left = without_bit(left, k);

@@ -21,7 +21,7 @@ use crate::likely::likely_told;
 use crate::places::BITS;
 use crate::silence::{Task, are_surely_silent, distance, is_surely_silent, no_reach};
 use crate::waiting::Told;
-use findings::{Finding, Likely, Pair, ask_likely};
+use findings::{Finding, Likely, Pair, View, ask_likely};
 use refute_seq::{OnSequence, SeqWitness};
 use region::{OrderCell, Region};
 use sched_base::Itv;
@@ -61,7 +61,30 @@ fn ask_case(
     }
 }
 
-/// What both cases find. Without distances there is but the first.
+/// What two cases find, one after the other.
+fn ask_cases(
+    view: &View<'_>,
+    d: &Disjunctive,
+    a: Itv,
+    b: Itv,
+    first: u32,
+    second: u32,
+    likely: Likely,
+) -> Option<Finding<SeqWitness>>
+    requires of { IsRegionOf view.now.model.now view.now.region.now.region }
+    requires is { IsDisjunctive view.now.model.now d.now }
+    ensures none { IfNone result (IsSilent view.now.model.now view.now.region.now.region view.now.best (witness.Pair d.now.c a.0 b.0 first) × IsSilent view.now.model.now view.now.region.now.region view.now.best (witness.Pair d.now.c a.0 b.0 second)) }
+    ensures some { IfSome result (IsFinding refutes view.now.model.now view.now.region.now.region view.now.best) }
+    ensures busy { IfSome result (λ f. quiet view.now.model.now d.now.c view.now.region.now.region view.now.best → ⊥) }
+{
+    if let Some(found) = ask_case(view.model, view.region, view.best, d, a, b, first, likely) {
+        return Some(found);
+    }
+    ask_case(view.model, view.region, view.best, d, a, b, second, likely)
+}
+
+/// What both cases find. Without distances there is but the first. Distances that bind more than
+/// neighbours come first, since mostly all that is found without them then follows.
 fn ask_both(
     model: &Model,
     region: &Region,
@@ -77,13 +100,32 @@ fn ask_both(
     ensures some { IfSome result (IsFinding refutes model.now region.now.region best) }
     ensures busy { IfSome result (λ f. quiet model.now d.now.c region.now.region best → ⊥) }
 {
-    if let Some(found) = ask_case(model, region, best, d, a, b, 0, likely) {
-        return Some(found);
-    }
     if d.matrix.is_none() {
-        return None;
+        return ask_case(model, region, best, d, a, b, 0, likely);
     }
-    ask_case(model, region, best, d, a, b, 1, likely)
+    let view = &View {
+        model,
+        region,
+        best,
+    };
+    if d.direct {
+        return ask_cases(view, d, a, b, 0, 1, likely);
+    }
+    ask_cases(view, d, a, b, 1, 0, likely)
+}
+
+/// The guess that is likely to be refuted where the first of two is told to stand before the second.
+fn likely_pushed(model: &Model, region: &Region, d: &Disjunctive, pair: Pair) -> Likely
+    requires { IsRegionOf model.now region.now.region }
+{
+    if d.direct {
+        return likely_told(region, pair, 0);
+    }
+    likely_told(
+        region,
+        pair,
+        distance(model, region, d, pair.first, pair.second),
+    )
 }
 
 /// The same where the order of the two is this one.
@@ -114,7 +156,7 @@ fn ask_two(
         second: b,
     };
     let likely = match order {
-        OrderCell::Forward => likely_told(region, pair),
+        OrderCell::Forward => likely_pushed(model, region, d, pair),
         _ => Likely::StandsBehind(pair),
     };
     ask_both(model, region, best, d, a, b, likely)
@@ -262,7 +304,8 @@ pub fn ask_forward(
         first: a,
         second: b,
     };
-    ask_both(model, region, best, d, a, b, likely_told(region, pair))
+    let likely = likely_pushed(model, region, d, pair);
+    ask_both(model, region, best, d, a, b, likely)
 }
 
 /// What is found of two members of whom it is told that something is. The place of the first is noted.
@@ -313,7 +356,12 @@ fn ask_told_row(
 {
     if d.matrix.is_none() && members.len() <= BITS {
         let heard = heard_of(model, region, d, first, members, keys);
-        return ask_heard_row(model, region, best, d, first, members, keys, heard, is_open);
+        let view = View {
+            model,
+            region,
+            best,
+        };
+        return ask_heard_row(&view, d, first, members, keys, heard, is_open);
     }
     let mut k = next_told(model, region, d, first, members, keys, 0, is_open);
     while k < members.len() {
@@ -364,9 +412,7 @@ fn ask_row(
 /// What is found of the members at the places from one on up to another, each with all. The place of the
 /// one of which something is found is noted.
 fn ask_places(
-    model: &Model,
-    region: &Region,
-    best: Option<i64>,
+    view: &View<'_>,
     d: &Disjunctive,
     order: OrderCell,
     members: &[Itv],
@@ -375,21 +421,30 @@ fn ask_places(
     to: usize,
     at: &mut usize,
 ) -> Option<Finding<SeqWitness>>
-    requires of { IsRegionOf model.now region.now.region }
-    requires is { IsDisjunctive model.now d.now }
+    requires of { IsRegionOf view.now.model.now view.now.region.now.region }
+    requires is { IsDisjunctive view.now.model.now d.now }
     requires room { length members.now ≤ length keys.now }
-    requires keys { AreKeyed region.now.region members.now keys.now }
+    requires keys { AreKeyed view.now.region.now.region members.now keys.now }
     requires within { to ≤ length members.now }
-    ensures none { IfNone result (EachBetween (SilentRow model.now region.now.region best d.now order members.now) members.now from to) }
-    ensures some { IfSome result (IsFinding refutes model.now region.now.region best) }
-    ensures busy { IfSome result (λ f. quiet model.now d.now.c region.now.region best → ⊥) }
+    ensures none { IfNone result (EachBetween (SilentRow view.now.model.now view.now.region.now.region view.now.best d.now order members.now) members.now from to) }
+    ensures some { IfSome result (IsFinding refutes view.now.model.now view.now.region.now.region view.now.best) }
+    ensures busy { IfSome result (λ f. quiet view.now.model.now d.now.c view.now.region.now.region view.now.best → ⊥) }
 {
     for k in from..to {
         let first = Task {
             member: members[k],
             keys: keys[k],
         };
-        if let Some(found) = ask_row(model, region, best, d, order, first, members, keys) {
+        if let Some(found) = ask_row(
+            view.model,
+            view.region,
+            view.best,
+            d,
+            order,
+            first,
+            members,
+            keys,
+        ) {
             *at = k;
             return Some(found);
         }
@@ -399,9 +454,7 @@ fn ask_places(
 
 /// The same of those that they are told to stand before.
 fn ask_told_places(
-    model: &Model,
-    region: &Region,
-    best: Option<i64>,
+    view: &View<'_>,
     d: &Disjunctive,
     members: &[Itv],
     keys: &[Keys],
@@ -410,22 +463,31 @@ fn ask_told_places(
     at: &mut usize,
     is_open: &mut bool,
 ) -> Option<Finding<SeqWitness>>
-    requires of { IsRegionOf model.now region.now.region }
-    requires is { IsDisjunctive model.now d.now }
+    requires of { IsRegionOf view.now.model.now view.now.region.now.region }
+    requires is { IsDisjunctive view.now.model.now d.now }
     requires room { length members.now ≤ length keys.now }
-    requires keys { AreKeyed region.now.region members.now keys.now }
+    requires keys { AreKeyed view.now.region.now.region members.now keys.now }
     requires within { to ≤ length members.now }
-    ensures none { IfNone result (EachBetween (SilentRow model.now region.now.region best d.now order.Forward members.now) members.now from to) }
-    ensures free { IfNone result (is_open.new ≡ false → (is_open.old ≡ false) × EachBetween (SilentRow model.now region.now.region best d.now order.Unknown members.now) members.now from to) }
-    ensures some { IfSome result (IsFinding refutes model.now region.now.region best) }
-    ensures busy { IfSome result (λ f. quiet model.now d.now.c region.now.region best → ⊥) }
+    ensures none { IfNone result (EachBetween (SilentRow view.now.model.now view.now.region.now.region view.now.best d.now order.Forward members.now) members.now from to) }
+    ensures free { IfNone result (is_open.new ≡ false → (is_open.old ≡ false) × EachBetween (SilentRow view.now.model.now view.now.region.now.region view.now.best d.now order.Unknown members.now) members.now from to) }
+    ensures some { IfSome result (IsFinding refutes view.now.model.now view.now.region.now.region view.now.best) }
+    ensures busy { IfSome result (λ f. quiet view.now.model.now d.now.c view.now.region.now.region view.now.best → ⊥) }
 {
     for k in from..to {
         let first = Task {
             member: members[k],
             keys: keys[k],
         };
-        if let Some(found) = ask_told_row(model, region, best, d, first, members, keys, is_open) {
+        if let Some(found) = ask_told_row(
+            view.model,
+            view.region,
+            view.best,
+            d,
+            first,
+            members,
+            keys,
+            is_open,
+        ) {
             *at = k;
             return Some(found);
         }
@@ -456,10 +518,15 @@ fn ask_told_order(
 {
     let n = members.len();
     let start = (*at).min(n);
-    if let Some(f) = ask_told_places(model, region, best, d, members, keys, start, n, at, is_open) {
+    let view = View {
+        model,
+        region,
+        best,
+    };
+    if let Some(f) = ask_told_places(&view, d, members, keys, start, n, at, is_open) {
         return Some(f);
     }
-    ask_told_places(model, region, best, d, members, keys, 0, start, at, is_open)
+    ask_told_places(&view, d, members, keys, 0, start, at, is_open)
 }
 
 /// What is found of each two whose order is this one. It begins with the member at a place, and goes
@@ -484,10 +551,15 @@ fn ask_order(
 {
     let n = members.len();
     let start = (*at).min(n);
-    if let Some(f) = ask_places(model, region, best, d, order, members, keys, start, n, at) {
+    let view = View {
+        model,
+        region,
+        best,
+    };
+    if let Some(f) = ask_places(&view, d, order, members, keys, start, n, at) {
         return Some(f);
     }
-    ask_places(model, region, best, d, order, members, keys, 0, start, at)
+    ask_places(&view, d, order, members, keys, 0, start, at)
 }
 
 /// What PAIR finds of a sequence without overlap, whose members these are: first of two that are told

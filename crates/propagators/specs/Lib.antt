@@ -1,2 +1,3 @@
 pub mod Quiet
+pub mod Every
 pub mod laws

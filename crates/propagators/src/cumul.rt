@@ -90,5 +90,9 @@ impl Propagator for FromCumul {
         self.0.level(k)
     }
 
+    fn is_last(&self, _: u32) -> bool {
+        false
+    }
+
     ghost unwatched = { unwatched };
 }

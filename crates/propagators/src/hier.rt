@@ -89,5 +89,9 @@ impl Propagator for FromHier {
         self.0.level(k)
     }
 
+    fn is_last(&self, _: u32) -> bool {
+        false
+    }
+
     ghost unwatched = { unwatched };
 }

@@ -16,7 +16,7 @@ pub use all::{All, covers, start};
 pub use basic::FromBasic;
 pub use cumul::FromCumul;
 pub use hier::FromHier;
-pub use laws::each_witness_has_an_owner;
+pub use laws::{each_witness_has_an_owner, listed_guesses_suffice};
 pub use sets::{FromLaterSets, FromSets};
 pub use state::FromState;
 pub use temporal::FromTemporal;

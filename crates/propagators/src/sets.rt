@@ -99,6 +99,10 @@ impl Propagator for FromSets {
         self.0.level(k)
     }
 
+    fn is_last(&self, _: u32) -> bool {
+        false
+    }
+
     ghost unwatched = { unwatched false };
 }
 
@@ -184,6 +188,10 @@ impl Propagator for FromLaterSets {
 
     fn level(&self, k: u32) -> u8 {
         self.0.level(k)
+    }
+
+    fn is_last(&self, _: u32) -> bool {
+        false
     }
 
     ghost unwatched = { unwatched true };

@@ -93,5 +93,9 @@ impl Propagator for FromTemporal {
         self.0.level(k)
     }
 
+    fn is_last(&self, k: u32) -> bool {
+        self.0.is_last(k)
+    }
+
     ghost unwatched = { unwatched };
 }

@@ -100,5 +100,9 @@ impl Propagator for FromUnary {
         self.0.level(k)
     }
 
+    fn is_last(&self, _: u32) -> bool {
+        false
+    }
+
     ghost unwatched = { unwatched };
 }

@@ -1,12 +1,12 @@
 -- What an answer says of its model, and of the log that leads to it.
-use Rattle.std.specs.Prelude.{◌≡◌, ℤ, Bool, true, false, IsTrue, Option, Some, None, option_map}
+use Rattle.std.specs.Prelude.{◌≡◌, ℤ, Bool, true, false, Option, Some, None, option_map}
 use Rattle.sched_model.specs.declared.types.Assignment.{Assignment}
 use Rattle.sched_model.specs.declared.types.Answer.{Answer}
 use Rattle.sched_model.specs.declared.types.Answer.TheVariants.{Optimal, Feasible, Infeasible, Unfinished}
 use Rattle.sched_model.specs.Data.{Data}
-use Rattle.sched_model.specs.Solution.{IsSolution, is_better, objective_of}
+use Rattle.sched_model.specs.Solution.{IsSolution, Better, objective_of}
 
--- a solution of this value
+-- a solution of this value: that of the objective's expression, with criteria their rank
 pub record IsSolutionOf (m : Data) (v : ℤ) (a : Assignment) : Type 0 where
   pub solution : IsSolution m a
   pub value : objective_of m a ≡ Some v
@@ -19,7 +19,7 @@ pub record IsPlainSolution (m : Data) (a : Assignment) : Type 0 where
 -- a solution of this value, and no solution is better
 pub record IsBest (m : Data) (v : ℤ) (a : Assignment) : Type 0 where
   pub is_one : IsSolutionOf m v a
-  pub none_better : (b : Assignment) → IsSolution m b → IsTrue (is_better m (Some v) b) → ⊥
+  pub none_better : (b : Assignment) → IsSolution m b → Better m b a → ⊥
 
 abbrev pub HasNoSolution : Data → Type 0
 HasNoSolution m = (a : Assignment) → IsSolution m a → ⊥

@@ -119,6 +119,11 @@ impl Chooser {
         (self.weights, self.tree.pairs.many)
     }
 
+    /// Whether there are more pairs in sequences without overlap than a preparation has nodes.
+    pub fn has_many_pairs(&self) -> bool {
+        self.tree.pairs.many
+    }
+
     /// Whether functions tell what may be done at each moment.
     pub fn has_profiles(&self) -> bool {
         self.has_profiles

@@ -144,8 +144,17 @@ impl<P: Propagator> Search<P> {
         Ok(weighed(guess, first, second))
     }
 
+    /// Whether the search goes straight for the schedule of the preparation through many pairs, most of
+    /// which follow from others.
+    fn is_straight(&self) -> bool {
+        self.found.is_none() && self.guide.is_some() && self.intervals.has_many_pairs()
+    }
+
     /// Whether it pays to try several of the guesses that are offered.
     fn tries(&self) -> bool {
+        if self.is_straight() {
+            return false;
+        }
         let Some(guess) = self.intervals.pick(0) else {
             return false;
         };

@@ -37,10 +37,6 @@ pub record IsGain (arcs : List Arc) (most : ℕ) (is : List ℕ) : Type 0 where
   pub positive : pos 0 <ℤ total (picked arcs is)
   pub few : length is ≤ most
 
--- no closed walk along these arcs has positive weight
-abbrev pub HasNoGain : List Arc → Type 0
-HasNoGain arcs = (is : List ℕ) → are_places arcs is ≡ true → is_closed (picked arcs is) ≡ true → total (picked arcs is) ≤ℤ pos 0
-
 -- heights of the points such that each arc loses its weight at least
 pub record HasHeights (arcs : List Arc) : Type 0 where
   pub height : ℕ → ℤ

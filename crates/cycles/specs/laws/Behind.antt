@@ -5,10 +5,9 @@ use Rattle.std.proofs.lemmas.Int.{ints}
 use Rattle.std.proofs.lemmas.Bool.{true≢false}
 use Rattle.refute_basic.specs.declared.edge.Arc.{Arc}
 use Rattle.cycles.specs.declared.node.Node.{Node}
-use Rattle.cycles.specs.code.Walks.{arc_at, HasHeights, HasNoGain}
+use Rattle.cycles.specs.code.Walks.{arc_at, HasHeights}
 use Rattle.cycles.specs.code.Search.{Search, node_at, last_of, height, stage, is_late, IsSearch, IsShort, AreOn, turn_of, IsBehind, IsStill}
 use Rattle.cycles.specs.code.Pushes.{pushed, node_by}
-use Rattle.cycles.specs.laws.Walking.{no_gain}
 use Rattle.cycles.specs.laws.Pushed.{same_or_not, last_node_same, last_node_new, rises}
 
 pub if_some : (o : Option ℕ) (P : ℕ → Type 0) → ((k : ℕ) → P k) → IfSome o P
@@ -68,17 +67,6 @@ behind_pushed arcs n s way i k is all within late behind j below late_j = at (sa
           ]
         ]
 
--- an arc that isn't late is not behind either
-pub behind_next : (arcs : List Arc) (s : Search) (way : Bool) (i k : ℕ) → i < length arcs → is_late s (arc_at arcs i) ≡ false
-    → IsBehind arcs way k (turn_of way (length arcs) i) s → IsBehind arcs way k (turn_of way (length arcs) i + 1) s
-behind_next arcs s way i k within on_time behind j below late_j = elim (behind j below late_j) [
-  | inl h ↦ inl h
-  | inr h ↦ elim (same_or_not j i) [
-    | inl e ↦ absurd (true≢false (sym late_j ∙ ap (λ (l : ℕ). is_late s (arc_at arcs l)) e ∙ on_time))
-    | inr off ↦ inr (turn_passed way (length arcs) i j within below off h.0, h.1)
-  ]
-]
-
 -- after a round the next one begins, which may go the other way
 pub behind_round : (arcs : List Arc) (s : Search) (way other : Bool) (k t : ℕ) → length arcs ≤ t → IsBehind arcs way k t s → IsBehind arcs other (k + 1) 0 s
 behind_round arcs s way other k t past behind j below late_j = elim (behind j below late_j) [
@@ -120,6 +108,3 @@ heights_kept arcs s still = record {
   where
     kept : (t w : ℤ) → int_lt t w ≡ false → w ≤ℤ t
     kept t w h = grind (arith, ints)
-
-pub no_gain_where : (arcs : List Arc) → HasHeights arcs → HasNoGain arcs
-no_gain_where arcs has = no_gain has.height arcs has.keeps

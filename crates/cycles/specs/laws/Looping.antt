@@ -16,25 +16,6 @@ pub reach_falls : (arcs : List Arc) (n : ℕ) (s : Search) (to k : ℕ) → IsSe
 reach_falls arcs n s to k is there = omega arith
 reach_falls arcs n s to k is (further some within rest) = omega (arith, reach_falls arcs n s to _ is rest, (is.links k some within).next)
 
-pub reads_first : (arcs : List Arc) (n : ℕ) (s : Search) (from to : ℕ) → IsLoop s.nodes n from to → IsReading arcs s.nodes n from to [] from
-reads_first arcs n s from to loops = record {
-  read = record {
-    places = refl;
-    leads = itself (node_at s.nodes from).point;
-    value = nothing (node_at s.nodes from).value;
-    few = omega arith;
-  };
-  some = loops.some;
-  within = loops.within;
-  on = loops.on;
-}
-  where
-    itself : (p : ℕ) → nat_eq p p ≡ true
-    itself p = grind (arith, nat_tests)
-
-    nothing : (v : ℤ) → pos 0 +ℤ v ≡ v
-    nothing v = omega (arith, ints)
-
 pub read_more : (arcs : List Arc) (n : ℕ) (s : Search) (from to : ℕ) (walk : List ℕ) (y : ℕ) → IsSearch arcs n s
     → IsReading arcs s.nodes n from to walk y → IsRead arcs s.nodes from (walk ++ (node_at s.nodes y).via ∷ []) (node_at s.nodes y).next
 read_more arcs n s from to walk y is reading =

@@ -84,13 +84,6 @@ marked_more arcs n s k seen y is some more_than_0 none m =
     on : (v : ℕ) → IsMark s.nodes n y v (get_or seen v 0) → IsMark s.nodes n (node_at s.nodes y).next v (get_or seen v 0)
     on v mark = record { some = mark.some; within = mark.within; on = reach_more s.nodes n y _ some m.within mark.on; point = mark.point }
 
--- a point that is marked came before
-pub marked_loop : (arcs : List Arc) (n : ℕ) (s : Search) (k : ℕ) (seen : List ℕ) (y : ℕ) → IsSearch arcs n s → (get_or seen (node_at s.nodes y).point 0 ≡ 0 → ⊥) → IsMarked s.nodes n k seen y
-    → IsLoop s.nodes n (get_or seen (node_at s.nodes y).point 0) y
-marked_loop arcs n s k seen y is marked m =
-    let mark = m.marks (node_at s.nodes y).point (is.points y m.within) marked in
-    record { some = mark.some; within = mark.within; on = mark.on; same = sym mark.point }
-
 -- where the walk ends, each of its points came once, and they are few
 pub marked_end : (arcs : List Arc) (n : ℕ) (s : Search) (k : ℕ) (seen : List ℕ) (y : ℕ) → IsSearch arcs n s → y < n → get_or seen (node_at s.nodes y).point 0 ≡ 0 → IsMarked s.nodes n k seen y → (node_at s.nodes k).len < n
 marked_end arcs n s k seen y is first none m =

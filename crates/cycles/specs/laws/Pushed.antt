@@ -143,10 +143,3 @@ search_pushed arcs n s i is short within on late = record {
 
     over : (a b c : ℤ) → a ≤ℤ b → b <ℤ c → a <ℤ c
     over a b c h k = omega (arith, ints, h, k)
-
--- and the walks of the points stay short, if the new one is
-pub short_pushed : (arcs : List Arc) (n : ℕ) (s : Search) (x : Node) (v : ℕ) → IsSearch arcs n s → IsShort n s → v < n → x.len < n → IsShort n (pushed s x v)
-short_pushed arcs n s x v is short v_less x_short u u_less = elim (same_or_not u v) [
-  | inl e ↦ subst (λ (w : ℕ). stage (pushed s x v) w < n) (sym e) (subst (λ (y : Node). y.len < n) (sym (last_node_new arcs n s x v is v_less)) x_short)
-  | inr other ↦ subst (λ (y : Node). y.len < n) (sym (last_node_same arcs n s x v u is u_less other)) (short u u_less)
-]

@@ -4,7 +4,7 @@ use Rattle.std.proofs.Common.{refl, ap, ◌∙◌, arith}
 use Rattle.std.proofs.lemmas.Int.{ints}
 use Rattle.std.proofs.lemmas.Bool.Decides.{nat_tests}
 use Rattle.refute_basic.specs.declared.edge.Arc.{Arc}
-use Rattle.cycles.specs.code.Walks.{arc_at, picked, leads, is_closed, total, are_places, HasNoGain}
+use Rattle.cycles.specs.code.Walks.{arc_at, picked, leads, is_closed, total, are_places}
 use Rattle.std.proofs.lemmas.Bool.{and_parts}
 
 pub same_nat : (i j : ℕ) → nat_eq i j ≡ true → i ≡ j
@@ -17,38 +17,6 @@ Keeps h a = (a.weight +ℤ h a.head) ≤ℤ h a.tail
 abbrev pub AllKeep : (ℕ → ℤ) → List Arc → Type 0
 AllKeep h [] = Unit {0}
 AllKeep h (a ∷ bs) = Keeps h a × AllKeep h bs
-
-pub walk_kept : (h : ℕ → ℤ) (bs : List Arc) (from to : ℕ) → AllKeep h bs → leads from bs to ≡ true → (total bs +ℤ h to) ≤ℤ h from
-walk_kept h [] from to keep lead = at (h from) (h to) (ap h (same_nat from to lead))
-  where
-    at : (a b : ℤ) → a ≡ b → (pos 0 +ℤ b) ≤ℤ a
-    at a b e = omega (arith, ints, e)
-walk_kept h (a ∷ bs) from to keep lead =
-    let two = and_parts (nat_eq from a.tail) (leads a.head bs to) lead in
-    at (h from) (h a.tail) (h a.head) (h to) a.weight (total bs) (ap h (same_nat from a.tail two.0)) keep.0 (walk_kept h bs a.head to keep.1 two.1)
-  where
-    at : (f t d e w s : ℤ) → f ≡ t → (w +ℤ d) ≤ℤ t → (s +ℤ e) ≤ℤ d → ((w +ℤ s) +ℤ e) ≤ℤ f
-    at f t d e w s i j k = omega (arith, ints, i, j, k)
-
-pub closed_kept : (h : ℕ → ℤ) (bs : List Arc) → AllKeep h bs → is_closed bs ≡ true → total bs ≤ℤ pos 0
-closed_kept h [] keep closed = omega (arith, ints)
-closed_kept h (a ∷ bs) keep closed = at (h a.head) (h a.tail) a.weight (total bs) keep.0 (walk_kept h bs a.head a.tail keep.1 closed)
-  where
-    at : (d t w s : ℤ) → (w +ℤ d) ≤ℤ t → (s +ℤ t) ≤ℤ d → (w +ℤ s) ≤ℤ pos 0
-    at d t w s i j = omega (arith, ints, i, j)
-
-picked_keep : (h : ℕ → ℤ) (arcs : List Arc) (is : List ℕ) → ((i : ℕ) → i < length arcs → Keeps h (arc_at arcs i)) → are_places arcs is ≡ true → AllKeep h (picked arcs is)
-picked_keep h arcs [] keep places = tt
-picked_keep h arcs (i ∷ is) keep places =
-    let two = and_parts (nat_lt i (length arcs)) (are_places arcs is) places in
-    (keep i (below i (length arcs) two.0), picked_keep h arcs is keep two.1)
-  where
-    below : (i n : ℕ) → nat_lt i n ≡ true → i < n
-    below i n h = grind (arith, nat_tests)
-
--- one look at each arc shows that there is no gain
-pub no_gain : (h : ℕ → ℤ) (arcs : List Arc) → ((i : ℕ) → i < length arcs → Keeps h (arc_at arcs i)) → HasNoGain arcs
-no_gain h arcs keep is places closed = closed_kept h (picked arcs is) (picked_keep h arcs is keep places) closed
 
 -- walks grow at their end
 pub leads_more : (bs : List Arc) (a : Arc) (from to : ℕ) → leads from bs a.tail ≡ true → a.head ≡ to → leads from (bs ++ a ∷ []) to ≡ true

@@ -8,6 +8,3 @@ use Rattle.engine.specs.code.Engines.{EngineValue, AreQuiet, AreAwake, IsCalm}
 
 pub quiet_is_calm : {P : Type 0} (p : Ghosts P) (m : Data) (r : Region) (best : Option ℤ) (e : EngineValue P) → AreQuiet p m r best → IsCalm p m r best e
 quiet_is_calm p m r best e quiet k below asleep = quiet k below
-
-pub awake_is_calm : {P : Type 0} (p : Ghosts P) (m : Data) (r : Region) (best : Option ℤ) (e : EngineValue P) → AreAwake p m e → IsCalm p m r best e
-awake_is_calm p m r best e awake k below asleep = absurd (true≢false (sym (awake k below) ∙ asleep))

@@ -16,6 +16,3 @@ back n j = omega arith
 -- `X` and `Y` tell of a number of each whether it is quiet
 pub first_quiet : (a b : ℕ) (X Y : ℕ → Type 0) → ((k : ℕ) → k < a + b → chosen (nat_lt k a) (X k) (Y (k - a))) → (k : ℕ) → k < a → X k
 first_quiet a b X Y all k less = subst (λ t. chosen t (X k) (Y (k - a))) (lower k a less) (all k (omega (arith, less)))
-
-pub second_quiet : (a b : ℕ) (X Y : ℕ → Type 0) → ((k : ℕ) → k < a + b → chosen (nat_lt k a) (X k) (Y (k - a))) → (j : ℕ) → j < b → Y j
-second_quiet a b X Y all j less = subst Y (back a j) (subst (λ t. chosen t (X (a + j)) (Y ((a + j) - a))) (upper j a) (all (a + j) (omega (arith, less))))

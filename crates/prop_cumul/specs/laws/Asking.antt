@@ -54,12 +54,6 @@ use Rattle.prop_cumul.specs.laws.Owners.{owned}
 abbrev pub TellsExtra : Data → Region → Region → Bound → Bool → List Part → Type 0
 TellsExtra m r q b below is = (t : ℤ) → load q below (parts_of m b.f) t ≡ load r below (parts_of m b.f) t +ℤ extra r q below is t
 
-pub none_tell : (m : Data) (r : Region) (b : Bound) (below : Bool) → TellsExtra m r r b below []
-none_tell m r b below t = same (load r below (parts_of m b.f) t)
-  where
-    same : (z : ℤ) → z ≡ z +ℤ (pos 0 -ℤ pos 0)
-    same z = omega (arith, ints)
-
 pub own_tell : (m : Data) (r : Region) (b : Bound) (below : Bool) (x : Itv) (g : Guess) → is_on x (topic g) ≡ true → TellsExtra m r (with_guess g r) b below (filter (is_of x) (parts_of m b.f))
 own_tell m r b below x g on t = extra_alone r (with_guess g r) x below (parts_of m b.f) t (guess_elsewhere r x g on)
 
@@ -200,9 +194,6 @@ busy_plain m r best c refuted = record { witness = refuted.witness; guess = None
 same_number : (i j : ℕ) → i ≡ j → nat_eq j i ≡ true
 same_number i j h = grind (arith, nat_tests, h)
 
-pub busy_is : (m : Data) (c : ℕ) (r : Region) (best : Option ℤ) → IsBusy m r best c → quiet m c r best → ⊥
-busy_is m c r best busy still = absurd (true≢false (sym busy.refutes ∙ still.unrefuted busy.witness busy.guess (same_number (constraint_of busy.witness) c busy.names) busy.asked))
-
 -- and it is quiet where both sides are
 listed_on : (xs : List Itv) (t : Topic) → asks_each xs t ≡ true → (x : Itv) × (has xs x ≡ true) × (is_on x t ≡ true)
 listed_on xs (One x c) h = (x, h, same_self x)
@@ -226,25 +217,7 @@ quiet_both m c r best b xs bound names above below = record { unrefuted = at }
 -- a constraint of another kind
 no_case : (m : Data) (r : Region) (t : ℤ) (u : ℕ) (d : Constraint) → is_cumul d ≡ false → point_of m r t u d ≡ false
 no_case m r t u (constraint.CumulIn f w lo hi) other = cc
-no_case m r t u (constraint.NoOverlap p matrix direct) other = refl
-no_case m r t u (constraint.Temporal from to equal x y z) other = refl
-no_case m r t u (constraint.Logic e) other = refl
-no_case m r t u (constraint.Span x parts) other = refl
-no_case m r t u (constraint.Alternative x parts) other = refl
-no_case m r t u (constraint.Synchronize x parts) other = refl
-no_case m r t u (constraint.First p x) other = refl
-no_case m r t u (constraint.Last p x) other = refl
-no_case m r t u (constraint.Before p x y) other = refl
-no_case m r t u (constraint.Prev p x y) other = refl
-no_case m r t u (constraint.AlwaysEqual g x v i j) other = refl
-no_case m r t u (constraint.AlwaysNoState g x) other = refl
-
-pub other_quiet : (m : Data) (c : ℕ) (r : Region) (best : Option ℤ) (d : Constraint) → slice_get m.constraints c ≡ Some d → is_cumul d ≡ false → quiet m c r best
-other_quiet m c r best d is other = record { unrefuted = λ w guess mine asked. at w guess (sym (owned m c w mine)) }
-  where
-    at : (w : CumulWitness) (guess : Option Guess) → constraint_of w ≡ c → refutes m (seen_at r best guess) w ≡ false
-    at (Point n t u) guess same = never_both (is_valid (Point n t u)) (point_row m (seen_at r best guess) n t u)
-        (ap (λ k. passes (point_of m (looked_at guess r) t u) (slice_get m.constraints k)) same ∙ ap (passes (point_of m (looked_at guess r) t u)) is ∙ no_case m (looked_at guess r) t u d other)
+no_case m r t u another other = refl
 
 -- each interval of a list
 pub each_quiet : (m : Data) (r : Region) (b : Bound) (below : Bool) (xs : List Itv) → ((j : ℕ) (d : Itv) → j < length xs → IsQuietOn m r b below (get_or xs j d)) → AreQuietOn m r b below xs

@@ -1,5 +1,5 @@
 -- How many parts are what the rows of a constraint ask, and what these numbers tell of the rows.
-use Rattle.std.specs.Prelude.{ℕ, ◌+◌, ◌-◌, Bool, true, false, not, ◌||◌, if◌then◌else◌, List, nat_lt, cond}
+use Rattle.std.specs.Prelude.{ℕ, ◌+◌, ◌-◌, ℤ, pos, Bool, true, false, not, ◌||◌, if◌then◌else◌, List, nat_lt, int_lt, cond}
 use Rattle.std.specs.List.{count_by}
 use Rattle.sched_base.specs.declared.ids.Itv.{Itv}
 use Rattle.region.specs.declared.types.Presence.{Presence}
@@ -18,10 +18,10 @@ abbrev pub asks : Kind → Role → Bool
 asks Span Clashes = false
 asks Span MayMatch = false
 asks Span _ = true
-asks Alternative IsThere = true
-asks Alternative Clashes = true
-asks Alternative MayMatch = true
-asks Alternative _ = false
+asks (Alternative n) IsThere = true
+asks (Alternative n) Clashes = true
+asks (Alternative n) MayMatch = true
+asks (Alternative n) _ = false
 asks Synchronize Clashes = true
 asks Synchronize _ = false
 
@@ -77,13 +77,20 @@ counts_after kind a old new n = record {
   may_match = recounted kind MayMatch a old new n.may_match;
 }
 
+-- more parts are present than the count, and fewer may match the interval
+abbrev pub is_above : ℤ → Counts → Bool
+is_above count n = int_lt count (pos n.there)
+
+abbrev pub is_below : ℤ → Counts → Bool
+is_below count n = int_lt (pos n.may_match) count
+
 -- whether some row refutes, by whether the interval is present
 abbrev pub counts_refute : Kind → Presence → Counts → Bool
 counts_refute Span Absent n = nat_lt 0 n.there
 counts_refute Span Present n = not (nat_lt 0 n.may_start) || not (nat_lt 0 n.may_end) || nat_lt 0 n.starts_before || nat_lt 0 n.ends_after
 counts_refute Span Maybe n = nat_lt 0 n.starts_before || nat_lt 0 n.ends_after
-counts_refute Alternative Absent n = nat_lt 0 n.there
-counts_refute Alternative Present n = nat_lt 1 n.there || not (nat_lt 0 n.may_match) || nat_lt 0 n.clashes
-counts_refute Alternative Maybe n = nat_lt 1 n.there || nat_lt 0 n.clashes
+counts_refute (Alternative count) Absent n = nat_lt 0 n.there || is_above count n
+counts_refute (Alternative count) Present n = is_above count n || is_below count n || nat_lt 0 n.clashes
+counts_refute (Alternative count) Maybe n = is_above count n || nat_lt 0 n.clashes
 counts_refute Synchronize Present n = nat_lt 0 n.clashes
 counts_refute Synchronize _ n = false

@@ -1,5 +1,5 @@
 -- Where no guess on a part is refuted, by its numbers and those of its interval.
-use Rattle.std.specs.Prelude.{◌+ℤ◌, Bool, true, false, not, ◌&&◌, ◌||◌, int_le, nat_lt}
+use Rattle.std.specs.Prelude.{ℤ, pos, ◌+ℤ◌, Bool, true, false, ◌&&◌, ◌||◌, int_le, int_lt, nat_lt}
 use Rattle.region.specs.declared.types.Presence.{Presence}
 use Rattle.region.specs.declared.types.Presence.TheVariants.{Absent, Present, Maybe}
 use Rattle.region.specs.declared.types.Bounds.{Bounds}
@@ -34,13 +34,17 @@ lasts b = int_le (b.smin +ℤ b.pmin) b.emin && int_le (b.smax +ℤ b.pmin) b.em
 abbrev pub always_matches : Bounds → Bounds → Bool
 always_matches a b = starts_match a b && ends_match a b && lasts b
 
--- another may stand for their interval, and no other is present
-abbrev pub has_another : Presence → Presence → Counts → Bool
-has_another Absent part n = false
-has_another Present part n = (says_present part || not (nat_lt 0 n.there)) && nat_lt 1 n.may_match
-has_another Maybe part n = says_present part || not (nat_lt 0 n.there)
+-- whatever is guessed of the part, no more are present than the count
+abbrev pub leaves_room : ℤ → Presence → Counts → Bool
+leaves_room count part n = (says_present part && nat_lt 0 n.there) || int_lt (pos n.there) count
+
+-- and no fewer may match the interval
+abbrev pub has_another : ℤ → Presence → Presence → Counts → Bool
+has_another count Absent part n = false
+has_another count Present part n = leaves_room count part n && int_lt count (pos n.may_match)
+has_another count Maybe part n = leaves_room count part n
 
 abbrev pub is_silent : Kind → Bounds → Bounds → Counts → Bool
 is_silent Span a b n = has_others a.presence n && is_within a (ends_of b)
-is_silent Alternative a b n = has_another a.presence b.presence n && always_matches a b
+is_silent (Alternative count) a b n = has_another count a.presence b.presence n && always_matches a b
 is_silent Synchronize a b n = always_matches a b

@@ -15,7 +15,7 @@ use Rattle.prop_hier.specs.declared.watch.Watch.{Watch}
 -- the interval of a constraint and its parts, or the members of a sequence that a relation is about
 abbrev pub intervals_of : Data → Option Constraint → List Itv
 intervals_of m (Some (Span a parts)) = a ∷ parts
-intervals_of m (Some (Alternative a parts)) = a ∷ parts
+intervals_of m (Some (Alternative a parts n)) = a ∷ parts
 intervals_of m (Some (Synchronize a parts)) = a ∷ parts
 intervals_of m (Some (First p a)) = members_of m p
 intervals_of m (Some (Last p a)) = members_of m p

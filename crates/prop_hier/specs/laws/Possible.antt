@@ -112,15 +112,7 @@ breaks_under m r guess (constraint.Last p a) x of admitted h = stands_under m r 
 breaks_under m r guess (constraint.Before p a b) x of admitted h =
     let two = both_true (same x b) (stand (looked_at guess r) p b a) h in true_both (same x b) (may_stand r p b a) two.0 (stands_under m r guess p b a of admitted two.1)
 breaks_under m r guess (constraint.Prev p a b) x of admitted h = prev_under m r guess p a b x of admitted (has_cases (same x b && stand (looked_at guess r) p b a) (stand (looked_at guess r) p a x && stand (looked_at guess r) p x b) h)
-breaks_under m r guess (constraint.Temporal from to equal u v z) x of admitted h = cc
-breaks_under m r guess (constraint.Logic e) x of admitted h = cc
-breaks_under m r guess (constraint.Span u parts) x of admitted h = cc
-breaks_under m r guess (constraint.Alternative u parts) x of admitted h = cc
-breaks_under m r guess (constraint.Synchronize u parts) x of admitted h = cc
-breaks_under m r guess (constraint.NoOverlap p matrix direct) x of admitted h = cc
-breaks_under m r guess (constraint.CumulIn f w lo hi) x of admitted h = cc
-breaks_under m r guess (constraint.AlwaysEqual g u v i j) x of admitted h = cc
-breaks_under m r guess (constraint.AlwaysNoState g u) x of admitted h = cc
+breaks_under m r guess other x of admitted h = cc
 
 pub silent_impossible : (m : Data) (r : Region) (best : Option ℤ) (c : ℕ) (d : Constraint) (x : Itv) → IsRegionOf m r → slice_get m.constraints c ≡ Some d → may_break r x d ≡ false → IsSilent m r best (SeqRel c x.0) (pairs_of d x)
 silent_impossible m r best c d x of is none guess asked = by_case (seqrel_of (looked_at guess r) x d) refl

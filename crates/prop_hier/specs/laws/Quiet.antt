@@ -54,7 +54,7 @@ Unrefuted kind r a bs = AreUnrefuted (refutes_under kind r a bs) r (a ∷ bs) []
 
 family_is : (kind : Kind) (a : Itv) (bs : List Itv) → family_of (Some (as_constraint kind a bs)) ≡ a ∷ bs
 family_is Span a bs = refl
-family_is Alternative a bs = refl
+family_is (Alternative n) a bs = refl
 family_is Synchronize a bs = refl
 
 members_of : (m : Data) (c : ℕ) (kind : Kind) (a : Itv) (bs : List Itv) → slice_get m.constraints c ≡ Some (as_constraint kind a bs) → family_of (slice_get m.constraints c) ≡ a ∷ bs
@@ -70,7 +70,7 @@ quiet_of_parts m c r best kind a bs w guess is none parts names asked =
 
 unrelated_kind : (kind : Kind) (a : Itv) (bs : List Itv) → None ≡ related_in (as_constraint kind a bs)
 unrelated_kind Span a bs = refl
-unrelated_kind Alternative a bs = refl
+unrelated_kind (Alternative n) a bs = refl
 unrelated_kind Synchronize a bs = refl
 
 pub quiet_from : (m : Data) (c : ℕ) (r : Region) (best : Option ℤ) (kind : Kind) (a : Itv) (bs : List Itv) → slice_get m.constraints c ≡ Some (as_constraint kind a bs) → Unrefuted kind r a bs → quiet m c r best
@@ -86,7 +86,7 @@ quiet_from m c r best kind a bs is none = record { unrefuted = λ w guess mine a
 -- guesses that a constraint of a kind lists
 abbrev pub asks_kind : Kind → List Itv → Topic → Bool
 asks_kind Span xs t = asks_each xs t
-asks_kind Alternative xs t = asks_each xs t
+asks_kind (Alternative n) xs t = asks_each xs t
 asks_kind Synchronize xs t = asks_present xs t
 
 lists_is : (m : Data) (kind : Kind) (r : Region) (a : Itv) (bs : List Itv) (c : ℕ) (w : HierWitness) (g : Guess) → IsWitness kind r a bs c w → slice_get m.constraints c ≡ Some (as_constraint kind a bs) → lists m w g ≡ asks_kind kind (a ∷ bs) (topic g)
@@ -94,10 +94,10 @@ lists_is m Span r a bs c (witness.Span n k i) g one is = ap (λ d. asks_each (fa
 lists_is m Span r a bs c (witness.Alt n k i j) g one is = never one.row
 lists_is m Span r a bs c (witness.Sync n i) g one is = never one.row
 lists_is m Span r a bs c (witness.SeqRel n x) g one is = never one.row
-lists_is m Alternative r a bs c (witness.Span n k i) g one is = never one.row
-lists_is m Alternative r a bs c (witness.Alt n k i j) g one is = ap (λ d. asks_each (family_of (slice_get m.constraints d)) (topic g)) one.constraint ∙ ap (λ xs. asks_each xs (topic g)) (members_of m c Alternative a bs is)
-lists_is m Alternative r a bs c (witness.Sync n i) g one is = never one.row
-lists_is m Alternative r a bs c (witness.SeqRel n x) g one is = never one.row
+lists_is m (Alternative count) r a bs c (witness.Span n k i) g one is = never one.row
+lists_is m (Alternative count) r a bs c (witness.Alt n k i j) g one is = ap (λ d. asks_each (family_of (slice_get m.constraints d)) (topic g)) one.constraint ∙ ap (λ xs. asks_each xs (topic g)) (members_of m c (Alternative count) a bs is)
+lists_is m (Alternative count) r a bs c (witness.Sync n i) g one is = never one.row
+lists_is m (Alternative count) r a bs c (witness.SeqRel n x) g one is = never one.row
 lists_is m Synchronize r a bs c (witness.Span n k i) g one is = never one.row
 lists_is m Synchronize r a bs c (witness.Alt n k i j) g one is = never one.row
 lists_is m Synchronize r a bs c (witness.Sync n i) g one is = ap (λ d. asks_present (family_of (slice_get m.constraints d)) (topic g)) one.constraint ∙ ap (λ xs. asks_present xs (topic g)) (members_of m c Synchronize a bs is)
@@ -188,8 +188,8 @@ sync_at m c r best a bs g (Two p x y) is of still among open_end = cc
 pub unrefuted_from : (m : Data) (c : ℕ) (r : Region) (best : Option ℤ) (kind : Kind) (a : Itv) (bs : List Itv) → IsFamily m c kind a bs → quiet m c r best → Unrefuted kind r a bs
 unrefuted_from m c r best Span a bs of still guess asked =
     unrefuted_at m c r best Span a bs guess of still (asked_more (λ g. is_among (a ∷ bs) [] (topic g)) (λ g. asks_each (a ∷ bs) (topic g)) r guess (λ g h. among_each (a ∷ bs) (topic g) h) asked)
-unrefuted_from m c r best Alternative a bs of still guess asked =
-    unrefuted_at m c r best Alternative a bs guess of still (asked_more (λ g. is_among (a ∷ bs) [] (topic g)) (λ g. asks_each (a ∷ bs) (topic g)) r guess (λ g h. among_each (a ∷ bs) (topic g) h) asked)
+unrefuted_from m c r best (Alternative n) a bs of still guess asked =
+    unrefuted_at m c r best (Alternative n) a bs guess of still (asked_more (λ g. is_among (a ∷ bs) [] (topic g)) (λ g. asks_each (a ∷ bs) (topic g)) r guess (λ g h. among_each (a ∷ bs) (topic g) h) asked)
 unrefuted_from m c r best Synchronize a bs of still None asked = unrefuted_at m c r best Synchronize a bs None of still refl
 unrefuted_from m c r best Synchronize a bs of still (Some g) asked =
     let two = both_true (is_among (a ∷ bs) [] (topic g)) (is_open_end r g) asked in

@@ -82,15 +82,7 @@ asks_is (constraint.First p a) x t = one_pair p a x t
 asks_is (constraint.Last p a) x t = one_pair p a x t
 asks_is (constraint.Before p a b) x t = one_pair p a b t
 asks_is (constraint.Prev p a b) x t = three_pairs p a b x t
-asks_is (constraint.Temporal from to equal u v z) x t = no_pair t
-asks_is (constraint.Logic e) x t = no_pair t
-asks_is (constraint.Span u parts) x t = no_pair t
-asks_is (constraint.Alternative u parts) x t = no_pair t
-asks_is (constraint.Synchronize u parts) x t = no_pair t
-asks_is (constraint.NoOverlap p matrix direct) x t = no_pair t
-asks_is (constraint.CumulIn f w lo hi) x t = no_pair t
-asks_is (constraint.AlwaysEqual g u v i j) x t = no_pair t
-asks_is (constraint.AlwaysNoState g u) x t = no_pair t
+asks_is other x t = no_pair t
 
 -- where it refutes, it names an interval that is listed, and compares such
 pub one_listed : (m : Data) (r : Region) (d : Constraint) (x : Itv) → IsRegionOf m r → seqrel_of r x d ≡ true → has (intervals_of m (Some d)) x ≡ true
@@ -98,15 +90,7 @@ one_listed m r (constraint.First p a) x of h = related_member m r (constraint.Fi
 one_listed m r (constraint.Last p a) x of h = related_member m r (constraint.Last p a) p x of refl h
 one_listed m r (constraint.Before p a b) x of h = or_right (same x a) (same x b || false) (or_left (same x b) false (both_true (same x b) (stand r p b a) h).0)
 one_listed m r (constraint.Prev p a b) x of h = related_member m r (constraint.Prev p a b) p x of refl h
-one_listed m r (constraint.Temporal from to equal u v z) x of h = cc
-one_listed m r (constraint.Logic e) x of h = cc
-one_listed m r (constraint.Span u parts) x of h = cc
-one_listed m r (constraint.Alternative u parts) x of h = cc
-one_listed m r (constraint.Synchronize u parts) x of h = cc
-one_listed m r (constraint.NoOverlap p matrix direct) x of h = cc
-one_listed m r (constraint.CumulIn f w lo hi) x of h = cc
-one_listed m r (constraint.AlwaysEqual g u v i j) x of h = cc
-one_listed m r (constraint.AlwaysNoState g u) x of h = cc
+one_listed m r other x of h = cc
 
 two_listed : (xs : List Itv) (u v z : Itv) → has xs u ≡ true → has xs v ≡ true → (same z u || same z v) ≡ true → has xs z ≡ true
 two_listed xs u v z one other h = elim (has_cases (same z u) (same z v) h) [
@@ -148,15 +132,7 @@ paired_listed m r (constraint.Before p a b) x z of h paired = elim (has_cases (s
 paired_listed m r (constraint.Prev p a b) x z of h paired =
     let each = three m r p a b x of (has_cases (same x b && stand r p b a) (stand r p a x && stand r p x b) h) in
     three_listed (members_of m p) a b x z each.first each.second each.third paired
-paired_listed m r (constraint.Temporal from to equal u v y) x z of h paired = cc
-paired_listed m r (constraint.Logic e) x z of h paired = cc
-paired_listed m r (constraint.Span u parts) x z of h paired = cc
-paired_listed m r (constraint.Alternative u parts) x z of h paired = cc
-paired_listed m r (constraint.Synchronize u parts) x z of h paired = cc
-paired_listed m r (constraint.NoOverlap p matrix direct) x z of h paired = cc
-paired_listed m r (constraint.CumulIn f w lo hi) x z of h paired = cc
-paired_listed m r (constraint.AlwaysEqual g u v i j) x z of h paired = cc
-paired_listed m r (constraint.AlwaysNoState g u) x z of h paired = cc
+paired_listed m r other x z of h paired = cc
 
 -- and its orders are of the sequence that is listed
 of_pair : (q p : Seq) (u v x y : Itv) → is_pair q u v (pair p x y) ≡ true → list_any (λ s. nat_eq q.0 s.0) (p ∷ []) ≡ true
@@ -176,15 +152,7 @@ ordered_listed (constraint.First p a) x q u v h = of_pair q p u v a x (alone (is
 ordered_listed (constraint.Last p a) x q u v h = of_pair q p u v a x (alone (is_pair q u v (pair p a x)) h)
 ordered_listed (constraint.Before p a b) x q u v h = of_pair q p u v a b (alone (is_pair q u v (pair p a b)) h)
 ordered_listed (constraint.Prev p a b) x q u v h = of_three q p u v a b x h
-ordered_listed (constraint.Temporal from to equal y w z) x q u v h = cc
-ordered_listed (constraint.Logic e) x q u v h = cc
-ordered_listed (constraint.Span y parts) x q u v h = cc
-ordered_listed (constraint.Alternative y parts) x q u v h = cc
-ordered_listed (constraint.Synchronize y parts) x q u v h = cc
-ordered_listed (constraint.NoOverlap p matrix direct) x q u v h = cc
-ordered_listed (constraint.CumulIn f w lo hi) x q u v h = cc
-ordered_listed (constraint.AlwaysEqual g y w i j) x q u v h = cc
-ordered_listed (constraint.AlwaysNoState g y) x q u v h = cc
+ordered_listed other x q u v h = cc
 
 abbrev pub reads_related : Constraint → Itv → Reads
 reads_related d x = record { intervals = []; pairs = pairs_of d x; best = false }
@@ -211,15 +179,7 @@ same_related r q (constraint.Prev p a b) x alike =
       compared reads r q p a x alike (or_right (is_pair p a x (pair p a b)) _ (or_left (is_pair p a x (pair p a x)) (is_pair p a x (pair p x b) || false) (is_forward (pair p a x)))),
       compared reads r q p x b alike (or_right (is_pair p x b (pair p a b)) _ (or_right (is_pair p x b (pair p a x)) (is_pair p x b (pair p x b) || false) (or_left (is_pair p x b (pair p x b)) false (is_forward (pair p x b))))),
     )
-same_related r q (constraint.Temporal from to equal u v z) x alike = tt
-same_related r q (constraint.Logic e) x alike = tt
-same_related r q (constraint.Span u parts) x alike = tt
-same_related r q (constraint.Alternative u parts) x alike = tt
-same_related r q (constraint.Synchronize u parts) x alike = tt
-same_related r q (constraint.NoOverlap p matrix direct) x alike = tt
-same_related r q (constraint.CumulIn f w lo hi) x alike = tt
-same_related r q (constraint.AlwaysEqual g u v i j) x alike = tt
-same_related r q (constraint.AlwaysNoState g u) x alike = tt
+same_related r q other x alike = tt
 
 pub looks_related : (m : Data) (n : ℕ) (x : Itv) (d : Constraint) → slice_get m.constraints n ≡ Some d → LooksOnlyAt refutes m (SeqRel n x.0) (reads_related d x)
 looks_related m n x d is l k of also alike best =

@@ -87,7 +87,7 @@ no_parts (cell.Order p x y) h = cc
 family_watched : (m : Data) (o : Option Constraint) (c : CellName) → is_cell_of (family_of o) c ≡ true → watches (watch_of m o) c ≡ true
 family_watched m None c h = no_parts c h
 family_watched m (Some (constraint.Span a bs)) c h = parts_watched (a ∷ bs) c h
-family_watched m (Some (constraint.Alternative a bs)) c h = parts_watched (a ∷ bs) c h
+family_watched m (Some (constraint.Alternative a bs n)) c h = parts_watched (a ∷ bs) c h
 family_watched m (Some (constraint.Synchronize a bs)) c h = parts_watched (a ∷ bs) c h
 family_watched m (Some (constraint.Temporal from to equal x y z)) c h = no_parts c h
 family_watched m (Some (constraint.Logic e)) c h = no_parts c h

@@ -17,18 +17,7 @@ use Rattle.prop_sets.specs.code.Tasks.{sequence_in}
 pub by_sequence : (f : Seq → Bool) (o : Option Constraint) → passes (without_overlap f) o ≡ passes f (sequence_in o)
 by_sequence f None = refl
 by_sequence f (Some (constraint.NoOverlap p matrix direct)) = refl
-by_sequence f (Some (constraint.Temporal from to equal u v z)) = refl
-by_sequence f (Some (constraint.Logic e)) = refl
-by_sequence f (Some (constraint.Span u parts)) = refl
-by_sequence f (Some (constraint.Alternative u parts)) = refl
-by_sequence f (Some (constraint.Synchronize u parts)) = refl
-by_sequence f (Some (constraint.First q u)) = refl
-by_sequence f (Some (constraint.Last q u)) = refl
-by_sequence f (Some (constraint.Before q u v)) = refl
-by_sequence f (Some (constraint.Prev q u v)) = refl
-by_sequence f (Some (constraint.CumulIn k w lo hi)) = refl
-by_sequence f (Some (constraint.AlwaysEqual k u v i j)) = refl
-by_sequence f (Some (constraint.AlwaysNoState k u)) = refl
+by_sequence f (Some other) = refl
 
 abbrev pub overload_in : Data → Region → List ℕ → Seq → Bool
 overload_in m r s p = overload_row (times_of r) (is_task m r p) s
@@ -58,15 +47,4 @@ detect_by m r side i s o = by_sequence (detect_in m r side i s) o
 pub same_members : (m : Data) (r q : Region) (o : Option Constraint) → ((x : Itv) → has (members_in m (sequence_in o)) x ≡ true → bounds_of r x ≡ bounds_of q x) → SameMembers m r q o
 same_members m r q None h = tt
 same_members m r q (Some (constraint.NoOverlap p matrix direct)) h = h
-same_members m r q (Some (constraint.Temporal from to epual u v z)) h = tt
-same_members m r q (Some (constraint.Logic e)) h = tt
-same_members m r q (Some (constraint.Span u parts)) h = tt
-same_members m r q (Some (constraint.Alternative u parts)) h = tt
-same_members m r q (Some (constraint.Synchronize u parts)) h = tt
-same_members m r q (Some (constraint.First p u)) h = tt
-same_members m r q (Some (constraint.Last p u)) h = tt
-same_members m r q (Some (constraint.Before p u v)) h = tt
-same_members m r q (Some (constraint.Prev p u v)) h = tt
-same_members m r q (Some (constraint.CumulIn k w lo hi)) h = tt
-same_members m r q (Some (constraint.AlwaysEqual k u v i j)) h = tt
-same_members m r q (Some (constraint.AlwaysNoState k u)) h = tt
+same_members m r q (Some other) h = tt

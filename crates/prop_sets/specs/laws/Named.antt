@@ -164,11 +164,6 @@ detect_named d e t u f i (x ∷ xs) z valid names set starts end one is =
     subst (λ l. detect_row e u (f i) l ≡ true) (sym made.2)
     (detect_of_list d e t u f i x xs made.0 made.1 valid names (subst (IsImage f (x ∷ xs)) made.2 set) starts end one is)
 
-pub not_end_named : (d e : ℕ → Times) (t u : ℕ → Bool) (f : ℕ → ℕ) (i : ℕ) (s z : List ℕ) → IsSized e → IsNaming d e t u f → IsImage f s z
-    → ((w : ℕ) → t w ≡ true → lst_at e (f w) ≡ lst_at d w) → ect_at e (f i) ≡ ect_at d i → t i ≡ true → not_end_row d t i s ≡ true → not_end_row e u (f i) z ≡ true
-not_end_named d e t u f i s z valid names set starts end one is =
-    detect_not_ends e u (f i) z (detect_named d e t u f i s z valid names set starts end one (not_end_detects d t i s is))
-
 -- EDGE, where i has the same latest start
 with_first : (f : ℕ → ℕ) (i : ℕ) (s z : List ℕ) → IsImage f s z → (w : ℕ) → has (i ∷ s) w ≡ true → has (f i ∷ z) (f w) ≡ true
 with_first f i s z set w here = elim (has_cases (nat_eq i w) s w here) [

@@ -52,9 +52,6 @@ row_true w b h = (both_true (is_valid w) b h).1
 in_sequence : (f : Seq → Bool) (o : Option Seq) (p : Seq) → o ≡ Some p → passes f o ≡ true → f p ≡ true
 in_sequence f o p is h = subst (λ o. passes f o ≡ true) is h
 
-none_in_it : (f : Seq → Bool) (o : Option Seq) → o ≡ None → passes f o ≡ true → {Z : Type 0} → Z
-none_in_it f o is h = let no : false ≡ true = subst (λ o. passes f o ≡ true) is h in absurd (true≢false (sym no))
-
 unless : (b : Bool) → (b ≡ true → ⊥) → b ≡ false
 unless true none = absurd (none refl)
 unless false none = refl
@@ -233,22 +230,3 @@ sets_quiet later m c p r best valid of sequence xs ys one_order other_order firs
     silent (Detect d side i s) mine =
         let two = both_true (not later) (nat_eq c d) mine in
         at_number (λ n. IsSilent m r best (Detect n side i s)) c d two.1 (detect_silent m c p r best side i s (subst (λ t. IsCalm t m c p r) (not_later later two.0) calm))
-
--- and a constraint of another kind has none
-pub nothing_quiet : (later : Bool) (m : Data) (c : ℕ) (r : Region) (best : Option ℤ) → sequence_at m c ≡ None → quiet later m c r best
-nothing_quiet later m c r best none = record { unrefuted = λ w guess mine asked. silent w mine guess }
-  where
-    shut : (l : Region) (w : SeqWitness) (b : Bool) (f : Seq → Bool) → b ≡ passes f (sequence_at m c) → (is_valid w && b) ≡ false
-    shut l w b f by = unless (is_valid w && b) (λ h. none_in_it f (sequence_at m c) none (sym by ∙ row_true w b h))
-
-    silent : (w : SeqWitness) → looks_after later m c w ≡ true → (guess : Option Guess) → refutes m (seen_at r best guess) w ≡ false
-    silent (Pair d a b k) mine guess = cc
-    silent (Triple q x y z) mine guess = cc
-    silent (Overload d s) mine guess = at_number (λ n. refutes m (seen_at r best guess) (Overload n s) ≡ false) c d mine
-        (shut (looked_at guess r) (Overload c s) _ (overload_in m (looked_at guess r) s) (overload_by m (looked_at guess r) s (slice_get m.constraints c)))
-    silent (Edge d side i s u v) mine guess = at_number (λ n. refutes m (seen_at r best guess) (Edge n side i s u v) ≡ false) c d (both_true later (nat_eq c d) mine).1
-        (shut (looked_at guess r) (Edge c side i s u v) _ (edge_in m (looked_at guess r) side i s u v) (edge_by m (looked_at guess r) side i s u v (slice_get m.constraints c)))
-    silent (NotEnd d side i s) mine guess = at_number (λ n. refutes m (seen_at r best guess) (NotEnd n side i s) ≡ false) c d (both_true later (nat_eq c d) mine).1
-        (shut (looked_at guess r) (NotEnd c side i s) _ (not_end_in m (looked_at guess r) side i s) (not_end_by m (looked_at guess r) side i s (slice_get m.constraints c)))
-    silent (Detect d side i s) mine guess = at_number (λ n. refutes m (seen_at r best guess) (Detect n side i s) ≡ false) c d (both_true (not later) (nat_eq c d) mine).1
-        (shut (looked_at guess r) (Detect c side i s) _ (detect_in m (looked_at guess r) side i s) (detect_by m (looked_at guess r) side i s (slice_get m.constraints c)))

@@ -169,9 +169,6 @@ asked_present false c = refl
 abbrev pub Told : Bool → Region → Itv → Topic → Type 0
 Told early r i t = (t ≡ One i Present) ⊎ (t ≡ One i (end_claim early (bounds_of r i)))
 
-told_of : (r : Region) (z i : Itv) (k : Claim) → z.0 ≡ i.0 → (t : Topic) → t ≡ One z k → t ≡ One i k
-told_of r z i k same t is = is ∙ ap (λ n. One (record { 0 = n }) k) same
-
 same_number : (i j : ℕ) → nat_eq i j ≡ true → i ≡ j
 same_number i j h = grind (arith, nat_tests)
 

@@ -6,7 +6,7 @@ use Rattle.std.proofs.lemmas.Bool.Decides.{nat_tests}
 use Rattle.std.proofs.lemmas.List.{get_or_past}
 use Rattle.sched_base.specs.declared.ids.Itv.{Itv}
 use Rattle.sched_model.specs.declared.types.Constraint.{Constraint}
-use Rattle.sched_model.specs.declared.types.Constraint.TheVariants.{Temporal, Logic, Span, Alternative, Synchronize, NoOverlap, First, Last, Before, Prev, CumulIn, AlwaysEqual, AlwaysNoState}
+use Rattle.sched_model.specs.declared.types.Constraint.TheVariants.{Temporal}
 use Rattle.sched_model.specs.Words.{passes}
 use Rattle.sched_model.specs.Data.{Data, has, same}
 use Rattle.region.specs.declared.types.Bounds.{Bounds}
@@ -68,19 +68,7 @@ ends_among (Some (Temporal from to equal a b z)) (One x c) h = elim (has_cases (
   | inl first ↦ (among_two a b x).0 (asked_same a x c first)
   | inr second ↦ (among_two a b x).1 (asked_same b x c second)
 ]
-ends_among (Some (Temporal from to equal a b z)) (Two p x y) h = absurd (true≢false (sym h))
-ends_among (Some (Logic e)) t h = absurd (true≢false (sym h))
-ends_among (Some (Span x parts)) t h = absurd (true≢false (sym h))
-ends_among (Some (Alternative x parts)) t h = absurd (true≢false (sym h))
-ends_among (Some (Synchronize x parts)) t h = absurd (true≢false (sym h))
-ends_among (Some (NoOverlap p matrix direct)) t h = absurd (true≢false (sym h))
-ends_among (Some (First p x)) t h = absurd (true≢false (sym h))
-ends_among (Some (Last p x)) t h = absurd (true≢false (sym h))
-ends_among (Some (Before p x y)) t h = absurd (true≢false (sym h))
-ends_among (Some (Prev p x y)) t h = absurd (true≢false (sym h))
-ends_among (Some (CumulIn f w lo hi)) t h = absurd (true≢false (sym h))
-ends_among (Some (AlwaysEqual g x v i j)) t h = absurd (true≢false (sym h))
-ends_among (Some (AlwaysNoState g x)) t h = absurd (true≢false (sym h))
+ends_among (Some other) t h = absurd (true≢false (sym h))
 
 -- every guess that ARC lists is on one of its two intervals
 pub asks_among : (m : Data) (c d : ℕ) (g : Guess) → lists m (Arc c d) g ≡ true → is_among (reads_of m c).intervals [] (topic g) ≡ true
@@ -119,18 +107,7 @@ never_absent (Some (Temporal from to equal a b z)) r d x h = elim (has_cases (sa
     | inr none ↦ absurd (true≢false (sym none))
   ]
 ]
-never_absent (Some (Logic e)) r d x h = refl
-never_absent (Some (Span u parts)) r d x h = refl
-never_absent (Some (Alternative u parts)) r d x h = refl
-never_absent (Some (Synchronize u parts)) r d x h = refl
-never_absent (Some (NoOverlap p matriu direct)) r d x h = refl
-never_absent (Some (First p u)) r d x h = refl
-never_absent (Some (Last p u)) r d x h = refl
-never_absent (Some (Before p u y)) r d x h = refl
-never_absent (Some (Prev p u y)) r d x h = refl
-never_absent (Some (CumulIn f w lo hi)) r d x h = refl
-never_absent (Some (AlwaysEqual g u v i j)) r d x h = refl
-never_absent (Some (AlwaysNoState g u)) r d x h = refl
+never_absent (Some other) r d x h = refl
 
 among_asked : (o : Option Constraint) (x : Itv) (c : Claim) → says_absent_claim c ≡ false → is_among (ends_of o) [] (One x c) ≡ true → asks_ends o (One x c) ≡ true
 among_asked None x c said h = absurd (true≢false (sym h))
@@ -138,18 +115,7 @@ among_asked (Some (Temporal from to equal a b z)) x c said h = elim (has_cases (
   | inl first ↦ or_left _ _ (same_asked a x c said first)
   | inr rest ↦ elim (has_cases (same x b) false rest) [ inl second ↦ or_right _ _ (same_asked b x c said second) | inr none ↦ absurd (true≢false (sym none)) ]
 ]
-among_asked (Some (Logic e)) x c said h = absurd (true≢false (sym h))
-among_asked (Some (Span u parts)) x c said h = absurd (true≢false (sym h))
-among_asked (Some (Alternative u parts)) x c said h = absurd (true≢false (sym h))
-among_asked (Some (Synchronize u parts)) x c said h = absurd (true≢false (sym h))
-among_asked (Some (NoOverlap p matrix direct)) x c said h = absurd (true≢false (sym h))
-among_asked (Some (First p u)) x c said h = absurd (true≢false (sym h))
-among_asked (Some (Last p u)) x c said h = absurd (true≢false (sym h))
-among_asked (Some (Before p u y)) x c said h = absurd (true≢false (sym h))
-among_asked (Some (Prev p u y)) x c said h = absurd (true≢false (sym h))
-among_asked (Some (CumulIn f w lo hi)) x c said h = absurd (true≢false (sym h))
-among_asked (Some (AlwaysEqual g u v i j)) x c said h = absurd (true≢false (sym h))
-among_asked (Some (AlwaysNoState g u)) x c said h = absurd (true≢false (sym h))
+among_asked (Some other) x c said h = absurd (true≢false (sym h))
 
 pub arc_unrefuted : (m : Data) (r : Region) (best : Option ℤ) (c d : ℕ) → IsSilent m r best (Arc c d) → IsUnrefuted refutes m r best (Arc c d) (reads_of m c).intervals []
 arc_unrefuted m r best c d silent None asked = silent None refl
@@ -186,18 +152,7 @@ no_way r d (Some (Temporal from to equal a b z)) first second = never_both _ _ (
 
     neither : (d : ℕ) (e p q : Bool) → (d ≡ 0 → ⊥) → (d ≡ 1 → ⊥) → ((nat_eq d 0 && p) || (nat_eq d 1 && e && q)) ≡ false
     neither d e p q first second = rw (apart d 0 first, apart d 1 second) refl
-no_way r d (Some (Logic e)) first second = refl
-no_way r d (Some (Span x parts)) first second = refl
-no_way r d (Some (Alternative x parts)) first second = refl
-no_way r d (Some (Synchronize x parts)) first second = refl
-no_way r d (Some (NoOverlap p matrix direct)) first second = refl
-no_way r d (Some (First p x)) first second = refl
-no_way r d (Some (Last p x)) first second = refl
-no_way r d (Some (Before p x y)) first second = refl
-no_way r d (Some (Prev p x y)) first second = refl
-no_way r d (Some (CumulIn f w lo hi)) first second = refl
-no_way r d (Some (AlwaysEqual g x v i j)) first second = refl
-no_way r d (Some (AlwaysNoState g x)) first second = refl
+no_way r d (Some other) first second = refl
 
 pub other_ways : (m : Data) (l : Seen) (c d : ℕ) → (d ≡ 0 → ⊥) → (d ≡ 1 → ⊥) → refutes m l (Arc c d) ≡ false
 other_ways m l c d first second = never_both (is_number c && is_number d) (arc_row m l c d) (no_way l.region d (slice_get m.constraints c) first second)

@@ -39,14 +39,6 @@ use Rattle.sched_model.specs.Bounds.{is_number}
 abbrev pub empty : Shown
 empty = record { names = []; arcs = [] }
 
-pub none_shown : (m : Data) (r : Region) → AreShown m r empty
-none_shown m r = record {
-  size = refl;
-  are = λ k less. absurd (omega (arith, less));
-  valid = λ k less. absurd (omega (arith, less));
-  on = λ k less. absurd (omega (arith, less));
-}
-
 pub none_tried : (m : Data) (r : Region) → HasTried m r 0 0 empty
 none_tried m r i e tried is = elim tried [ inl h ↦ absurd (omega (arith, h.1)) | inr h ↦ absurd (omega (arith, h.1)) ]
 
@@ -218,14 +210,6 @@ of_interval m r x s t w first second = record {
   ];
 }
 
--- the names of one member with others, on one side of them
-pub side_none : (m : Data) (r : Region) (behind : Bool) (u x : ℕ) (s : Shown) → TriesAll m r (IsOfSideOf behind u x []) s s
-side_none m r behind u x s = record {
-  shown = λ are. are;
-  grows = λ e is. is;
-  has = λ i e of h. absurd (true≢false (sym of.3));
-}
-
 pub side_more : (m : Data) (r : Region) (behind : Bool) (u x : ℕ) (ys : List Itv) (k : ℕ) (y : Itv) (s t w : Shown) → k < length ys → y ≡ get_or ys k y → TriesAll m r (IsOfSideOf behind u x (take k ys)) s t → Tries m r (member_name behind u x y.0) t w
     → TriesAll m r (IsOfSideOf behind u x (take (k + 1) ys)) s w
 side_more m r behind u x ys k y s t w within at before last = record {
@@ -301,16 +285,6 @@ of_constraint m r u s t w first second = record {
   shown = λ are. second.shown (first.shown are);
   grows = λ e is. second.grows e (first.grows e is);
   has = λ i e of h. elim of.0 [ inl k ↦ second.grows e (first.has i e (k, of.1) h) | inr k ↦ second.has i e (k, of.1) h ];
-}
-
-pub of_member : (m : Data) (r : Region) (u x : ℕ) (s t w z : Shown) → TriesAll m r (IsOfPrecedence u) s t → TriesAll m r (IsOfSide false u x) t w → TriesAll m r (IsOfSide true u x) w z → TriesAll m r (IsOfMember u x) s z
-of_member m r u x s t w z first second third = record {
-  shown = λ are. third.shown (second.shown (first.shown are));
-  grows = λ e is. third.grows e (second.grows e (first.grows e is));
-  has = λ i e of h. elim of.0 [
-    | inl k ↦ third.grows e (second.grows e (first.has i e (k, of.1) h))
-    | inr k ↦ elim k.1 [ inl y ↦ third.grows e (second.has i e (k.0, of.1, y) h) | inr y ↦ third.has i e (k.0, of.1, y) h ]
-  ];
 }
 
 -- those of the next one

@@ -8,7 +8,7 @@ use Rattle.sched_base.specs.declared.ids.Itv.{Itv}
 use Rattle.sched_model.specs.declared.types.End.{End}
 use Rattle.sched_model.specs.declared.types.End.TheVariants.{Start, Finish}
 use Rattle.sched_model.specs.declared.types.Constraint.{Constraint}
-use Rattle.sched_model.specs.declared.types.Constraint.TheVariants.{Temporal, Logic, Span, Alternative, Synchronize, NoOverlap, First, Last, Before, Prev, CumulIn, AlwaysEqual, AlwaysNoState}
+use Rattle.sched_model.specs.declared.types.Constraint.TheVariants.{Temporal, NoOverlap}
 use Rattle.sched_model.specs.Data.{Data, has, same}
 use Rattle.region.specs.declared.types.Presence.{Presence}
 use Rattle.region.specs.declared.types.Presence.TheVariants as presence
@@ -46,35 +46,13 @@ forth_elsewhere : (x : Itv) (r : Region) (c : Constraint) → has (ends_of (Some
 forth_elsewhere x r (Temporal from to equal a b z) h =
     let two = neither_alone (same x a) (same x b) h in
     rw (there_elsewhere x a r (λ e. same_not x a two.0 (sym e)), there_elsewhere x b r (λ e. same_not x b two.1 (sym e))) refl
-forth_elsewhere x r (Logic e) h = refl
-forth_elsewhere x r (Span u parts) h = refl
-forth_elsewhere x r (Alternative u parts) h = refl
-forth_elsewhere x r (Synchronize u parts) h = refl
-forth_elsewhere x r (NoOverlap p matrix direct) h = refl
-forth_elsewhere x r (First p u) h = refl
-forth_elsewhere x r (Last p u) h = refl
-forth_elsewhere x r (Before p u y) h = refl
-forth_elsewhere x r (Prev p u y) h = refl
-forth_elsewhere x r (CumulIn f w lo hi) h = refl
-forth_elsewhere x r (AlwaysEqual g u v i j) h = refl
-forth_elsewhere x r (AlwaysNoState g u) h = refl
+forth_elsewhere x r other h = refl
 
 back_elsewhere : (x : Itv) (r : Region) (c : Constraint) → has (ends_of (Some c)) x ≡ false → back (more x r) c ≡ back r c
 back_elsewhere x r (Temporal from to equal a b z) h =
     let two = neither_alone (same x a) (same x b) h in
     rw (there_elsewhere x a r (λ e. same_not x a two.0 (sym e)), there_elsewhere x b r (λ e. same_not x b two.1 (sym e))) refl
-back_elsewhere x r (Logic e) h = refl
-back_elsewhere x r (Span u parts) h = refl
-back_elsewhere x r (Alternative u parts) h = refl
-back_elsewhere x r (Synchronize u parts) h = refl
-back_elsewhere x r (NoOverlap p matrix direct) h = refl
-back_elsewhere x r (First p u) h = refl
-back_elsewhere x r (Last p u) h = refl
-back_elsewhere x r (Before p u y) h = refl
-back_elsewhere x r (Prev p u y) h = refl
-back_elsewhere x r (CumulIn f w lo hi) h = refl
-back_elsewhere x r (AlwaysEqual g u v i j) h = refl
-back_elsewhere x r (AlwaysNoState g u) h = refl
+back_elsewhere x r other h = refl
 
 at_option : (f g : Constraint → Option Edge) (x : Itv) → ((c : Constraint) → has (ends_of (Some c)) x ≡ false → f c ≡ g c) → (o : Option Constraint) → has (ends_of o) x ≡ false → option_and_then f o ≡ option_and_then g o
 at_option f g x same None h = refl
@@ -88,18 +66,7 @@ shorter_elsewhere x y r off = rw (bounds_elsewhere x y as_present r off) refl
 
 along_elsewhere : (m : Data) (x y z : Itv) (r : Region) (c : Constraint) → (y.0 ≡ x.0 → ⊥) → (z.0 ≡ x.0 → ⊥) → along m (more x r) y z c ≡ along m r y z c
 along_elsewhere m x y z r (NoOverlap p matrix direct) off out = rw (there_elsewhere x y r off, there_elsewhere x z r out) refl
-along_elsewhere m x y z r (Temporal from to equal a b w) off out = refl
-along_elsewhere m x y z r (Logic e) off out = refl
-along_elsewhere m x y z r (Span u parts) off out = refl
-along_elsewhere m x y z r (Alternative u parts) off out = refl
-along_elsewhere m x y z r (Synchronize u parts) off out = refl
-along_elsewhere m x y z r (First p u) off out = refl
-along_elsewhere m x y z r (Last p u) off out = refl
-along_elsewhere m x y z r (Before p u v) off out = refl
-along_elsewhere m x y z r (Prev p u v) off out = refl
-along_elsewhere m x y z r (CumulIn f w lo hi) off out = refl
-along_elsewhere m x y z r (AlwaysEqual g u v i j) off out = refl
-along_elsewhere m x y z r (AlwaysNoState g u) off out = refl
+along_elsewhere m x y z r other off out = refl
 
 order_elsewhere : (m : Data) (x : Itv) (r : Region) (i : ArcName) → nat_eq i.kind 3 ≡ true → (i.y ≡ x.0 → ⊥) → (i.z ≡ x.0 → ⊥) → edge_of m (more x r) i ≡ edge_of m r i
 order_elsewhere m x r i kind off out = rw (kind, of_option (slice_get m.constraints i.x)) refl

@@ -153,10 +153,6 @@ falls_back m r h u p x y forth light low = falls_weightless m r h u p y x (not (
     one true false there false true other h = h
     one false false there false true other h = h
 
--- along those of one member with those behind it
-pub falls_side_none : (m : Data) (r : Region) (h : ℕ → ℤ) (u x : ℕ) → FallsAlong m r h (IsOfSideOf false u x [])
-falls_side_none m r h u x i of = absurd (true≢false (sym of.3))
-
 pub falls_side_more : (m : Data) (r : Region) (h : ℕ → ℤ) (u x : ℕ) (ys : List Itv) (k : ℕ) (y : Itv) → k < length ys → y ≡ get_or ys k y → FallsAlong m r h (IsOfSideOf false u x (take k ys)) → Falls m r h (member_name false u x y.0)
     → FallsAlong m r h (IsOfSideOf false u x (take (k + 1) ys))
 falls_side_more m r h u x ys k y within at before last i of e shown = elim (side_next false u x ys k y i within at of) [
@@ -166,10 +162,6 @@ falls_side_more m r h u x ys k y within at before last i of e shown = elim (side
 
 pub falls_side_all : (m : Data) (r : Region) (h : ℕ → ℤ) (u x : ℕ) (ys : List Itv) (k : ℕ) → IsRegionOf m r → ys ≡ members_at m (slice_get m.constraints u) → length ys ≤ k → FallsAlong m r h (IsOfSideOf false u x (take k ys)) → FallsAlong m r h (IsOfSide false u x)
 falls_side_all m r h u x ys k of are past before i mine e shown = before i (subst (λ zs. IsOfSideOf false u x zs i) (sym (take_all k ys past)) (side_among m r false u x ys i e of are mine shown)) e shown
-
--- along those of each member: of a member that isn't present there is none
-pub falls_order_none : (m : Data) (r : Region) (h : ℕ → ℤ) (u : ℕ) → FallsAlong m r h (IsOfOrderFrom u [])
-falls_order_none m r h u i of = absurd (true≢false (sym of.2))
 
 pub falls_order_more : (m : Data) (r : Region) (h : ℕ → ℤ) (u : ℕ) (xs : List Itv) (k : ℕ) (x : Itv) → k < length xs → x ≡ get_or xs k x → FallsAlong m r h (IsOfOrderFrom u (take k xs)) → FallsAlong m r h (IsOfSide false u x.0)
     → FallsAlong m r h (IsOfOrderFrom u (take (k + 1) xs))

@@ -64,15 +64,6 @@ unowned m l (Expr c) of none = absurd (true≢false (sym of))
 unowned m l Obj of none = absurd (true≢false (sym of))
 unowned m l (Leaf k u) of none = absurd (true≢false (sym of))
 
--- a witness of another kind has no propagator here
-pub not_ours : (m : Data) (k : ℕ) (w : BasicWitness) → is_temporal w ≡ false → looks_after m k w ≡ false
-not_ours m k (Arc c d) other = absurd (true≢false other)
-not_ours m k (Cycle arcs) other = absurd (true≢false other)
-not_ours m k (Size x) other = refl
-not_ours m k (Expr c) other = refl
-not_ours m k Obj other = refl
-not_ours m k (Leaf i u) other = refl
-
 -- the propagator of a constraint is quiet where both ways are silent
 pub quiet_from : (m : Data) (c : ℕ) (r : Region) (best : Option ℤ) → IsSilent m r best (Arc c 0) → IsSilent m r best (Arc c 1) → quiet m (suc c) r best
 quiet_from m c r best first second = record {

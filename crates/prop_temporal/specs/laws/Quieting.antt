@@ -30,9 +30,6 @@ pub record AreQuietBelow (m : Data) (r : Region) (best : Option ℤ) (n : ℕ) :
   pub plain : NoWalk m r best None
   pub each : (k : ℕ) → k < n → admits r (present_at k) ≡ true → NoWalk m r best (Some (present_at k))
 
-pub quiet_first : (m : Data) (r : Region) (best : Option ℤ) → NoWalk m r best None → AreQuietBelow m r best 0
-quiet_first m r best plain = record { plain = plain; each = λ k less. absurd (omega (arith, less)) }
-
 pub quiet_next : (m : Data) (r : Region) (best : Option ℤ) (n : ℕ) → (admits r (present_at n) ≡ true → NoWalk m r best (Some (present_at n))) → AreQuietBelow m r best n → AreQuietBelow m r best (n + 1)
 quiet_next m r best n here quiet = record {
   plain = quiet.plain;

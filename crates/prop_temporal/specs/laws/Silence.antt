@@ -8,7 +8,7 @@ use Rattle.sched_base.specs.declared.ids.Itv.{Itv}
 use Rattle.sched_model.specs.declared.types.End.{End}
 use Rattle.sched_model.specs.declared.types.End.TheVariants.{Start, Finish}
 use Rattle.sched_model.specs.declared.types.Constraint.{Constraint}
-use Rattle.sched_model.specs.declared.types.Constraint.TheVariants.{Temporal, Logic, Span, Alternative, Synchronize, NoOverlap, First, Last, Before, Prev, CumulIn, AlwaysEqual, AlwaysNoState}
+use Rattle.sched_model.specs.declared.types.Constraint.TheVariants.{Temporal}
 use Rattle.sched_model.specs.Words.{passes}
 use Rattle.sched_model.specs.Data.{Data, same}
 use Rattle.region.specs.declared.types.Presence.{Presence}
@@ -220,34 +220,12 @@ guess_silent r d (Some (Temporal from to equal a b z)) (One x k) h among within 
       ]
     ]
 guess_silent r d (Some (Temporal from to equal a b z)) (Two p x y) h among within end = absurd (true≢false (sym among))
-guess_silent r d (Some (Logic e)) t h among within end = refl
-guess_silent r d (Some (Span u parts)) t h among within end = refl
-guess_silent r d (Some (Alternative u parts)) t h among within end = refl
-guess_silent r d (Some (Synchronize u parts)) t h among within end = refl
-guess_silent r d (Some (NoOverlap p matrix direct)) t h among within end = refl
-guess_silent r d (Some (First p u)) t h among within end = refl
-guess_silent r d (Some (Last p u)) t h among within end = refl
-guess_silent r d (Some (Before p u y)) t h among within end = refl
-guess_silent r d (Some (Prev p u y)) t h among within end = refl
-guess_silent r d (Some (CumulIn f w lo hi)) t h among within end = refl
-guess_silent r d (Some (AlwaysEqual g u v i j)) t h among within end = refl
-guess_silent r d (Some (AlwaysNoState g u)) t h among within end = refl
+guess_silent r d (Some other) t h among within end = refl
 
 plain_silent : (r : Region) (d : ℕ) (o : Option Constraint) → passes (is_silent_way r d) o ≡ true → passes (is_too_late r d) o ≡ false
 plain_silent r d None h = refl
 plain_silent r d (Some (Temporal from to equal a b z)) h = row_silent r r d from to equal a b z (look_plain r a b) h
-plain_silent r d (Some (Logic e)) h = refl
-plain_silent r d (Some (Span u parts)) h = refl
-plain_silent r d (Some (Alternative u parts)) h = refl
-plain_silent r d (Some (Synchronize u parts)) h = refl
-plain_silent r d (Some (NoOverlap p matrix direct)) h = refl
-plain_silent r d (Some (First p u)) h = refl
-plain_silent r d (Some (Last p u)) h = refl
-plain_silent r d (Some (Before p u y)) h = refl
-plain_silent r d (Some (Prev p u y)) h = refl
-plain_silent r d (Some (CumulIn f w lo hi)) h = refl
-plain_silent r d (Some (AlwaysEqual g u v i j)) h = refl
-plain_silent r d (Some (AlwaysNoState g u)) h = refl
+plain_silent r d (Some other) h = refl
 
 pub surely_silent : (m : Data) (r : Region) (best : Option ℤ) (c d : ℕ) → passes (is_silent_way r d) (slice_get m.constraints c) ≡ true → IsSilent m r best (Arc c d)
 surely_silent m r best c d h None asked = never_both (is_number c && is_number d) _ (plain_silent r d (slice_get m.constraints c) h)

@@ -20,13 +20,6 @@ any_before : (c : ℕ) (xs : List ℕ) (d : ℕ) → list_any (λ k. nat_eq c k)
 any_before c [] d h = absurd (true≢false (sym h))
 any_before c (x ∷ xs) d h = elim (has_cases (nat_eq c x) (list_any (λ k. nat_eq c k) xs) h) [ inl e ↦ or_left _ _ e | inr e ↦ or_right _ _ (any_before c xs d e) ]
 
-any_last : (xs : List ℕ) (c : ℕ) → list_any (λ k. nat_eq c k) (xs ++ c ∷ []) ≡ true
-any_last [] c = or_left _ _ (itself c)
-  where
-    itself : (n : ℕ) → nat_eq n n ≡ true
-    itself n = grind (arith, nat_tests)
-any_last (x ∷ xs) c = or_right _ _ (any_last xs c)
-
 same_or_not : (i j : ℕ) → (i ≡ j) ⊎ (i ≡ j → ⊥)
 same_or_not i j = by_case (nat_eq i j) refl
   where
@@ -37,45 +30,8 @@ same_or_not i j = by_case (nat_eq i j) refl
 abbrev pub with_one : List (List ℕ) → ℕ → ℕ → List (List ℕ)
 with_one ts x c = slice_set ts x (get_or ts x [] ++ c ∷ [])
 
-one_grows : (ts : List (List ℕ)) (x c : ℕ) → x < length ts → (y d : ℕ) → is_touched ts y d ≡ true → is_touched (with_one ts x c) y d ≡ true
-one_grows ts x c within y d h = elim (same_or_not y x) [
-  | inl e ↦ subst (λ (cs : List ℕ). list_any (λ k. nat_eq d k) cs ≡ true) (sym (ap (λ n. get_or (with_one ts x c) n []) e ∙ get_or-set_same ts x _ [] within))
-      (any_before d (get_or ts x []) c (subst (λ (n : ℕ). is_touched ts n d ≡ true) e h))
-  | inr other ↦ subst (λ (cs : List ℕ). list_any (λ k. nat_eq d k) cs ≡ true) (sym (get_or-set_other ts x y _ [] other)) h
-]
-
-one_has : (ts : List (List ℕ)) (x c : ℕ) → x < length ts → is_touched (with_one ts x c) x c ≡ true
-one_has ts x c within = subst (λ (cs : List ℕ). list_any (λ k. nat_eq c k) cs ≡ true) (sym (get_or-set_same ts x _ [] within)) (any_last (get_or ts x []) c)
-
-pub touches_none : (ts : List (List ℕ)) (c : ℕ) → Touches ts ts [] c
-touches_none ts c = record { size = refl; grows = λ x d h. h; has = λ x within h. absurd (true≢false (sym h)) }
-
 one_more : (k : ℕ) → k + 1 ≡ suc k
 one_more k = omega arith
-
--- one more of its intervals
-pub touches_more : (old ts : List (List ℕ)) (ends : List Itv) (k : ℕ) (x : Itv) (c : ℕ) → k < length ends → x ≡ get_or ends k x → x.0 < length ts → Touches old ts (take k ends) c → Touches old (with_one ts x.0 c) (take (k + 1) ends) c
-touches_more old ts ends k x c within at inside t = record {
-  size = length-set ts x.0 _ ∙ t.size;
-  grows = λ y d h. one_grows ts x.0 c inside y d (t.grows y d h);
-  has = λ y below h. elim (any_more (same y) ends k x within at (subst (λ n. has (take n ends) y ≡ true) (one_more k) h)) [
-    | inl here ↦ subst (λ (z : Itv). is_touched (with_one ts x.0 c) z.0 c ≡ true) (sym (same_is y x here)) (one_has ts x.0 c inside)
-    | inr earlier ↦ one_grows ts x.0 c inside y.0 c (t.has y below earlier)
-  ];
-}
-
-pub touches_past : (old ts : List (List ℕ)) (ends : List Itv) (k : ℕ) (x : Itv) (c : ℕ) → k < length ends → x ≡ get_or ends k x → length ts ≤ x.0 → Touches old ts (take k ends) c → Touches old ts (take (k + 1) ends) c
-touches_past old ts ends k x c within at outside t = record {
-  size = t.size;
-  grows = t.grows;
-  has = λ y below h. elim (any_more (same y) ends k x within at (subst (λ n. has (take n ends) y ≡ true) (one_more k) h)) [
-    | inl here ↦ absurd (omega (arith, below, outside, t.size, ap (λ z. z.0) (same_is y x here)))
-    | inr earlier ↦ t.has y below earlier
-  ];
-}
-
-pub touched_none : (m : Data) (ts : List (List ℕ)) → length ts ≡ length m.intervals → AreTouchedBy m 0 ts
-touched_none m ts size = record { size = size; each = λ x c below. absurd (omega (arith, below)) }
 
 touches_both : (old mid new : List (List ℕ)) (xs ys : List Itv) (c : ℕ) → Touches old mid xs c → Touches mid new ys c → Touches old new (xs ++ ys) c
 touches_both old mid new xs ys c first second = record {

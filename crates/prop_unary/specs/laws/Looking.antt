@@ -50,18 +50,7 @@ same_read m r q a b (Some (constraint.NoOverlap p matrix direct)) two alike =
       };
     }
 same_read m r q a b None two alike = tt
-same_read m r q a b (Some (constraint.Temporal from to equal u v z)) two alike = tt
-same_read m r q a b (Some (constraint.Logic e)) two alike = tt
-same_read m r q a b (Some (constraint.Span u parts)) two alike = tt
-same_read m r q a b (Some (constraint.Alternative u parts)) two alike = tt
-same_read m r q a b (Some (constraint.Synchronize u parts)) two alike = tt
-same_read m r q a b (Some (constraint.First p u)) two alike = tt
-same_read m r q a b (Some (constraint.Last p u)) two alike = tt
-same_read m r q a b (Some (constraint.Before p u v)) two alike = tt
-same_read m r q a b (Some (constraint.Prev p u v)) two alike = tt
-same_read m r q a b (Some (constraint.CumulIn f w lo hi)) two alike = tt
-same_read m r q a b (Some (constraint.AlwaysEqual g u v i j)) two alike = tt
-same_read m r q a b (Some (constraint.AlwaysNoState g u)) two alike = tt
+same_read m r q a b (Some other) two alike = tt
 
 -- TRIPLE
 same_two : (m : Data) (r q : Region) (p : Seq) (x y : Itv) → has (members_of m p) x ≡ true → has (members_of m p) y ≡ true → AreAlike (reads_triple m p) r q → SameTwo r q p x y
@@ -110,18 +99,7 @@ pair_among m a b (Some (constraint.NoOverlap p matrix direct)) (Two q u v) two a
     let here = both_true (has (members_of m p) a) (has (members_of m p) b) two in
     subst (λ t. is_among (members_of m p) (pairs_of m p) t ≡ true) (sym (topic_is p a b (Two q u v) asks)) (has_two m p a b here.0 here.1)
 pair_among m a b None t two asks = cc
-pair_among m a b (Some (constraint.Temporal from to equal u v z)) t two asks = cc
-pair_among m a b (Some (constraint.Logic e)) t two asks = cc
-pair_among m a b (Some (constraint.Span u parts)) t two asks = cc
-pair_among m a b (Some (constraint.Alternative u parts)) t two asks = cc
-pair_among m a b (Some (constraint.Synchronize u parts)) t two asks = cc
-pair_among m a b (Some (constraint.First p u)) t two asks = cc
-pair_among m a b (Some (constraint.Last p u)) t two asks = cc
-pair_among m a b (Some (constraint.Before p u v)) t two asks = cc
-pair_among m a b (Some (constraint.Prev p u v)) t two asks = cc
-pair_among m a b (Some (constraint.CumulIn f w lo hi)) t two asks = cc
-pair_among m a b (Some (constraint.AlwaysEqual g u v i j)) t two asks = cc
-pair_among m a b (Some (constraint.AlwaysNoState g u)) t two asks = cc
+pair_among m a b (Some other) t two asks = cc
 
 -- and of TRIPLE, of whose guesses none is on a bound
 present_open : (m : Data) (r q : Region) (u : Itv) → IsRegionOf m r → IsRegionOf m q → (bounds_of r u).presence ≡ (bounds_of q u).presence → admits q (Present u) ≡ true → admits r (Present u) ≡ true

@@ -43,18 +43,7 @@ pair_members m r k a b None of h = h
 pair_members m r k a b (Some (constraint.NoOverlap p matrix direct)) of h =
     let two = stand_members m r p a b of (both_true (stand r p a b) _ h).0 in
     true_both (has (members_of m p) a) (has (members_of m p) b) two.0 two.1
-pair_members m r k a b (Some (constraint.Temporal from to equal u v z)) of h = h
-pair_members m r k a b (Some (constraint.Logic e)) of h = h
-pair_members m r k a b (Some (constraint.Span u parts)) of h = h
-pair_members m r k a b (Some (constraint.Alternative u parts)) of h = h
-pair_members m r k a b (Some (constraint.Synchronize u parts)) of h = h
-pair_members m r k a b (Some (constraint.First p u)) of h = h
-pair_members m r k a b (Some (constraint.Last p u)) of h = h
-pair_members m r k a b (Some (constraint.Before p u v)) of h = h
-pair_members m r k a b (Some (constraint.Prev p u v)) of h = h
-pair_members m r k a b (Some (constraint.CumulIn f w lo hi)) of h = h
-pair_members m r k a b (Some (constraint.AlwaysEqual g u v i j)) of h = h
-pair_members m r k a b (Some (constraint.AlwaysNoState g u)) of h = h
+pair_members m r k a b (Some other) of h = h
 
 circle_members : (m : Data) (r : Region) (p : Seq) (x y z : Itv) → IsRegionOf m r → are_in_circle r p x y z ≡ true → (has (members_of m p) x && has (members_of m p) y && has (members_of m p) z) ≡ true
 circle_members m r p x y z of h =

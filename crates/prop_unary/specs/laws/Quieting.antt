@@ -1,5 +1,5 @@
 -- The propagator of a constraint is quiet where PAIR of each two members is silent.
-use Rattle.std.specs.Prelude.{◌≡◌, ℕ, ◌+◌, ◌<◌, ℤ, Bool, true, false, ◌&&◌, length, Option, None, slice_get}
+use Rattle.std.specs.Prelude.{◌≡◌, ℕ, ◌+◌, ◌<◌, ℤ, Bool, true, false, ◌&&◌, length, Option, slice_get}
 use Rattle.std.proofs.Common.{refl, sym, ap, subst, ◌∙◌, arith}
 use Rattle.std.proofs.lemmas.Option.{slice_get_within}
 use Rattle.sched_base.specs.declared.ids.Itv.{Itv}
@@ -77,12 +77,6 @@ pub pairs_quiet : (m : Data) (r : Region) (best : Option ℤ) (d : Disjunctive) 
 pairs_quiet m r best d of is each = constraint_quiet m d.c r best of (slice_get_within m.constraints d.c _ is) (λ a b k two.
     let both = both_true (has (members_of m d.p) a) (has (members_of m d.p) b) (sym (ap (λ o. are_two m (sequence_in o) a b) is) ∙ two) in
     each a both.0 b both.1 k)
-
-pub nothing_quiet : (m : Data) (c : ℕ) (r : Region) (best : Option ℤ) → IsRegionOf m r → c < length m.constraints → sequence_in (slice_get m.constraints c) ≡ None → quiet m c r best
-nothing_quiet m c r best of within none = constraint_quiet m c r best of within (λ a b k two. off a b (sym (ap (λ o. are_two m o a b) none) ∙ two))
-  where
-    off : {Z : Type 0} (a b : Itv) → are_two m None a b ≡ true → Z
-    off a b h = cc
 
 -- where a propagator is quiet its witnesses are silent
 pub pair_silent : (m : Data) (c a b k : ℕ) (r : Region) (best : Option ℤ) → c < length m.constraints → quiet m c r best → IsSilent m r best (Pair c a b k)

@@ -17,15 +17,15 @@ use Rattle.kernel.specs.declared.types.Witness.{Witness}
 use Rattle.kernel.specs.declared.types.Witness.TheVariants.{Basic, Hier, Seq, Cumul, State, Extra}
 use Rattle.kernel.specs.declared.no_extra.NoWitness.{NoWitness}
 use Rattle.engine.specs.Plain.{refutes_plain}
-use Rattle.prop_basic.specs.code.Tasks.{size_of, looks_after, is_own}
+use Rattle.prop_basic.specs.code.Tasks.{size_of, looks_after}
 use Rattle.prop_basic.specs.laws.Owners.{unowned}
-use Rattle.prop_temporal.specs.code.Tasks.{size_of as size_of_temporal, looks_after as looks_after_temporal, is_temporal}
+use Rattle.prop_temporal.specs.code.Tasks.{size_of as size_of_temporal, looks_after as looks_after_temporal}
 use Rattle.prop_temporal.specs.laws.Owners.{unowned as unowned_temporal}
 use Rattle.prop_hier.specs.code.Tasks.{size_of as size_of_hier, looks_after as looks_after_hier}
 use Rattle.prop_hier.specs.laws.Owners.{unowned as unowned_hier}
-use Rattle.prop_unary.specs.code.Tasks.{size_of as size_of_unary, looks_after as looks_after_unary, is_own as is_unary}
+use Rattle.prop_unary.specs.code.Tasks.{size_of as size_of_unary, looks_after as looks_after_unary}
 use Rattle.prop_unary.specs.laws.Owners.{unowned as unowned_unary}
-use Rattle.prop_sets.specs.code.Tasks.{size_of as size_of_sets, looks_after as looks_after_sets, is_own as is_sets}
+use Rattle.prop_sets.specs.code.Tasks.{size_of as size_of_sets, looks_after as looks_after_sets}
 use Rattle.prop_sets.specs.laws.Owners.{unowned as unowned_sets}
 use Rattle.prop_cumul.specs.code.Tasks.{size_of as size_of_cumul, looks_after as looks_after_cumul}
 use Rattle.prop_cumul.specs.laws.Owners.{unowned as unowned_cumul}

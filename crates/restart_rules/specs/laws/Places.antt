@@ -35,7 +35,3 @@ derives_stretch k (learns first rest) = derives_stretch k rest
 pub over_due : (l : Limits) (k : Stretch) (r : Region) (rs : List Region) (nodes : ℕ) (found : Option Found) → nodes < l.nodes → is_over l.restarts k ≡ true
     → is_due l k (record { current = None; waiting = r ∷ rs; nodes = nodes; found = found }) ≡ true
 over_due l k r rs nodes found more over = rw over (grind (arith, nat_tests, more))
-
--- a stretch that has just begun isn't over
-pub fresh_ongoing : (most i : ℕ) → is_over most (record { restarts = i; closed = 0 }) ≡ false
-fresh_ongoing most i = never_both (nat_lt i most) (nat_eq 0 (100 * 2 ^ i)) (grind (arith, nat_tests, pow_pos i))

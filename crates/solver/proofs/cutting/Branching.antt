@@ -59,18 +59,6 @@ end_opens c t here less middle = rw here (in_between c.emin c.emax t less middle
     in_between : (lo hi t : ℤ) → lo <ℤ hi → (t +ℤ t) ≤ℤ (lo +ℤ hi) → (lo +ℤ hi) <ℤ (t +ℤ t +ℤ pos 2) → (int_le lo t && int_lt t hi) ≡ true
     in_between lo hi t less below above = grind (arith, ints)
 
-start_opens_after : (c : Bounds) (t : ℤ) → c.presence ≡ presence.Present → c.smin <ℤ c.smax → IsMiddle c.smin c.smax t → is_open_at (claim.StartGe (t +ℤ pos 1)) c ≡ true
-start_opens_after c t here less middle = rw here (behind c.smin c.smax t less middle.below middle.above)
-  where
-    behind : (lo hi t : ℤ) → lo <ℤ hi → (t +ℤ t) ≤ℤ (lo +ℤ hi) → (lo +ℤ hi) <ℤ (t +ℤ t +ℤ pos 2) → (int_lt lo (t +ℤ pos 1) && int_le (t +ℤ pos 1) hi) ≡ true
-    behind lo hi t less below above = grind (arith, ints)
-
-end_opens_after : (c : Bounds) (t : ℤ) → c.presence ≡ presence.Present → c.emin <ℤ c.emax → IsMiddle c.emin c.emax t → is_open_at (claim.EndGe (t +ℤ pos 1)) c ≡ true
-end_opens_after c t here less middle = rw here (behind c.emin c.emax t less middle.below middle.above)
-  where
-    behind : (lo hi t : ℤ) → lo <ℤ hi → (t +ℤ t) ≤ℤ (lo +ℤ hi) → (lo +ℤ hi) <ℤ (t +ℤ t +ℤ pos 2) → (int_lt lo (t +ℤ pos 1) && int_le (t +ℤ pos 1) hi) ≡ true
-    behind lo hi t less below above = grind (arith, ints)
-
 -- a claim that is open at the bounds of its interval, and ready there, splits the region
 below_test : (n k : ℕ) → n < k → nat_lt n k ≡ true
 below_test n k h = grind (arith, nat_tests)
@@ -94,36 +82,9 @@ cuts_end x c t here less middle = record {
 back_from : (t : ℤ) → (t +ℤ pos 1) -ℤ pos 1 ≡ t
 back_from t = omega (arith, ints)
 
-pub cuts_start_after : (x : Itv) (c : Bounds) (t : ℤ) → c.presence ≡ presence.Present → c.smin <ℤ c.smax → IsMiddle c.smin c.smax t → Cuts x c (StartGe x (t +ℤ pos 1))
-cuts_start_after x c t here less middle = record {
-  splits_it = λ r within same. splits_at r x (claim.StartGe (t +ℤ pos 1)) c within same (start_opens_after c t here less middle) (ap says_present here);
-  cuts_it = λ r same. subst (λ b. IsMiddle b.smin b.smax ((t +ℤ pos 1) -ℤ pos 1)) (sym same) (subst (IsMiddle c.smin c.smax) (sym (back_from t)) middle);
-}
-
-pub cuts_end_after : (x : Itv) (c : Bounds) (t : ℤ) → c.presence ≡ presence.Present → c.emin <ℤ c.emax → IsMiddle c.emin c.emax t → Cuts x c (EndGe x (t +ℤ pos 1))
-cuts_end_after x c t here less middle = record {
-  splits_it = λ r within same. splits_at r x (claim.EndGe (t +ℤ pos 1)) c within same (end_opens_after c t here less middle) (ap says_present here);
-  cuts_it = λ r same. subst (λ b. IsMiddle b.emin b.emax ((t +ℤ pos 1) -ℤ pos 1)) (sym same) (subst (IsMiddle c.emin c.emax) (sym (back_from t)) middle);
-}
-
 -- the middle is no more than a moment
 pub middle_small : (lo hi t : ℤ) → is_moment lo ≡ true → is_moment hi ≡ true → IsMiddle lo hi t → is_moment t ≡ true
 middle_small lo hi t low high middle = grind (arith, ints, middle.below, middle.above)
-
-pub cuts_absence : (x : Itv) (c : Bounds) → c.presence ≡ presence.Maybe → Cuts x c (Absent x)
-cuts_absence x c maybe = record {
-  splits_it = λ r within same. splits_at r x claim.Absent c within same (rw maybe refl) refl;
-  cuts_it = λ r same. tt;
-}
-
-pub cuts_presence : (x : Itv) (c : Bounds) → c.presence ≡ presence.Maybe → Cuts x c (Present x)
-cuts_presence x c maybe = record {
-  splits_it = λ r within same. splits_at r x claim.Present c within same (rw maybe refl) refl;
-  cuts_it = λ r same. tt;
-}
-
-pub fixed_absent : (c : Bounds) → c.presence ≡ presence.Absent → is_fixed c ≡ true
-fixed_absent c absent = rw absent refl
 
 pub fixed_present : (c : Bounds) → c.presence ≡ presence.Present → is_ordered c ≡ true → c.smax ≤ℤ c.smin → c.emax ≤ℤ c.emin → is_fixed c ≡ true
 fixed_present c here ordered starts ends = rw here (same c.smin c.smax c.emin c.emax ordered starts ends)
@@ -174,7 +135,3 @@ pub next_middle : (lo hi t : ℤ) → SFits w64 lo → SFits w64 hi → SFits w6
 next_middle lo hi t low high fits moment middle =
     let next = next_fits t moment in
     simp to_z-of_z (subst (IsMiddle lo hi) (sym (back_from t)) (simp to_z-of_z at middle))
-
--- a cut of an interval of the region splits it, and cuts it so
-pub cut_region : (r : Region) (x : Itv) (c : Bounds) (g : Guess) → x.0 < length r.bounds → c ≡ bounds_of r x → Cuts x c g → CutsRegion r g
-cut_region r x c g within same cuts = record { splits_it = cuts.splits_it r within (sym same); cuts_it = cuts.cuts_it r (sym same) }

@@ -38,35 +38,11 @@ not_absent presence.Maybe there = cc
 below_test : (n k : ℕ) → n < k → nat_lt n k ≡ true
 below_test n k h = grind (arith, nat_tests)
 
-there_may : (r : Region) (x : Itv) → is_there r x ≡ true → may_be_there r x ≡ true
-there_may r x there = true_both (nat_lt x.0 (length r.bounds)) _ (below_test x.0 (length r.bounds) (beyond r.bounds x.0 there)) (not_absent (bounds_of r x).presence there)
-
--- an order that isn't known is one of two that are there, and is unknown
-unknown_parts : (b c : Bool) → (b implies not c) ≡ false → (b ≡ true) × (c ≡ true)
-unknown_parts true true h = (refl, refl)
-unknown_parts true false h = cc
-unknown_parts false c h = cc
-
-before_splits : (r : Region) (p : Seq) (x y : Itv) → nat_lt p.0 (length r.orders) ≡ true → has (cells_of r p).members x ≡ true → is_other (cells_of r p).members x y ≡ true
-    → is_known_order r (cells_of r p) x y ≡ false → (admits_topic r (Two p x y) && is_ready r (Two p x y)) ≡ true
-before_splits r p x y within member other unsettled =
-    let others = both_true (has (cells_of r p).members y) _ other in
-    let parts = unknown_parts (is_there r x && is_there r y) (says_unknown (order_in (cells_of r p) x y)) unsettled in
-    let there = both_true (is_there r x) (is_there r y) parts.0 in
-    let between : is_open_between (cells_of r p) x y ≡ true = true_both _ _ (true_both _ _ (true_both _ _ member others.0) others.1) parts.1 in
-    true_both (admits_topic r (Two p x y)) _ (true_both _ _ (true_both _ _ (true_both _ _ within between) (there_may r x there.0)) (there_may r y there.1)) parts.0
-
 -- an element of a list of which all pass
 passes_at : {X : Type 0} (t : X → Bool) (xs : List X) (i : ℕ) (d : X) → list_all t xs ≡ true → i < length xs → t (get_or xs i d) ≡ true
 passes_at t [] i d h within = absurd (omega (arith, within))
 passes_at t (x ∷ xs) zero d h within = (both_true (t x) (list_all t xs) h).0
 passes_at t (x ∷ xs) (suc i) d h within = passes_at t xs i d (both_true (t x) (list_all t xs) h).1 (omega (arith, within))
-
-pub later_cuts : (r : Region) (p : Seq) (x y : Itv) (later : List Itv) (i : ℕ) → IsLater r p x later → i < length later → y ≡ get_or later i y → is_known_order r (cells_of r p) x y ≡ false → CutsRegion r (Before p x y)
-later_cuts r p x y later i of within at unsettled = record {
-  splits_it = before_splits r p x y (below_test p.0 (length r.orders) of.within) of.member (subst (λ z. is_other (cells_of r p).members x z ≡ true) (sym at) (passes_at (is_other (cells_of r p).members x) later i y of.others within)) unsettled;
-  cuts_it = tt;
-}
 
 -- the members behind one are others
 more_have : (m : Itv) (ms ys : List Itv) → list_all (has ms) ys ≡ true → list_all (has (m ∷ ms)) ys ≡ true

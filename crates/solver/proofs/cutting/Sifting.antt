@@ -73,28 +73,6 @@ leaves_place list i n place long = record {
   below = λ k all. swap_all (λ x. x < k) list i n (omega (arith, place, long)) (omega (arith, long)) all;
 }
 
--- and where that interval is fixed, those that aren't are still among them
-pub leave_holds : (r : Region) (i : ℕ) (old new : OpenList) → Leaves i old new → is_fixed (bounds_of r (record { 0 = slice_index_or old.list i 0 })) ≡ true → HoldsOpen r old.list old.count → HoldsOpen r new.list new.count
-leave_holds r i old new leaves fixed holds x within unfixed =
-    leaves.others x.0 (holds x within unfixed) (λ same. true≢false (sym fixed ∙ ap (λ (k : ℕ). is_fixed (bounds_of r (record { 0 = k }))) (sym same) ∙ unfixed))
-
-pub leave_open : (r : Region) (i : ℕ) (old new : OpenList) → Leaves i old new → is_fixed (bounds_of r (record { 0 = slice_index_or old.list i 0 })) ≡ true → IsOpenList r old → IsOpenList r new
-leave_open r i old new leaves fixed is = record {
-  within = omega (arith, is.within, leaves.sifts.size, leaves.one);
-  below = leaves.below (length r.bounds) is.below;
-  holds = leave_holds r i old new leaves fixed is.holds;
-}
-
-pub sifts_none : (unfixed : OpenList) → Sifts unfixed unfixed
-sifts_none unfixed = record { fewer = omega arith; size = refl; kept = λ count x more within among. among }
-
-pub sifts_on : (a b c : OpenList) → Sifts a b → Sifts b c → Sifts a c
-sifts_on a b c first second = record {
-  fewer = omega (arith, first.fewer, second.fewer);
-  size = second.size ∙ first.size;
-  kept = λ count x more within among. second.kept count x (omega (arith, first.fewer, more)) (omega (arith, within, first.size)) (first.kept count x more within among);
-}
-
 -- where none is among the first ones all are fixed
 pub none_open : (r : Region) (unfixed : OpenList) → IsOpenList r unfixed → unfixed.count ≡ 0 → list_all is_fixed r.bounds ≡ true
 none_open r unfixed is none = all_at r.bounds (λ n within. fixed_or n within (is_fixed (get_or r.bounds n unknown)) refl)

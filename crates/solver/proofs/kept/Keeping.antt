@@ -84,16 +84,6 @@ roomy_ready p m s k ready = record {
   holds = ready.holds;
 }
 
--- the list was sifted, and there may be other room
-abbrev chosen_with : {P : Type 0} → Search P → OpenList → ℕ → Search P
-chosen_with s xs k = record s { intervals = xs; region = record s.region { spare = k } }
-
-pub chosen_is : {P : Type 0} (s t : Search P) → t ≡ record s { intervals = t.intervals } → t ≡ record s { intervals = t.intervals; region = record s.region { spare = t.region.spare } }
-chosen_is s t same = same ∙ ap (chosen_with s t.intervals) (sym (ap (λ u. u.region.spare) same))
-
-pub open_list : {P : Type 0} (p : Ghosts P) (m : Data) (s : Search P) → IsReady p m s → IsOpenList s.region.region s.intervals
-open_list p m s ready = record { within = ready.within; below = ready.holding.below; holds = ready.holds }
-
 -- the first part of a split, and a mark beside the save
 pub split_of : (m : Data) (old new : Held) (g : Guess) → IsHeldOf m old → splits old.region g ≡ true → new.region ≡ with_guess g old.region → new.saved ≡ old.saved ++ old.region ∷ [] → IsHeldOf m new
 split_of m old new g of splits region saved = record {

@@ -8,7 +8,7 @@ use Rattle.sched_base.specs.declared.ids.Stf.{Stf}
 use Rattle.sched_model.specs.declared.types.Slot.{Slot}
 use Rattle.sched_model.specs.declared.types.Segment.{Segment}
 use Rattle.sched_model.specs.declared.types.Constraint.{Constraint}
-use Rattle.sched_model.specs.declared.types.Constraint.TheVariants.{Temporal, Logic, Span, Alternative, Synchronize, NoOverlap, First, Last, Before, Prev, CumulIn, AlwaysEqual, AlwaysNoState}
+use Rattle.sched_model.specs.declared.types.Constraint.TheVariants.{AlwaysEqual, AlwaysNoState}
 use Rattle.refute_state.specs.declared.stretch.Stretch.{Stretch}
 use Rattle.refute_state.specs.code.Groups.{is_linked, is_first_of, placed, absorbed, others, with_demand, groups_from, groups_of, are_joined, segment_of, extended, runs_from, runs, canonical_of}
 use Rattle.refute_state.specs.code.Canonical.{stretch_of}
@@ -58,17 +58,7 @@ IsOf ss h c = (g : Stf) → (h ≡ g.0 → ⊥) → stretch_of ss g c ≡ None
 of_one : (ss : List Slot) (c : Constraint) → (h : ℕ) × IsOf ss h c
 of_one ss (AlwaysEqual h x v i j) = (h.0, λ g other. rw (differs h.0 g.0 other) refl)
 of_one ss (AlwaysNoState g x) = (0, λ g other. refl)
-of_one ss (Temporal from to equal x y z) = (0, λ g other. refl)
-of_one ss (Logic e) = (0, λ g other. refl)
-of_one ss (Span x parts) = (0, λ g other. refl)
-of_one ss (Alternative x parts) = (0, λ g other. refl)
-of_one ss (Synchronize x parts) = (0, λ g other. refl)
-of_one ss (NoOverlap p matrix direct) = (0, λ g other. refl)
-of_one ss (First p x) = (0, λ g other. refl)
-of_one ss (Last p x) = (0, λ g other. refl)
-of_one ss (Before p x y) = (0, λ g other. refl)
-of_one ss (Prev p x y) = (0, λ g other. refl)
-of_one ss (CumulIn f w lo hi) = (0, λ g other. refl)
+of_one ss other = (0, λ g other. refl)
 
 one_more : {X : Type 0} (o : Option X) (xs : List X) → length (cons_option o xs) ≤ 1 + length xs
 one_more None xs = omega arith

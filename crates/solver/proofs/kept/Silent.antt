@@ -47,22 +47,6 @@ aimed_ready p m s f e ready valued for calm = record {
   holds = ready.holds;
 }
 
--- a run broke off
-pub broken_holding : {P : Type 0} (p : Ghosts P) (m : Data) (s : Search P) (h : Held) (e : EngineValue P) → IsHolding p m s → IsHeldOf m h → h.saved ≡ s.region.saved → h.promised ≡ s.region.promised
-    → IsFor p m e → (let t : Search P = record s { region = h; engine = e } in IsHolding p m t)
-broken_holding p m s h e holding of saved promised for =
-    let size : length h.region.bounds ≡ length s.region.region.bounds = sym (as_many_bounds m h.region of.region) ∙ as_many_bounds m s.region.region holding.of.region in
-    record {
-      of = of;
-      pending = pending_kept s.region h s.pending saved promised holding.pending;
-      engine = for;
-      energy = holding.energy;
-      below = subst (λ n. All (λ x. x < n) s.intervals.list) (sym size) holding.below;
-      marks = subst (λ rs. AreMarked (AreQuiet p m) s.intervals.list rs s.marks.items) (sym saved) holding.marks;
-      fewer = holding.fewer;
-      valued = holding.valued;
-    }
-
 -- the region and its saves are as they were
 abbrev pub rested_with : {P : Type 0} → Search P → EngineValue P → ℕ → Search P
 rested_with s e k = record s { engine = e; region = record s.region { spare = k } }
@@ -96,16 +80,6 @@ chosen_at_once s t same =
 pub chosen_then : {P : Type 0} (s t u : Search P) → t ≡ record s { intervals = t.intervals } → u ≡ rested_with t u.engine u.region.spare → u ≡ chosen_from s u.engine u.intervals u.region.spare
 chosen_then s t u first second =
     second ∙ ap (λ v. rested_with v u.engine u.region.spare) first ∙ ap (λ xs. chosen_from s u.engine xs u.region.spare) (sym (ap (λ v. v.intervals) second))
-
--- nothing was tried yet, and one more try
-pub unmoved_yet : {P : Type 0} (p : Ghosts P) (m : Data) (s : Search P) → IsResting p m s → IsUnmoved p m s s
-unmoved_yet p m s resting = record { resting = resting; same = refl }
-
-pub unmoved_again : {P : Type 0} (p : Ghosts P) (m : Data) (s t u : Search P) → IsUnmoved p m s t → IsUnmoved p m t u → IsUnmoved p m s u
-unmoved_again p m s t u first second = record {
-  resting = second.resting;
-  same = second.same ∙ ap (λ v. rested_with v u.engine u.region.spare) first.same;
-}
 
 pub unmoved_by : {P : Type 0} (p : Ghosts P) (m : Data) (s : Search P) (e : EngineValue P) (k : ℕ) → IsResting p m s → IsFor p m e → IsCalm p m s.region.region (best_of s.found) e
     → IsUnmoved p m s (rested_with s e k)

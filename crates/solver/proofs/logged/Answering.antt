@@ -8,6 +8,8 @@ use Rattle.sched_model.specs.declared.types.Objective.{Objective}
 use Rattle.sched_model.specs.declared.types.Solved.{Solved}
 use Rattle.sched_model.specs.Data.{Data}
 use Rattle.sched_model.specs.Words.{is_empty}
+use Rattle.sched_model.specs.Valid.{IsValid}
+use Rattle.sched_model.specs.laws.Better.{better_told}
 use Rattle.region.specs.Cells.{Region}
 use Rattle.kernel.specs.laws.Budget.{budget_with}
 use Rattle.kernel.specs.declared.types.Found.{Found}
@@ -32,13 +34,16 @@ no_objective None value h = refl
 no_objective (Some o) value h = cc
 
 -- with a log that is closed
-best_is : (m : Data) (f : Found) (v : Option ℤ) → f.value ≡ v → IsFound m f → Means m (best_verdict v) → IsAnswer m (best_answer v f.assignment)
-best_is m f None is found means = record { solution = found.solution; plain = no_objective m.objective _ (sym found.value ∙ is) }
-best_is m f (Some v) is found means = record { is_one = record { solution = found.solution; value = sym found.value ∙ is }; none_better = means.unbeaten }
+best_is : (m : Data) (f : Found) (v : Option ℤ) → IsValid m → f.value ≡ v → IsFound m f → Means m (best_verdict v) → IsAnswer m (best_answer v f.assignment)
+best_is m f None valid is found means = record { solution = found.solution; plain = no_objective m.objective _ (sym found.value ∙ is) }
+best_is m f (Some v) valid is found means = record {
+  is_one = record { solution = found.solution; value = sym found.value ∙ is };
+  none_better = λ b solution better. means.unbeaten b solution (better_told m f.assignment b v valid found.solution.domain solution.domain (sym found.value ∙ is) ∙ better);
+}
 
-closed_is : (m : Data) (found : Option Found) → IfFound m found → Means m (closed_verdict found) → IsAnswer m (closed_answer found)
-closed_is m None is means = means
-closed_is m (Some f) is means = best_is m f f.value refl is means
+closed_is : (m : Data) (found : Option Found) → IsValid m → IfFound m found → Means m (closed_verdict found) → IsAnswer m (closed_answer found)
+closed_is m None valid is means = means
+closed_is m (Some f) valid is means = best_is m f f.value valid refl is means
 
 best_shows : (v : Option ℤ) (a : Assignment) → (best_verdict v ≡ verdict_in (best_answer v a)) × (Some a ≡ shown_in (best_answer v a)) × (is_unfinished (best_answer v a) ≡ false)
 best_shows None a = (refl, refl, refl)
@@ -95,17 +100,17 @@ pub record Ended (limit : ℕ) (more : Bool) (s : LogState) : Type 0 where
   pub limited : more ≡ true → s.nodes ≡ limit
   pub valued : more ≡ true → (f : Found) → s.found ≡ Some f → f.value ≡ None → ⊥
 
-by_more : (m : Data) (limit : ℕ) (s : LogState) (solved : Solved) (more : Bool) → Ended limit more s → IfFound m s.found → is_empty (open_regions s) ≡ not more
+by_more : (m : Data) (limit : ℕ) (s : LogState) (solved : Solved) (more : Bool) → IsValid m → Ended limit more s → IfFound m s.found → is_empty (open_regions s) ≡ not more
     → Means m (if not more then closed_verdict s.found else Unclosed (best_of s.found)) → solved.answer ≡ answer_from more s.found → Shows m limit s solved
-by_more m limit s solved false ended found is means same =
+by_more m limit s solved false valid ended found is means same =
     let shows = closed_shows s.found in
     record {
       verdict = ap (λ b. if b then closed_verdict s.found else Unclosed (best_of s.found)) is ∙ shows.0 ∙ ap verdict_in (sym same);
       shown = shows.1 ∙ ap shown_in (sym same);
       limited = λ h. not_false _ shows.2 (sym (ap is_unfinished same) ∙ h);
-      answer = subst (IsAnswer m) (sym same) (closed_is m s.found found means);
+      answer = subst (IsAnswer m) (sym same) (closed_is m s.found valid found means);
     }
-by_more m limit s solved true ended found is means same =
+by_more m limit s solved true valid ended found is means same =
     record {
       verdict = ap (λ b. if b then closed_verdict s.found else Unclosed (best_of s.found)) is ∙ ap Unclosed (valued_best s.found) ∙ ap verdict_in (sym same);
       shown = valued_shows s.found (ended.valued refl) ∙ ap shown_in (sym same);
@@ -124,10 +129,10 @@ empty_is : (limit : ℕ) (more : Bool) (s : LogState) → Ended limit more s →
 empty_is limit false s ended = ap is_empty (ended.none refl)
 empty_is limit true s ended = not_empty s.waiting (ended.some refl)
 
-pub shows : (m : Data) (limit : ℕ) (more : Bool) (s : LogState) (solved : Solved) → Ended limit more s → IfFound m s.found → Means m (verdict_of s) → solved.answer ≡ answer_from more s.found → Shows m limit s solved
-shows m limit more s solved ended found means same =
+pub shows : (m : Data) (limit : ℕ) (more : Bool) (s : LogState) (solved : Solved) → IsValid m → Ended limit more s → IfFound m s.found → Means m (verdict_of s) → solved.answer ≡ answer_from more s.found → Shows m limit s solved
+shows m limit more s solved valid ended found means same =
     let is : is_empty (open_regions s) ≡ not more = ap is_empty (only_waiting s ended.closed) ∙ empty_is limit more s ended in
-    by_more m limit s solved more ended found is (subst (λ b. Means m (if b then closed_verdict s.found else Unclosed (best_of s.found))) is means) same
+    by_more m limit s solved more valid ended found is (subst (λ b. Means m (if b then closed_verdict s.found else Unclosed (best_of s.found))) is means) same
 
 has_value : (m : Data) (found : Option Found) (f : Found) → IfSome found (HasValue m) → found ≡ Some f → f.value ≡ None → ⊥
 has_value m None f has is none = cc
@@ -148,10 +153,10 @@ ended_is p m limit true s limited ready = record {
 }
 
 -- the whole log was written
-pub solved_with : (m : Data) (limits : Limits) (more : Bool) (s : LogState) (lines : List PlainLine) (solved : Solved) (old new : State) → Ended limits.nodes more s → IfFound m s.found → Means m (verdict_of s)
+pub solved_with : (m : Data) (limits : Limits) (more : Bool) (s : LogState) (lines : List PlainLine) (solved : Solved) (old new : State) → IsValid m → Ended limits.nodes more s → IfFound m s.found → Means m (verdict_of s)
     → s.nodes < budget_with m (restarts_in lines) → solved.nodes ≡ s.nodes → solved.answer ≡ answer_from more s.found → IsWritten m limits lines s → new ≡ record old { logged = appended (plain_log (version_of limits.restarts) lines) old.logged } → Solves m limits solved old new
-solved_with m limits more s lines solved old new ended found means below nodes same written logged =
-    let says = shows m limits.nodes more s solved ended found means same in
+solved_with m limits more s lines solved old new valid ended found means below nodes same written logged =
+    let says = shows m limits.nodes more s solved valid ended found means same in
     record {
       lines = lines;
       state = s;

@@ -85,12 +85,6 @@ settled_quiet quiet n m best r Quiet ends counts settled = ends
 settled_quiet quiet n m best r (Failed w) ends counts settled = tt
 settled_quiet quiet n m best r Capped ends counts settled = true≢false (sym settled ∙ counts.1)
 
--- nor is it refuted where it goes on
-pub unless_failed : (quiet : Type 0) (stop : Stop) → is_failed stop ≡ false → QuietUnlessFailed quiet stop → quiet
-unless_failed quiet Quiet goes all = all
-unless_failed quiet (Failed w) goes all = cc
-unless_failed quiet Capped goes all = absurd all
-
 -- what is left of it is a solution
 pub settled_closes : (m : Data) (r : Region) (best : Option ℤ) (a : Assignment) → IsValid m → IsRegionOf m r → is_settled r ≡ true → IsQuietRegion m r best → a ≡ settled_assignment m r → Closes m r best false (Sol a)
 settled_closes m r best a valid of settled quiet is = (settled, is, quiet_solves m r best valid of settled quiet)

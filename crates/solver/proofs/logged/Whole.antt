@@ -54,9 +54,6 @@ front_within v lines text rest n is inside = omega (arith, inside, length-append
 logged_is : (old new : State) (o : Option Bytes) (k : ℕ) → new ≡ record old { logged = o; faults = k } → new ≡ record old { logged = new.logged; faults = new.faults }
 logged_is old new o k is = is ∙ ap (λ (s : State). let t : State = record old { logged = s.logged; faults = s.faults } in t) (sym is)
 
-faults_stay : (old new : State) (o : Option Bytes) → new ≡ record old { logged = o } → new ≡ record old { logged = o; faults = old.faults }
-faults_stay old new o is = is
-
 pub begins_put : (m : Data) (limits : Limits) (lines : List PlainLine) (s : LogState) (text rest kept : Bytes) (old new : State) → IsWritten m limits lines s → text ++ rest ≡ plain_log (version_of limits.restarts) lines → Puts text [] kept old new → BeginsLog m limits old new
 begins_put m limits lines s text rest kept old new written is puts = record {
   lines = lines;

@@ -157,13 +157,6 @@ named_calm is = puts_calm is.puts
 pub named_faults : {S : Type 0} {text held kept : Bytes} {a b : State} → PutsNamed S text held kept a b → b.faults ≡ a.faults
 named_faults is = puts_faults is.puts
 
--- one line
-pub named_line : {S : Type 0} (line : PlainLine) (result : Result (Unit {0}) Failed) {held kept : Bytes} {a b : State} → S → IsOk result → Gathers Log (plain_text line) result held kept a b → PutsNamed S (plain_lines (line ∷ [])) held kept a b
-named_line line result {held} {kept} {a} {b} same ok is = record { named = same; puts = subst (λ (t : Bytes). Puts t held kept a b) (sym (append-nil (plain_text line))) (gathered (plain_text line) result ok is) }
-
-pub named_break : {S : Type 0} (line : PlainLine) (f : Failed) {held kept : Bytes} {a b : State} → S → Gathers Log (plain_text line) (Err f) held kept a b → BreaksNamed S (plain_lines []) (plain_text line) held a b
-named_break line f same is = record { named = same; breaks = broken (plain_text line) f is }
-
 -- one without an extra witness, which a log may hold, is spelled as it stands in a log
 has_none : (line : Plain) → is_fit is_never line ≡ true → has_extra line ≡ false
 has_none (Derive g (witness.Basic w)) fit = refl
@@ -184,11 +177,3 @@ has_none Restart fit = refl
 
 spelled : (line : Plain) → is_fit is_never line ≡ true → line_text no_numbers line ≡ plain_text (lifted line)
 spelled line fit = sym (same_spelling line (has_none line fit))
-
-pub lifted_line : {S : Type 0} (line : Plain) (result : Result (Unit {0}) Failed) {held kept : Bytes} {a b : State} → is_fit is_never line ≡ true → S → IsOk result → Gathers Log (line_text no_numbers line) result held kept a b
-    → PutsNamed S (plain_lines (lifted line ∷ [])) held kept a b
-lifted_line line result {held} {kept} {a} {b} fit same ok is = named_line (lifted line) result same ok (subst (λ (t : Bytes). Gathers Log t result held kept a b) (spelled line fit) is)
-
-pub lifted_break : {S : Type 0} (line : Plain) (f : Failed) {held kept : Bytes} {a b : State} → is_fit is_never line ≡ true → S → Gathers Log (line_text no_numbers line) (Err f) held kept a b
-    → BreaksNamed S (plain_lines []) (plain_text (lifted line)) held a b
-lifted_break line f {held} {kept} {a} {b} fit same is = named_break (lifted line) f same (subst (λ (t : Bytes). Gathers Log t (Err f) held kept a b) (spelled line fit) is)

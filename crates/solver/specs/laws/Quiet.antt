@@ -8,7 +8,7 @@ use Rattle.std.proofs.lemmas.Bool.{not-false}
 use Rattle.base_laws.specs.laws.Items.{all_listed, all_at}
 use Rattle.sched_model.specs.declared.types.Assignment.{Assignment}
 use Rattle.sched_model.specs.declared.types.Constraint.{Constraint}
-use Rattle.sched_model.specs.declared.types.Constraint.TheVariants.{Temporal, Logic, Span, Alternative, Synchronize, NoOverlap, First, Last, Before, Prev, CumulIn, AlwaysEqual, AlwaysNoState}
+use Rattle.sched_model.specs.declared.types.Constraint.TheVariants.{Temporal, Logic, NoOverlap, First, Last, Before, Prev, CumulIn, AlwaysEqual, AlwaysNoState}
 use Rattle.sched_base.specs.declared.ids.Seq.{Seq}
 use Rattle.sched_model.specs.declared.types.Objective.{Objective}
 use Rattle.sched_model.specs.Words.{◌implies◌, passes, passes_if_any, placewise}
@@ -125,9 +125,6 @@ record IsKept (m : Data) (r : Region) (a : Assignment) (c : Constraint) : Type 0
 kept_holds : (m : Data) (r : Region) (a : Assignment) (c : Constraint) → a.slots ≡ settled_slots r → IsKept m r a c → holds m a c ≡ true
 kept_holds m r a (Temporal from to equal x y z) same kept = holds_same m a (settled_alone r) same (Temporal from to equal x y z) refl ∙ kept.leaf
 kept_holds m r a (Logic e) same kept = holds_same m a (settled_alone r) same (Logic e) refl ∙ kept.leaf
-kept_holds m r a (Span x parts) same kept = kept.family
-kept_holds m r a (Alternative x parts) same kept = kept.family
-kept_holds m r a (Synchronize x parts) same kept = kept.family
 kept_holds m r a (NoOverlap p matrix direct) same kept = kept.apart
 kept_holds m r a (First p x) same kept = kept.related
 kept_holds m r a (Last p x) same kept = kept.related
@@ -136,6 +133,7 @@ kept_holds m r a (Prev p x y) same kept = kept.related
 kept_holds m r a (CumulIn f w lo hi) same kept = kept.level
 kept_holds m r a (AlwaysEqual g x v i j) same kept = kept.state
 kept_holds m r a (AlwaysNoState g x) same kept = kept.state
+kept_holds m r a other same kept = kept.family
 
 -- no witness of an interval and its parts, of a sequence, or of a cumulative or a state function refutes
 pub record NoneRefutes (m : Data) (l : Seen) : Type 0 where

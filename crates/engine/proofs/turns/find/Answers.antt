@@ -1,4 +1,4 @@
-use Rattle.std.proofs.Common.{◌≡◌, ℕ, false, refl, sym, ap, subst, ◌∙◌, ◌<◌}
+use Rattle.std.proofs.Common.{◌≡◌, ℕ, false, refl, sym, ap, subst, ◌∙◌, ◌<◌, arith}
 use Rattle.wake_levels.specs.code.Waking.{Waking, is_awake, without_on_all, woken_on}
 use Rattle.engine.proofs.Turning.{asleep, later, quiet_all, asleep_all}
 use Rattle.engine.proofs.turns.find.Goals as goal
@@ -28,13 +28,15 @@ awake-preserved-in_default-2 g c =
 
 pub awake-smaller-then-can_wait : goal.awake-smaller-then-can_wait
 awake-smaller-then-can_wait g c =
-    (later (g.P.Propagator.size c.args.model.now) c.min-late.result (λ k. g.P.Propagator.quiet c.args.model.now k c.args.region.now.region c.args.best) c.awake.levels c.put_off.new.levels _ c.in-Some.turn
-    c.in-Some.ensures.turn refl c.awake.invariant.within c.if-turn-late.true (c.put_off.ensures ∙ ap (λ (w : Waking). record w { levels = woken_on c.in-Some.turn.k c.min-late.result (without_on_all c.in-Some.turn.k w.levels) }) c.first.ensures.same) c.awake.invariant.calm).lighter
+    (later (g.P.Propagator.size c.args.model.now) c.level_behind-behind.result (λ k. g.P.Propagator.quiet c.args.model.now k c.args.region.now.region c.args.best) c.awake.levels c.put_off.new.levels _ c.in-Some.turn
+    c.in-Some.ensures.turn refl (rw c.first.ensures.same at c.level_behind-behind.ensures.within) (omega (arith, c.if-turn-late.true, c.level_behind-behind.ensures.behind))
+    (c.put_off.ensures ∙ ap (λ (w : Waking). record w { levels = woken_on c.in-Some.turn.k c.level_behind-behind.result (without_on_all c.in-Some.turn.k w.levels) }) c.first.ensures.same) c.awake.invariant.calm).lighter
 
 pub awake-preserved-then-can_wait : goal.awake-preserved-then-can_wait
 awake-preserved-then-can_wait g c =
-    let now = later (g.P.Propagator.size c.args.model.now) c.min-late.result (λ k. g.P.Propagator.quiet c.args.model.now k c.args.region.now.region c.args.best) c.awake.levels c.put_off.new.levels _ c.in-Some.turn
-    c.in-Some.ensures.turn refl c.awake.invariant.within c.if-turn-late.true (c.put_off.ensures ∙ ap (λ (w : Waking). record w { levels = woken_on c.in-Some.turn.k c.min-late.result (without_on_all c.in-Some.turn.k w.levels) }) c.first.ensures.same) c.awake.invariant.calm in
+    let now = later (g.P.Propagator.size c.args.model.now) c.level_behind-behind.result (λ k. g.P.Propagator.quiet c.args.model.now k c.args.region.now.region c.args.best) c.awake.levels c.put_off.new.levels _ c.in-Some.turn
+    c.in-Some.ensures.turn refl (rw c.first.ensures.same at c.level_behind-behind.ensures.within) (omega (arith, c.if-turn-late.true, c.level_behind-behind.ensures.behind))
+    (c.put_off.ensures ∙ ap (λ (w : Waking). record w { levels = woken_on c.in-Some.turn.k c.level_behind-behind.result (without_on_all c.in-Some.turn.k w.levels) }) c.first.ensures.same) c.awake.invariant.calm in
     record {
       of = c.can_wait.ensures.kept;
       below = now.below ∙ c.awake.invariant.below;

@@ -6,9 +6,9 @@ use Rattle.prop_unary.proofs.pairs.ask_told_places.Goals as goal
 
 pub loop-k-preserved : goal.loop-k-preserved
 loop-k-preserved c = record {
-  told = between_more (SilentRow c.args.model.now c.args.region.now.region c.args.best c.args.d.now Forward c.args.members.now) c.args.members.now c.args.from c.loop-k.k c.loop-k.invariant.told c.in_default.ensures.none;
+  told = between_more (SilentRow c.args.view.now.model.now c.args.view.now.region.now.region c.args.view.now.best c.args.d.now Forward c.args.members.now) c.args.members.now c.args.from c.loop-k.k c.loop-k.invariant.told c.in_default.ensures.none;
   free = λ closed. let two = c.in_default.ensures.free closed in let before = c.loop-k.invariant.free two.0 in
-      (before.0, between_more (SilentRow c.args.model.now c.args.region.now.region c.args.best c.args.d.now Unknown c.args.members.now) c.args.members.now c.args.from c.loop-k.k before.1 two.1);
+      (before.0, between_more (SilentRow c.args.view.now.model.now c.args.view.now.region.now.region c.args.view.now.best c.args.d.now Unknown c.args.members.now) c.args.members.now c.args.from c.loop-k.k before.1 two.1);
 }
 
 pub returns-clause-none : goal.returns-clause-none

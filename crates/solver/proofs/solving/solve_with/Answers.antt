@@ -77,6 +77,6 @@ returns g c =
     let keeps = c.loses_nothing.ensures in
     let valid = c.in_ok-search.ensures.valid in
     subst (λ d. Solves m limits (record { nodes = search.nodes; answer = c.answer_from.result }) start (g.D.Desk.state d)) (sym (c.desk-2-1.given.1 logged.put.named))
-    (solved_with m limits more (state_in more search) logged.lines (record { nodes = search.nodes; answer = c.answer_from.result }) start last ended
+    (solved_with m limits more (state_in more search) logged.lines (record { nodes = search.nodes; answer = c.answer_from.result }) start last valid ended
     (keeps.keeps m logged.lines (state_in more search) valid logged.written.log.steps).found_is (keeps.verdict m logged.lines (state_in more search) valid logged.written.log.steps) (keeps.few m logged.lines (state_in more search) valid logged.written.log.steps) refl c.answer_from.ensures logged.written
     (end_puts (version_of c.args.restarts) logged.lines c.write_head.new.self c.run-ended.new.lines.writer c.write_end.new.self start mid now last head logged.put.puts (gathered end_text (Ok tt) refl c.in_ok-write_end.ensures.gathers) c.in_ok-write_end.ensures.none))
