@@ -1,8 +1,7 @@
 #!/usr/bin/env bash
 # Writes the models of the samples with the scripts of this folder, solves them, and compares: the answer with the one that
 # is wanted, what `check` says of the log, that what `solve` printed is a solution by `verify`, and the answers written as
-# CSV, as JSON and into the table with the files of samples/, and the schedule that is read from a log that was cut with the
-# one that was printed. Texts of no use have to end a script with one line. The script
+# CSV, as JSON and into the table with the files of samples/. Texts of no use have to end a script with one line. The script
 # that stands in docs/FROM_OTHER_TOOLS.md is run as it stands there. It ends with status 1 where something differs.
 # usage: tools/test.sh [PROGRAM]
 # It wants a built program: (cd crates/schedtool && rt run -- solve ../../examples/two_in_a_row.cpo two_in_a_row.log)
@@ -51,9 +50,6 @@ python3 "$here/answer.py" "$samples/oven.txt" --json | diff - "$samples/oven.jso
 python3 "$here/answer.py" "$samples/bakery.txt" --table "$samples/bakery.csv" | diff - "$samples/bakery_planned.csv" || differs bakery "another table"
 [ "$("$tool" verify bakery.cpo "$samples/bakery.txt" | head -n 1)" = valid ] || differs bakery "verify refuses the answer that is kept"
 
-# The log is that of the bakery.
-head -c -6 log > cut.log
-"$tool" show bakery.cpo | python3 "$here/last_plan.py" cut.log | diff - <(tail -n +3 bakery.txt) || differs bakery "another schedule in its log"
 printf '2 2\n0 3 1\n' > short.jsp
 ends "the file ends within job 0" "$here/jsplib.py" short.jsp
 printf '2 2\n0 3 1 x\n' > word.jsp
@@ -64,8 +60,6 @@ printf 'task,size,after\na,3,b\n' > after.csv
 ends "a stands after a task that isn't there: 'b'" "$here/table.py" after.csv
 printf 'task,length\na,3\n' > column.csv
 ends "a column that isn't known: length; there are task, size, from, until, after, on, uses, worth" "$here/table.py" column.csv
-ends "the log is of another model" "$here/last_plan.py" cut.log < /dev/null
-ends "the log has no solution yet" "$here/last_plan.py" /dev/null < /dev/null
 head -n 3 "$samples/oven.txt" > cut.txt
 ends "this is no whole answer: its last line isn't 'end'" "$here/answer.py" cut.txt
 

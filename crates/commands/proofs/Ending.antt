@@ -30,7 +30,6 @@ use Rattle.commands.specs.Ended.{is_success}
 use Rattle.commands.specs.Told.{usage_line, log_line, too_long_line}
 use Rattle.commands.specs.Runs.{Source, SourceDeserves, HasSource, ReadsSource, IsUnread, SolvePromise, shop_text, told_text, RunPromise, NeverRefused, EveryRun, CommandPromise, HasFiles, RefusesModel, ShowsPart, LogPromise, HoldsBegunLog, CutShort, AnswerPromise, ReportEnds, ReportPromise, ReadsBoth, ReadsFiles, ending_of, SolveEnds, VerifiesPart}
 use Rattle.commands.specs.VerifyText.{verify_text}
-use Rattle.sched_model.specs.Solution.{objective_of}
 use Rattle.commands.specs.Runs.Source.{file, generated}
 use Rattle.commands.specs.Runs.CutShort.{before_log, in_log, in_answer}
 use Rattle.cpo_elab.specs.Answers.Answer.{Refused}
@@ -306,7 +305,7 @@ module _ {V : Type 0} (r : Report V) (success : Ended) (model log : Bytes) (k : 
 
   part_told : (text : Bytes) (old s new : State) → PrintsPart r model log old s → Reports text s new → PrintsPart r model log old new
   part_told text old s new (inl out) reports = inl (ap (λ (x : State). x.out) reports.only ∙ out)
-  part_told text old s new (inr part) reports = inr (part.0, part.1, subst (λ b. AppendedFrom (r.text part.0) old.out b) (sym (ap (λ (x : State). x.out) reports.only)) part.2)
+  part_told text old s new (inr part) reports = inr (part.0, part.1, subst (λ b. AppendedFrom (r.text part.1.m part.0) old.out b) (sym (ap (λ (x : State). x.out) reports.only)) part.2)
 
   report_no_memory : (old s new : State) → s ≡ record old { model = s.model; log = s.log; out = s.out; faults = s.faults } → old.faults ≤ s.faults → s.out ≡ old.out → Reports memory_line s new → RunPromise (Some k) end.NoMemory old new
   report_no_memory old s new only later out reports = run_of end.NoMemory old new (no_memory k old s new (ap (λ (x : State). x.err) only) out later reports) (record {
@@ -365,7 +364,7 @@ schedule_read schedule text old s new far reports = subst (λ (p : Place). Reads
 
 verified_told : (model schedule text : Bytes) (old s new : State) → VerifiesPart model schedule old s → Reports text s new → VerifiesPart model schedule old new
 verified_told model schedule text old s new (inl out) reports = inl (ap (λ (x : State). x.out) reports.only ∙ out)
-verified_told model schedule text old s new (inr part) reports = inr (part.0, part.1, part.2, subst (λ b. AppendedFrom (verify_text (objective_of part.0 part.1)) old.out b) (sym (ap (λ (x : State). x.out) reports.only)) part.3)
+verified_told model schedule text old s new (inr part) reports = inr (part.0, part.1, part.2, subst (λ b. AppendedFrom (verify_text part.0 part.1) old.out b) (sym (ap (λ (x : State). x.out) reports.only)) part.3)
 
 pub verified : (model schedule : Bytes) (e : Ended) (old new : State) → TriesVerify model schedule (Ok e) old new → RunPromise (Some (Verify model schedule)) e old new
 verified model schedule e old new tries = subst (λ x. RunPromise (Some (Verify model schedule)) x old new) (sym tries.tried.1) (record {

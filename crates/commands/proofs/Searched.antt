@@ -5,6 +5,7 @@ use Rattle.sched_base.specs.State.{State, with_log}
 use Rattle.sched_base.specs.Calls.{Creates, appended}
 use Rattle.sched_model.specs.declared.types.Solved.{Solved}
 use Rattle.sched_model.specs.Data.{Data}
+use Rattle.sched_model.specs.Valid.{IsValid}
 use Rattle.kernel.specs.Refuting.{refutes_with}
 use Rattle.kernel.specs.Steps.{LogState, opening}
 use Rattle.textline.specs.Lines.{Bytes}
@@ -16,7 +17,9 @@ use Rattle.solver.specs.laws.Versions.{written_held}
 use Rattle.solver.specs.code.Solving.{IsSolved, Solves}
 use Rattle.commands.specs.Runs.{LogPromise}
 use Rattle.commands.specs.code.Tries.{Searches}
-use Rattle.commands.proofs.Logged.{last_shown, one_waits, unclosed}
+use Rattle.commands.proofs.Valued.{tells_values}
+use Rattle.replay.specs.lemmas.LastSchedule.{last_shown}
+use Rattle.commands.proofs.Logged.{one_waits, unclosed}
 
 created_empty : (text : Bytes) (before : Option Bytes) → appended text (option_map (λ bs. []) before) ≡ option_map (λ bs. text) before
 created_empty text None = refl
@@ -38,11 +41,11 @@ log_promise m limits solved lines state before is = record {
   );
 }
 
-pub searched : (m : Data) (log : Bytes) (limits : Limits) (solved : Solved) (s c t : State) (u : Unit {0}) → Creates log (Ok u) s c → Solves m limits solved c t → Searches m log limits (Ok solved) s t
-searched m log limits solved s c t u creates solves =
+pub searched : (m : Data) (log : Bytes) (limits : Limits) (solved : Solved) (s c t : State) (u : Unit {0}) → IsValid m → Creates log (Ok u) s c → Solves m limits solved c t → Searches m log limits (Ok solved) s t
+searched m log limits solved s c t u valid creates solves =
     let text : Bytes = plain_log (version_of limits.restarts) solves.lines in
     let is : t ≡ record s { logged = option_map (λ bs. text) s.logged; created = true; logs = with_log log s.logs } =
     solves.logged
     ∙ ap (λ (x : State). record x { logged = appended text x.logged }) creates.created
     ∙ ap (λ l. record s { logged = l; created = true; logs = with_log log s.logs }) (created_empty text s.logged) in
-    subst (Searches m log limits (Ok solved) s) (sym is) (log_promise m limits solved solves.lines solves.state s.logged solves.is, solves.is.answer, refl)
+    subst (Searches m log limits (Ok solved) s) (sym is) (log_promise m limits solved solves.lines solves.state s.logged solves.is, solves.is.answer, refl, tells_values m solved.answer valid solves.is.answer)

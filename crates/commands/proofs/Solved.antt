@@ -119,7 +119,7 @@ printed m limits solved model log ended u old s t w reads unread kept deserved f
       tried = (
         kept,
         success,
-        record { m = m; solved = solved; deserved = deserved; answer = says.1; ending = ending; enough = λ h is. never_ends solved.answer (says.0.enough h) (sym ending ∙ is); printed = refl; created = (refl, refl); written = answered_log m log limits solved old s t reads says },
+        record { m = m; solved = solved; deserved = deserved; answer = says.1; values = says.3; ending = ending; enough = λ h is. never_ends solved.answer (says.0.enough h) (sym ending ∙ is); printed = refl; created = (refl, refl); written = answered_log m log limits solved old s t reads says },
         far _ refl,
       );
     })

@@ -7,7 +7,6 @@ use Rattle.sched_base.specs.State.{State}
 use Rattle.sched_base.specs.Calls.{Rose, Writes, appended}
 use Rattle.sched_model.specs.declared.types.Assignment.{Assignment}
 use Rattle.sched_model.specs.Data.{Data}
-use Rattle.sched_model.specs.Solution.{objective_of}
 use Rattle.cpo_elab.specs.Answers.Answer.{Accepted}
 use Rattle.textline.specs.Lines.{Bytes}
 use Rattle.given_files.specs.declared.stop.Stop.TheVariants as given
@@ -26,9 +25,9 @@ read_behind schedule old s t reads far = subst (λ (files : Option (List File)).
 
 -- the text that says so was printed
 pub verify_printed : (m : Data) (model schedule bytes : Bytes) (a : Assignment) (u : Unit {0}) (old s t w : State) → OnlyReads old s → s.faults ≡ old.faults → FileDeserves old model (Accepted m) → ReadsModel model old s → OnlyTests s t → TestsFile m schedule (Ok a) s t
-    → bytes ≡ verify_text (objective_of m a) → Writes Out bytes (Ok u) t w → TriesVerify model schedule (Ok end.Done) old w
+    → bytes ≡ verify_text m a → Writes Out bytes (Ok u) t w → TriesVerify model schedule (Ok end.Done) old w
 verify_printed m model schedule bytes a u old s t w reads kept deserved far tested tests spelt writes =
-    let text : Bytes = verify_text (objective_of m a) in
+    let text : Bytes = verify_text m a in
     let faults : t.faults ≡ old.faults = tests.0 ∙ kept in
     let is : w ≡ record old { model = s.model; schedule = t.schedule; out = appended text old.out; faults = t.faults } =
     writes.written
@@ -42,9 +41,9 @@ verify_printed m model schedule bytes a u old s t w reads kept deserved far test
 
 -- or a front part of it
 pub verify_half_printed : (m : Data) (model schedule bytes : Bytes) (a : Assignment) (e : Failed) (old s t w : State) → OnlyReads old s → s.faults ≡ old.faults → FileDeserves old model (Accepted m) → OnlyTests s t → TestsFile m schedule (Ok a) s t
-    → bytes ≡ verify_text (objective_of m a) → Writes Out bytes (Err e) t w → TriesVerify model schedule (Err (stop.Given given.Fault)) old w
+    → bytes ≡ verify_text m a → Writes Out bytes (Err e) t w → TriesVerify model schedule (Err (stop.Given given.Fault)) old w
 verify_half_printed m model schedule bytes a e old s t w reads kept deserved tested tests spelt writes =
-    let text : Bytes = verify_text (objective_of m a) in
+    let text : Bytes = verify_text m a in
     let n : ℕ = writes.failed.0 in
     let here = both_only old s t reads tested in
     let faults : t.faults ≡ old.faults = tests.0 ∙ kept in

@@ -1,5 +1,4 @@
 pub mod Ended
-pub mod LastSchedule
 pub mod Runs
 pub mod Told
 pub mod VerifyText

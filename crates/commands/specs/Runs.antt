@@ -9,7 +9,7 @@ use Rattle.sched_model.specs.declared.types.Solved.{Solved}
 use Rattle.sched_model.specs.declared.types.Assignment.{Assignment}
 use Rattle.sched_model.specs.Words.{is_empty}
 use Rattle.sched_model.specs.Data.{Data}
-use Rattle.sched_model.specs.Solution.{objective_of}
+use Rattle.sched_model.specs.Solution.{criteria_values}
 use Rattle.cpo_text.specs.declared.text.Refusal.{Refusal}
 use Rattle.cpo_elab.specs.Answers.{Answer}
 use Rattle.cpo_elab.specs.Answers.Answer.{Accepted, Refused}
@@ -19,7 +19,7 @@ use Rattle.command_line.specs.declared.shop.Shop.{Shop}
 use Rattle.command_line.specs.Commands.{Command, Solve, Check, Verify, Show, Gen, Trial, Bound, Core, command_of}
 use Rattle.modelgen.specs.Generated.{generated_text}
 use Rattle.textline.specs.Lines.{Bytes}
-use Rattle.sched_text.specs.Answers.{answer_text, summary_text}
+use Rattle.sched_text.specs.Answers.{numbers_word, values_word, answer_text, summary_text}
 use Rattle.sched_text.specs.Canonical.{canonical_text}
 use Rattle.logtext.specs.Logs.{PlainLine, plain_log}
 use Rattle.checker.specs.Judgement.{IsAccepted}
@@ -29,14 +29,14 @@ use Rattle.solver.specs.Written.{IsWritten}
 use Rattle.sched_model.specs.Answers.{verdict_in}
 use Rattle.solver.specs.Answers.{IsAnswer, shown_in, is_unfinished}
 use Rattle.given_files.specs.declared.stop.ScheduleRefusal.{ScheduleRefusal}
-use Rattle.given_files.specs.Files.{HasFile, FileDeserves, ReadsModel, ReadsSchedule}
+use Rattle.given_files.specs.Files.{HasFile, FileDeserves, ReadsModel, ReadsSchedule, WithinModel, WithinSchedule}
 use Rattle.given_files.specs.Schedules.{IsVerified, RefusalDue}
 use Rattle.given_files.specs.Told.{Tells, Reports, fault_line, memory_line, refusal_line, unfit_line}
-use Rattle.log_reports.specs.Reports.{Report, PrintsReport, PrintsPart, IsRefusedAt, IsFoundTooLong, ReadsLog, check_report, bound_report, core_report}
+use Rattle.log_reports.specs.Reports.{Report, PrintsReport, PrintsPart, IsRefusedAt, IsFoundTooLong, ReadsLog, WithinLog, check_report, bound_report, core_report}
 use Rattle.commands.specs.declared.ended.Ended.{Ended}
 use Rattle.commands.specs.declared.ended.Ended.TheVariants as end
 use Rattle.commands.specs.Ended.{is_success}
-use Rattle.commands.specs.LastSchedule.{last_schedule}
+use Rattle.replay.specs.LastSchedule.{last_schedule}
 use Rattle.commands.specs.Told.{usage_line, log_line, too_long_line}
 use Rattle.commands.specs.VerifyText.{verify_text}
 
@@ -86,7 +86,7 @@ IsUnread (generated shop) old new = new.model ≡ old.model
 -- what is printed of an answer: its text, for a generated model without the lines of its schedule
 abbrev pub told_text : Source → Data → Solved → Bytes
 told_text (file name) m solved = answer_text m solved
-told_text (generated shop) m solved = summary_text solved
+told_text (generated shop) m solved = summary_text m solved
 
 -- What every run promises.
 
@@ -150,6 +150,12 @@ ending_of (answer.Feasible a) = end.Done
 ending_of answer.Infeasible = end.Infeasible
 ending_of (answer.Unfinished found) = end.Unfinished
 
+-- what is printed of a value is the word of the values that the criteria of the objective have at the schedule beside it
+abbrev pub TellsValues : Data → Printed → Type 0
+TellsValues m (answer.Optimal v a) = values_word m v ≡ numbers_word (criteria_values m a)
+TellsValues m (answer.Unfinished (Some va)) = values_word m va.0 ≡ numbers_word (criteria_values m va.1)
+TellsValues m _ = ⊤
+
 -- The main promise.
 pub record AnswerPromise (model : Source) (log : Bytes) (limits : Limits) (result : Ended) (old new : State) : Type 0 where
   pub m : Data
@@ -159,6 +165,8 @@ pub record AnswerPromise (model : Source) (log : Bytes) (limits : Limits) (resul
   -- the answer is so. Optimal: the schedule is a solution of this exact value, and no solution is better. Feasible: it is a
   -- solution. Infeasible: there is none. Unfinished: the schedule, if there is one, is a solution of this exact value
   pub answer : IsAnswer m solved.answer
+  -- and the values that are printed are those of the criteria at that schedule
+  pub values : TellsValues m solved.answer
   -- the ending is that of the answer, whose whole text was printed
   pub ending : result ≡ ending_of solved.answer
   -- with the budget or more as the limit the run is done, or there is no solution
@@ -225,12 +233,12 @@ pub record ReportPromise {V : Type 0} (r : Report V) (success : Ended) (model lo
 -- What `verify` promises.
 
 -- the schedule's file holds a solution of the model that the text of the model's file deserves, and exactly the text that says
--- so, with its value where the model has an objective, was printed
+-- so, with the values of its criteria where the model has an objective, was printed
 pub record VerifiesSchedule (model schedule : Bytes) (old new : State) : Type 0 where
   pub m : Data
   pub a : Assignment
   pub verified : IsVerified model schedule m a old
-  pub printed : new.out ≡ appended (verify_text (objective_of m a)) old.out
+  pub printed : new.out ≡ appended (verify_text m a) old.out
 
 -- this refusal of the schedule's file is due, and is told
 pub record RefusesSchedule (model schedule : Bytes) (old new : State) : Type 0 where
@@ -241,7 +249,7 @@ pub record RefusesSchedule (model schedule : Bytes) (old new : State) : Type 0 w
 -- after a fault nothing was printed, or a front part of the text of a schedule that is a solution
 abbrev pub VerifiesPart : Bytes → Bytes → State → State → Type 0
 VerifiesPart model schedule old new =
-    (new.out ≡ old.out) ⊎ ((m : Data) × (a : Assignment) × IsVerified model schedule m a old × AppendedFrom (verify_text (objective_of m a)) old.out new.out)
+    (new.out ≡ old.out) ⊎ ((m : Data) × (a : Assignment) × IsVerified model schedule m a old × AppendedFrom (verify_text m a) old.out new.out)
 
 -- by its ending; no other comes
 abbrev pub VerifyEnds : Bytes → Bytes → Ended → State → State → Type 0
@@ -343,3 +351,18 @@ pub record RunPromise (command : Option Command) (result : Ended) (old new : Sta
 -- that of the command that the words are
 abbrev pub Runs : List Bytes → Ended → State → State → Type 0
 Runs words result old new = RunPromise (command_of words) result old new
+
+-- however a run ends, no file was read beyond its bound
+abbrev pub WithinFiles : Option Command → State → State → Type 0
+WithinFiles None old new = ⊤
+WithinFiles (Some (Solve model log nodes restarts)) old new = WithinModel model old new
+WithinFiles (Some (Check model log)) old new = WithinModel model old new × WithinLog log old new
+WithinFiles (Some (Verify model schedule)) old new = WithinModel model old new × WithinSchedule schedule old new
+WithinFiles (Some (Show model)) old new = WithinModel model old new
+WithinFiles (Some (Gen shop)) old new = ⊤
+WithinFiles (Some (Trial shop log nodes restarts)) old new = ⊤
+WithinFiles (Some (Bound model log)) old new = WithinModel model old new × WithinLog log old new
+WithinFiles (Some (Core model log)) old new = WithinModel model old new × WithinLog log old new
+
+abbrev pub RunsWithin : List Bytes → State → State → Type 0
+RunsWithin words old new = WithinFiles (command_of words) old new

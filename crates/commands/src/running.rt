@@ -1,6 +1,6 @@
 ghost use Rattle.std.specs.Prelude.{◌≡◌, Err, IfOk, map, string_bytes};
 ghost use Rattle.given_files.specs.Told.{Reports, memory_line};
-ghost use Rattle.commands.specs.Runs.{Runs};
+ghost use Rattle.commands.specs.Runs.{Runs, RunsWithin};
 ghost use Rattle.commands.specs.Told.{usage_line};
 ghost use Rattle.commands.specs.declared.ended.Ended.TheVariants as end;
 
@@ -29,7 +29,8 @@ fn end_usage<D: Desk>(desk: &mut D) -> Ended
 }
 
 fn run_words<D: Desk>(alloc: Global, words: &[String], desk: &mut D) -> Ended
-    ensures { Runs (map string_bytes words.now) result (D.state desk.old) (D.state desk.new) }
+    ensures within { RunsWithin (map string_bytes words.now) (D.state desk.old) (D.state desk.new) }
+    ensures runs { Runs (map string_bytes words.now) result (D.state desk.old) (D.state desk.new) }
 {
     match read_command(alloc, words) {
         Ok(
@@ -63,6 +64,7 @@ fn run_words<D: Desk>(alloc: Global, words: &[String], desk: &mut D) -> Ended
 /// them isn't UTF-8 or memory was refused for them, it only says so.
 pub fn run<D: Desk>(alloc: Global, words: Result<Vec<String>, WordsFault>, desk: &mut D) -> Ended
     ensures words { IfOk words (λ ws. Runs (map string_bytes ws.items) result (D.state desk.old) (D.state desk.new)) }
+    ensures within { IfOk words (λ ws. RunsWithin (map string_bytes ws.items) (D.state desk.old) (D.state desk.new)) }
     ensures usage { words ≡ Err WordsFault.Usage → (result ≡ end.Usage) × Reports usage_line (D.state desk.old) (D.state desk.new) }
     ensures no_memory { words ≡ Err WordsFault.NoMemory → (result ≡ end.NoMemory) × Reports memory_line (D.state desk.old) (D.state desk.new) }
 {

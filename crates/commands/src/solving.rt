@@ -3,7 +3,8 @@ ghost use Rattle.command_line.specs.Commands.{Solve};
 ghost use Rattle.command_line.specs.code.Found.{IsLimit};
 ghost use Rattle.restart_rules.specs.Restarts.{limits_of};
 ghost use Rattle.commands.specs.Ended.{is_success};
-ghost use Rattle.commands.specs.Runs.{RunPromise, ending_of, file};
+ghost use Rattle.given_files.specs.Files.{WithinModel};
+ghost use Rattle.commands.specs.Runs.{RunPromise, WithinFiles, ending_of, file};
 ghost use Rattle.commands.specs.code.Tries.{Searches, TriesSolve};
 
 use crate::ended::Ended;
@@ -42,6 +43,8 @@ pub fn search_logged<D: Desk>(
     requires { IsLimit nodes }
     ensures { Searches model.now log.now (limits_of nodes restarts) result (D.state desk.old) (D.state desk.new) }
 {
+    // Called for its clause alone.
+    let _ = model.intervals();
     desk.create_log(log)?;
     let solved = solve(alloc, model, u64::from(nodes), restarts, desk)?;
     Ok(solved)
@@ -57,7 +60,8 @@ fn solve_file<D: Desk>(
     restarts: u32,
 ) -> Result<Ended, Stop>
     requires { IsLimit nodes }
-    ensures { TriesSolve (file name.now) log.now (limits_of nodes restarts) result (D.state desk.old) (D.state desk.new) }
+    ensures within { WithinModel name.now (D.state desk.old) (D.state desk.new) }
+    ensures tries { TriesSolve (file name.now) log.now (limits_of nodes restarts) result (D.state desk.old) (D.state desk.new) }
 {
     let model = read_file(alloc, desk, name)?;
     let solved = match search_logged(alloc, desk, &model, log, nodes, restarts) {
@@ -86,7 +90,8 @@ pub fn run_solve<D: Desk>(
     restarts: u32,
 ) -> Ended
     requires { IsLimit nodes }
-    ensures { RunPromise (Some (Solve model.now log.now nodes restarts)) result (D.state desk.old) (D.state desk.new) }
+    ensures within { WithinFiles (Some (Solve model.now log.now nodes restarts)) (D.state desk.old) (D.state desk.new) }
+    ensures promise { RunPromise (Some (Solve model.now log.now nodes restarts)) result (D.state desk.old) (D.state desk.new) }
 {
     match solve_file(alloc, desk, model, log, nodes, restarts) {
         Ok(ended) => ended,

@@ -33,12 +33,16 @@ fn solve_shop<D: Desk>(
     ensures { TriesSolve (generated shop) log.now (limits_of nodes restarts) result (D.state desk.old) (D.state desk.new) }
 {
     let model = generated_model(alloc, shop)?;
-    let searched = search_logged(alloc, desk, &model, log, nodes, restarts);
-    drop(model);
-    let solved = searched?;
-    let written = write_summary(&solved, desk);
+    let solved = match search_logged(alloc, desk, &model, log, nodes, restarts) {
+        Ok(solved) => solved,
+        Err(stop) => {
+            drop(model);
+            return Err(stop);
+        }
+    };
+    let written = write_summary(&model, &solved, desk);
     let ended = ending(&solved.answer);
-    drop(solved);
+    drop((model, solved));
     match written {
         Ok(()) => Ok(ended),
         Err(_) => Err(Stop::Given(Given::Fault)),

@@ -1,6 +1,7 @@
 ghost use Rattle.std.specs.Prelude.{Some};
 ghost use Rattle.command_line.specs.Commands.{Verify};
-ghost use Rattle.commands.specs.Runs.{RunPromise};
+ghost use Rattle.given_files.specs.Files.{WithinModel, WithinSchedule};
+ghost use Rattle.commands.specs.Runs.{RunPromise, WithinFiles};
 ghost use Rattle.commands.specs.code.Tries.{TriesVerify};
 
 use crate::ended::Ended;
@@ -12,14 +13,16 @@ use sched_base::{Desk, Port};
 use sched_model::value;
 use std::alloc::Global;
 
-/// Tests the schedule that a file holds, of the model that another holds, and prints its value.
+/// Tests the schedule that a file holds, of the model that another holds, and prints its values.
 fn verify_file<D: Desk>(
     alloc: Global,
     desk: &mut D,
     name: &str,
     schedule: &str,
 ) -> Result<Ended, Stop>
-    ensures { TriesVerify name.now schedule.now result (D.state desk.old) (D.state desk.new) }
+    ensures model { WithinModel name.now (D.state desk.old) (D.state desk.new) }
+    ensures schedule { WithinSchedule schedule.now (D.state desk.old) (D.state desk.new) }
+    ensures tries { TriesVerify name.now schedule.now result (D.state desk.old) (D.state desk.new) }
 {
     let model = read_file(alloc, desk, name)?;
     let a = match test_file(alloc, desk, &model, schedule) {
@@ -29,9 +32,12 @@ fn verify_file<D: Desk>(
             return Err(Stop::Given(stop));
         }
     };
+    // Called for its clause alone.
+    let _ = model.intervals();
     let value = value(&model, &a);
+    let spelt = verify_bytes(alloc, &model, value);
     drop((model, a));
-    let text = verify_bytes(alloc, value)?;
+    let text = spelt?;
     match desk.write(Port::Out, text.as_slice()) {
         Ok(()) => Ok(Ended::Done),
         Err(_) => Err(Stop::Given(Given::Fault)),
@@ -40,7 +46,8 @@ fn verify_file<D: Desk>(
 
 /// Carries out `verify`.
 pub fn run_verify<D: Desk>(alloc: Global, desk: &mut D, model: &str, schedule: &str) -> Ended
-    ensures { RunPromise (Some (Verify model.now schedule.now)) result (D.state desk.old) (D.state desk.new) }
+    ensures within { WithinFiles (Some (Verify model.now schedule.now)) (D.state desk.old) (D.state desk.new) }
+    ensures promise { RunPromise (Some (Verify model.now schedule.now)) result (D.state desk.old) (D.state desk.new) }
 {
     match verify_file(alloc, desk, model, schedule) {
         Ok(ended) => ended,

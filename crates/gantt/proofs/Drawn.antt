@@ -1,5 +1,6 @@
 -- What drawing a schedule has done, from what its steps did.
-use Rattle.std.proofs.Common.{◌≡◌, ◌≤◌, ℕ, Ok, Err, take, refl, sym, ap, subst, ◌∙◌, inl, inr, arith}
+use Rattle.std.specs.Result.{IsErrAnd}
+use Rattle.std.proofs.Common.{Result, ◌≡◌, ◌≤◌, ℕ, Ok, Err, take, refl, sym, ap, subst, ◌∙◌, inl, inr, arith}
 use Rattle.sched_base.specs.declared.desk.Failed.{Failed}
 use Rattle.sched_base.specs.declared.desk.Port.TheVariants.{Out}
 use Rattle.sched_base.specs.State.{State}
@@ -55,6 +56,12 @@ page_half_printed m model schedule page a e old s t w reads kept deserved tested
         inr (m, a, page, verifies m model schedule a old s t reads deserved tests, drawn, (n, writes.failed.1, refl)),
       );
     })
+
+-- or memory was refused for it
+pub page_refused : (r : Result (Unit {0}) Stop) (model schedule : Bytes) (old s t : State) → IsErrAnd r (λ e. e ≡ stop.NoMemory) → OnlyReads old s → s.faults ≡ old.faults → OnlyTests s t → TriesDraw model schedule r old t
+page_refused (Ok u) model schedule old s t refused reads kept tested = absurd refused
+page_refused (Err e) model schedule old s t refused reads kept tested = subst (λ (x : Stop). TriesDraw model schedule (Err x) old t) (sym refused)
+    (subst (TriesDraw model schedule (Err stop.NoMemory) old) (sym (both_only old s t reads tested)) (record { only = refl; later = subst (λ k. k ≤ t.faults) kept tested.later; tried = refl }))
 
 -- How a run ended.
 

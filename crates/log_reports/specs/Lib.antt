@@ -1,3 +1,4 @@
 pub mod Texts
 pub mod Reports
 pub mod code
+pub mod laws

@@ -22,11 +22,11 @@ use Rattle.log_reports.specs.Texts.{bound_text, core_text}
 pub record Report (V : Type 0) : Type 1 where
   pub says : Data → Bytes → V → Type 0
   pub means : Data → V → Type 0
-  pub text : V → Bytes
+  pub text : Data → V → Bytes
 
 -- that they are accepted, with which verdict and count of nodes
 abbrev pub check_report : Report Checked
-check_report = record { says = Accepts; means = λ m c. Means m c.verdict; text = λ c. check_text c.verdict c.nodes }
+check_report = record { says = Accepts; means = λ m c. Means m c.verdict; text = λ m c. check_text m c.verdict c.nodes }
 
 -- what they show of the best value
 abbrev pub bound_report : Report Bounded
@@ -34,7 +34,7 @@ bound_report = record { says = ShowsBound; means = BoundMeans; text = bound_text
 
 -- which constraints they use, if they show that there is no solution
 abbrev pub core_report : Report (Option (List Con))
-core_report = record { says = ShowsCore; means = λ m core. IfSome core (CantAllHold m); text = core_text }
+core_report = record { says = ShowsCore; means = λ m core. IfSome core (CantAllHold m); text = λ m core. core_text core }
 
 -- The log in its file is a whole log of the model that the text deserves. This is said of it, and what that means of the
 -- model is so, whoever wrote the log.
@@ -48,11 +48,11 @@ pub record TellsOfLog {V : Type 0} (r : Report V) (model log : Bytes) (v : V) (s
 pub record PrintsReport {V : Type 0} (r : Report V) (model log : Bytes) (old new : State) : Type 0 where
   pub said : V
   pub tells : TellsOfLog r model log said old
-  pub printed : new.out ≡ appended (r.text said) old.out
+  pub printed : new.out ≡ appended (r.text tells.m said) old.out
 
 -- nothing was printed, or a front part of that text
 abbrev pub PrintsPart : {V : Type 0} → Report V → Bytes → Bytes → State → State → Type 0
-PrintsPart {V} r model log old new = (new.out ≡ old.out) ⊎ ((v : V) × TellsOfLog r model log v old × AppendedFrom (r.text v) old.out new.out)
+PrintsPart {V} r model log old new = (new.out ≡ old.out) ⊎ ((v : V) × (t : TellsOfLog r model log v old) × AppendedFrom (r.text t.m v) old.out new.out)
 
 -- the first line of the log that is wrong or missing is this one
 abbrev pub IsRefusedAt : Bytes → Bytes → ℕ → State → Type 0
@@ -66,3 +66,7 @@ IsFoundTooLong model log s = (m : Data) × FileDeserves s model (Accepted m) × 
 -- read at most, and the others are left in its slot
 abbrev pub ReadsLog : Bytes → State → State → Type 0
 ReadsLog name old new = ReadsAtMost (log_limit + 1) (file_of old name) new.log.left
+
+-- however a run ends: nothing was read from the slot of the log, or no more of the file than that
+abbrev pub WithinLog : Bytes → State → State → Type 0
+WithinLog name old new = (new.log ≡ old.log) ⊎ ReadsLog name old new

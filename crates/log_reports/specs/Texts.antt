@@ -1,25 +1,26 @@
 -- What is printed of a log: lines of words, each ended by a line feed.
 use Rattle.std.specs.Prelude.{ℕ, ℤ, List, [], ◌∷◌, ◌++◌, codes, length, flat_map, Option, Some, None}
-use Rattle.std.specs.Fmt.{decimal, signed_decimal}
+use Rattle.std.specs.Fmt.{decimal}
 use Rattle.sched_base.specs.declared.ids.Con.{Con}
+use Rattle.sched_model.specs.Data.{Data}
 use Rattle.textline.specs.Lines.{Bytes, line}
-use Rattle.sched_text.specs.Answers.{nodes_line, end_line}
+use Rattle.sched_text.specs.Answers.{values_word, nodes_line, end_line}
 use Rattle.bound_report.specs.declared.bounding.Bounded.{Bounded}
 
--- a value of the objective, or that there is none
-abbrev pub value_word : Option ℤ → Bytes
-value_word None = codes "none"
-value_word (Some v) = signed_decimal v
+-- a value of the objective, told by those of its criteria, or that there is none
+abbrev pub value_word : Data → Option ℤ → Bytes
+value_word m None = codes "none"
+value_word m (Some v) = values_word m v
 
-abbrev pub bound_line : Option ℤ → Bytes
-bound_line bound = line (codes "bound" ∷ value_word bound ∷ [])
+abbrev pub bound_line : Data → Option ℤ → Bytes
+bound_line m bound = line (codes "bound" ∷ value_word m bound ∷ [])
 
-abbrev pub best_line : Option ℤ → Bytes
-best_line best = line (codes "best" ∷ value_word best ∷ [])
+abbrev pub best_line : Data → Option ℤ → Bytes
+best_line m best = line (codes "best" ∷ value_word m best ∷ [])
 
 -- what no solution is better than, the value of the solution found last, the count of nodes, and the end
-abbrev pub bound_text : Bounded → Bytes
-bound_text b = bound_line b.bound ++ best_line b.best ++ nodes_line b.nodes ++ end_line
+abbrev pub bound_text : Data → Bounded → Bytes
+bound_text m b = bound_line m b.bound ++ best_line m b.best ++ nodes_line b.nodes ++ end_line
 
 abbrev pub count_line : ℕ → Bytes
 count_line n = line (codes "core" ∷ decimal n ∷ [])

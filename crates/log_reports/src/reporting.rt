@@ -1,6 +1,7 @@
 ghost use Rattle.kernel.specs.Promises.{Means};
-ghost use Rattle.log_reports.specs.Reports.{check_report, bound_report, core_report};
-ghost use Rattle.log_reports.specs.code.Tries.{JudgesFile, OnlyJudges, TriesReport};
+ghost use Rattle.given_files.specs.Files.{WithinModel};
+ghost use Rattle.log_reports.specs.Reports.{WithinLog, check_report, bound_report, core_report};
+ghost use Rattle.log_reports.specs.code.Tries.{JudgesFile, OnlyJudges, TellsLog, TriesReport};
 
 use crate::stop::LogStop;
 use crate::texts::{bound_bytes, core_bytes};
@@ -14,6 +15,7 @@ use sched_text::write_accepted;
 use std::alloc::Global;
 
 /// Judges the log that a file holds.
+#[tactic(auto, using(crate::proofs::Within::log_unopened, crate::proofs::Within::log_within))]
 fn check_file<D: Desk>(
     alloc: Global,
     desk: &mut D,
@@ -21,6 +23,7 @@ fn check_file<D: Desk>(
     log: &str,
 ) -> Result<Checked, LogStop>
     ensures only { OnlyJudges (D.state desk.old) (D.state desk.new) }
+    ensures within { WithinLog log.now (D.state desk.old) (D.state desk.new) }
     ensures judges { JudgesFile check_report model.now log.now result (D.state desk.old) (D.state desk.new) }
 {
     desk.open_in(Inlet::Log, log)?;
@@ -29,6 +32,7 @@ fn check_file<D: Desk>(
 }
 
 /// What the log that a file holds shows of the best value.
+#[tactic(auto, using(crate::proofs::Within::log_unopened, crate::proofs::Within::log_within))]
 fn bound_file<D: Desk>(
     alloc: Global,
     desk: &mut D,
@@ -36,6 +40,7 @@ fn bound_file<D: Desk>(
     log: &str,
 ) -> Result<Bounded, LogStop>
     ensures only { OnlyJudges (D.state desk.old) (D.state desk.new) }
+    ensures within { WithinLog log.now (D.state desk.old) (D.state desk.new) }
     ensures judges { JudgesFile bound_report model.now log.now result (D.state desk.old) (D.state desk.new) }
 {
     desk.open_in(Inlet::Log, log)?;
@@ -44,6 +49,7 @@ fn bound_file<D: Desk>(
 }
 
 /// Which constraints the log that a file holds uses.
+#[tactic(auto, using(crate::proofs::Within::log_unopened, crate::proofs::Within::log_within))]
 fn core_file<D: Desk>(
     alloc: Global,
     desk: &mut D,
@@ -51,6 +57,7 @@ fn core_file<D: Desk>(
     log: &str,
 ) -> Result<Option<List<Con>>, LogStop>
     ensures only { OnlyJudges (D.state desk.old) (D.state desk.new) }
+    ensures within { WithinLog log.now (D.state desk.old) (D.state desk.new) }
     ensures judges { JudgesFile core_report model.now log.now result (D.state desk.old) (D.state desk.new) }
 {
     desk.open_in(Inlet::Log, log)?;
@@ -58,26 +65,64 @@ fn core_file<D: Desk>(
     Ok(used)
 }
 
+/// Prints what the log that a file holds is found to be.
+fn tell_check<D: Desk>(alloc: Global, desk: &mut D, model: &Model, log: &str) -> Result<(), LogStop>
+    ensures within { WithinLog log.now (D.state desk.old) (D.state desk.new) }
+    ensures tells { TellsLog check_report model.now log.now result (D.state desk.old) (D.state desk.new) }
+{
+    let checked = check_file(alloc, desk, model, log)?;
+    match write_accepted(model, checked.verdict, checked.nodes, desk) {
+        Ok(()) => Ok(()),
+        Err(_) => Err(LogStop::Given(Given::Fault)),
+    }
+}
+
+/// Prints what the log that a file holds shows of the best value.
+fn tell_bound<D: Desk>(alloc: Global, desk: &mut D, model: &Model, log: &str) -> Result<(), LogStop>
+    ensures within { WithinLog log.now (D.state desk.old) (D.state desk.new) }
+    ensures tells { TellsLog bound_report model.now log.now result (D.state desk.old) (D.state desk.new) }
+{
+    let bounded = bound_file(alloc, desk, model, log)?;
+    let text = bound_bytes(alloc, model, bounded)?;
+    match desk.write(Port::Out, text.as_slice()) {
+        Ok(()) => Ok(()),
+        Err(_) => Err(LogStop::Given(Given::Fault)),
+    }
+}
+
+/// Prints which constraints the log that a file holds uses.
+fn tell_core<D: Desk>(alloc: Global, desk: &mut D, model: &Model, log: &str) -> Result<(), LogStop>
+    ensures within { WithinLog log.now (D.state desk.old) (D.state desk.new) }
+    ensures tells { TellsLog core_report model.now log.now result (D.state desk.old) (D.state desk.new) }
+{
+    let used = core_file(alloc, desk, model, log)?;
+    let spelt = core_bytes(alloc, &used);
+    drop(used);
+    let text = spelt?;
+    match desk.write(Port::Out, text.as_slice()) {
+        Ok(()) => Ok(()),
+        Err(_) => Err(LogStop::Given(Given::Fault)),
+    }
+}
+
 /// Judges the log that a file holds, of the model that another holds, and prints what it shows.
 ///
-/// `drop` is called before each way out, since one that lets the model go by itself lets go of all
-/// its parts.
+/// A function of its own tells it, since each way out of one that owns the model lets go of all its
+/// parts.
 pub fn report_check<D: Desk>(
     alloc: Global,
     desk: &mut D,
     name: &str,
     log: &str,
 ) -> Result<(), LogStop>
-    ensures { TriesReport check_report name.now log.now result (D.state desk.old) (D.state desk.new) }
+    ensures model { WithinModel name.now (D.state desk.old) (D.state desk.new) }
+    ensures log { WithinLog log.now (D.state desk.old) (D.state desk.new) }
+    ensures tries { TriesReport check_report name.now log.now result (D.state desk.old) (D.state desk.new) }
 {
     let model = read_file(alloc, desk, name)?;
-    let judged = check_file(alloc, desk, &model, log);
+    let told = tell_check(alloc, desk, &model, log);
     drop(model);
-    let checked = judged?;
-    match write_accepted(checked.verdict, checked.nodes, desk) {
-        Ok(()) => Ok(()),
-        Err(_) => Err(LogStop::Given(Given::Fault)),
-    }
+    told
 }
 
 /// Prints what the log that a file holds, of the model that another holds, shows of the best value.
@@ -87,17 +132,14 @@ pub fn report_bound<D: Desk>(
     name: &str,
     log: &str,
 ) -> Result<(), LogStop>
-    ensures { TriesReport bound_report name.now log.now result (D.state desk.old) (D.state desk.new) }
+    ensures model { WithinModel name.now (D.state desk.old) (D.state desk.new) }
+    ensures log { WithinLog log.now (D.state desk.old) (D.state desk.new) }
+    ensures tries { TriesReport bound_report name.now log.now result (D.state desk.old) (D.state desk.new) }
 {
     let model = read_file(alloc, desk, name)?;
-    let judged = bound_file(alloc, desk, &model, log);
+    let told = tell_bound(alloc, desk, &model, log);
     drop(model);
-    let bounded = judged?;
-    let text = bound_bytes(alloc, bounded)?;
-    match desk.write(Port::Out, text.as_slice()) {
-        Ok(()) => Ok(()),
-        Err(_) => Err(LogStop::Given(Given::Fault)),
-    }
+    told
 }
 
 /// Prints which constraints the log that a file holds, of the model that another holds, uses.
@@ -107,17 +149,12 @@ pub fn report_core<D: Desk>(
     name: &str,
     log: &str,
 ) -> Result<(), LogStop>
-    ensures { TriesReport core_report name.now log.now result (D.state desk.old) (D.state desk.new) }
+    ensures model { WithinModel name.now (D.state desk.old) (D.state desk.new) }
+    ensures log { WithinLog log.now (D.state desk.old) (D.state desk.new) }
+    ensures tries { TriesReport core_report name.now log.now result (D.state desk.old) (D.state desk.new) }
 {
     let model = read_file(alloc, desk, name)?;
-    let judged = core_file(alloc, desk, &model, log);
+    let told = tell_core(alloc, desk, &model, log);
     drop(model);
-    let used = judged?;
-    let spelt = core_bytes(alloc, &used);
-    drop(used);
-    let text = spelt?;
-    match desk.write(Port::Out, text.as_slice()) {
-        Ok(()) => Ok(()),
-        Err(_) => Err(LogStop::Given(Given::Fault)),
-    }
+    told
 }

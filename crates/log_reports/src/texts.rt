@@ -5,31 +5,32 @@ ghost use Rattle.log_reports.specs.Texts.{bound_line, best_line, bound_text, cou
 use bound_report::Bounded;
 use given_files::push_told;
 use sched_base::{Con, List, NoMemory};
+use sched_model::Model;
+use sched_text::push_values;
 use std::alloc::Global;
-use textline::push_number;
 
-fn push_bound(bytes: &mut Vec<u8>, bound: Option<i64>) -> Result<(), NoMemory>
-    ensures { OnOk result (bytes.new.items ≡ bytes.old.items ++ bound_line bound) }
+fn push_bound(bytes: &mut Vec<u8>, model: &Model, bound: Option<i64>) -> Result<(), NoMemory>
+    ensures { OnOk result (bytes.new.items ≡ bytes.old.items ++ bound_line model.now bound) }
 {
     let Some(v) = bound else {
         bytes.extend_from_slice(b"bound none\n")?;
         return Ok(());
     };
     bytes.extend_from_slice(b"bound ")?;
-    push_number(bytes, v)?;
+    push_values(bytes, model, v)?;
     bytes.extend_from_slice(b"\n")?;
     Ok(())
 }
 
-fn push_best(bytes: &mut Vec<u8>, best: Option<i64>) -> Result<(), NoMemory>
-    ensures { OnOk result (bytes.new.items ≡ bytes.old.items ++ best_line best) }
+fn push_best(bytes: &mut Vec<u8>, model: &Model, best: Option<i64>) -> Result<(), NoMemory>
+    ensures { OnOk result (bytes.new.items ≡ bytes.old.items ++ best_line model.now best) }
 {
     let Some(v) = best else {
         bytes.extend_from_slice(b"best none\n")?;
         return Ok(());
     };
     bytes.extend_from_slice(b"best ")?;
-    push_number(bytes, v)?;
+    push_values(bytes, model, v)?;
     bytes.extend_from_slice(b"\n")?;
     Ok(())
 }
@@ -42,13 +43,13 @@ fn push_nodes(bytes: &mut Vec<u8>, nodes: u64) -> Result<(), NoMemory>
     Ok(())
 }
 
-/// The text of what a log shows of the best value.
-pub fn bound_bytes(alloc: Global, b: Bounded) -> Result<Vec<u8>, NoMemory>
-    ensures { IfOk result (λ v. v.items ≡ bound_text b) }
+/// The text of what a log of this model shows of the best value.
+pub fn bound_bytes(alloc: Global, model: &Model, b: Bounded) -> Result<Vec<u8>, NoMemory>
+    ensures { IfOk result (λ v. v.items ≡ bound_text model.now b) }
 {
     let mut bytes = Vec::new(alloc);
-    push_bound(&mut bytes, b.bound)?;
-    push_best(&mut bytes, b.best)?;
+    push_bound(&mut bytes, model, b.bound)?;
+    push_best(&mut bytes, model, b.best)?;
     push_nodes(&mut bytes, b.nodes)?;
     bytes.extend_from_slice(b"end\n")?;
     Ok(bytes)

@@ -23,7 +23,7 @@ use Rattle.commands.specs.declared.stop.Stop.{Stop}
 use Rattle.commands.specs.declared.stop.Stop.TheVariants as stop
 use Rattle.commands.specs.Ended.{is_success}
 use Rattle.commands.specs.Told.{log_line, too_long_line}
-use Rattle.commands.specs.Runs.{Source, SourceDeserves, HasSource, ReadsSource, IsUnread, shop_text, LogPromise, HoldsBegunLog, AnswerPromise, CutShort, ShowsModel, ShowsPart, VerifiesSchedule, VerifiesPart}
+use Rattle.commands.specs.Runs.{Source, SourceDeserves, HasSource, ReadsSource, IsUnread, shop_text, LogPromise, HoldsBegunLog, TellsValues, AnswerPromise, CutShort, ShowsModel, ShowsPart, VerifiesSchedule, VerifiesPart}
 use Rattle.commands.specs.code.Stops.{ending_of_stop}
 
 -- Searching with a log.
@@ -33,7 +33,7 @@ abbrev pub BeginsSearch : Data → Bytes → Limits → State → State → Type
 BeginsSearch m log limits old new = (new ≡ with_faults new.faults old) ⊎ (HoldsBegunLog m limits old.logged new.logged × (new ≡ record old { logged = new.logged; created = true; logs = with_log log old.logs; faults = new.faults }))
 
 abbrev pub Searches : Data → Bytes → Limits → Result Solved Stop → State → State → Type 0
-Searches m log limits (Ok solved) old new = LogPromise m limits solved old.logged new.logged × IsAnswer m solved.answer × (new ≡ record old { logged = new.logged; created = true; logs = with_log log old.logs })
+Searches m log limits (Ok solved) old new = LogPromise m limits solved old.logged new.logged × IsAnswer m solved.answer × (new ≡ record old { logged = new.logged; created = true; logs = with_log log old.logs }) × TellsValues m solved.answer
 Searches m log limits (Err (stop.Given given.Fault)) old new = Rose old.faults new.faults × (old.calm ≡ true → ⊥) × (old.faults ≤ new.faults) × BeginsSearch m log limits old new
 Searches m log limits (Err (stop.Given given.NoMemory)) old new = (old.faults ≤ new.faults) × BeginsSearch m log limits old new
 Searches m log limits (Err _) old new = ⊥

@@ -1,7 +1,7 @@
 -- What each step of a report does to the desk on the way.
-use Rattle.std.specs.Prelude.{◌≡◌, ◌≤◌, true, Result, Ok, Err, ⊤}
+use Rattle.std.specs.Prelude.{◌≡◌, ◌≤◌, ◌⊎◌, true, Result, Ok, Err, ⊤}
 use Rattle.sched_base.specs.State.{State}
-use Rattle.sched_base.specs.Calls.{Rose}
+use Rattle.sched_base.specs.Calls.{Rose, appended, AppendedFrom}
 use Rattle.sched_model.specs.Data.{Data}
 use Rattle.cpo_elab.specs.Answers.Answer.{Refused as Unfit}
 use Rattle.textline.specs.Lines.{Bytes}
@@ -28,6 +28,26 @@ JudgesFile r m log (Err (Given given.Fault)) old new = IsFault log old new
 JudgesFile r m log (Err (Given given.NoMemory)) old new = ⊤
 JudgesFile r m log (Err (Given (given.ModelRefused e))) old new = ⊥
 JudgesFile r m log (Err (Given (given.ScheduleRefused e))) old new = ⊥
+
+-- this is said of the log in a file of this model, and what that means of the model is so
+pub record Said {V : Type 0} (r : Report V) (m : Data) (log : Bytes) (v : V) (s : State) : Type 0 where
+  pub judged : IfFile s log (λ bytes. r.says m (log_bytes bytes) v × (IsTooLong m (log_bytes bytes) → ⊥))
+  pub means : r.means m v
+
+-- what is told of the log in a file, behind the reading of its model
+abbrev pub LogTold : {V : Type 0} → Report V → Data → Bytes → Result (Unit {0}) LogStop → State → State → Type 0
+LogTold {V} r m log (Ok u) old new = (new.faults ≡ old.faults) × ((v : V) × Said r m log v old × (new.out ≡ appended (r.text m v) old.out)) × ReadsLog log old new
+LogTold {V} r m log (Err (Given given.Fault)) old new = IsFault log old new × ((new.out ≡ old.out) ⊎ ((v : V) × Said r m log v old × AppendedFrom (r.text m v) old.out new.out))
+LogTold r m log (Err (Given given.NoMemory)) old new = new.out ≡ old.out
+LogTold r m log (Err (Refused k)) old new = (new.out ≡ old.out) × IfFile old log (λ bytes. IsRefused m (log_bytes bytes) k × (IsTooLong m (log_bytes bytes) → ⊥)) × ReadsLog log old new
+LogTold r m log (Err TooLong) old new = (new.out ≡ old.out) × IfFile old log (λ bytes. IsTooLong m (log_bytes bytes)) × ReadsLog log old new
+LogTold r m log (Err (Given (given.ModelRefused e))) old new = ⊥
+LogTold r m log (Err (Given (given.ScheduleRefused e))) old new = ⊥
+
+pub record TellsLog {V : Type 0} (r : Report V) (m : Data) (log : Bytes) (result : Result (Unit {0}) LogStop) (old new : State) : Type 0 where
+  pub only : new ≡ record old { log = new.log; out = new.out; faults = new.faults }
+  pub later : old.faults ≤ new.faults
+  pub told : LogTold r m log result old new
 
 abbrev pub ReportTried : {V : Type 0} → Report V → Bytes → Bytes → Result (Unit {0}) LogStop → State → State → Type 0
 ReportTried r model log (Ok u) old new = (new.faults ≡ old.faults) × PrintsReport r model log old new × ReadsModel model old new × ReadsLog log old new

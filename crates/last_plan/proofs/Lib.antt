@@ -1,0 +1,4 @@
+pub mod Answered
+pub mod Told
+pub mod Ending
+pub mod Pushed

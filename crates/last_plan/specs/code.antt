@@ -1,0 +1,4 @@
+pub mod Stops
+pub mod Answers
+pub mod Ended
+pub mod Tries

@@ -1,0 +1,65 @@
+ghost use Rattle.std.specs.Prelude.{◌≡◌, Err, IfOk, map, string_bytes};
+ghost use Rattle.given_files.specs.Told.{Reports, memory_line};
+ghost use Rattle.last_plan.specs.Runs.{Runs, Takes};
+ghost use Rattle.last_plan.specs.Told.{usage_line};
+ghost use Rattle.last_plan.specs.declared.ended.Ended.TheVariants as end;
+
+use crate::ended::Ended;
+use crate::planning::run_plan;
+use crate::report::end_stopped;
+use crate::stop::PlanStop;
+use given_files::{Stop as Given, report};
+use real_desk::words::WordsFault;
+use sched_base::Desk;
+use std::alloc::Global;
+
+fn end_usage<D: Desk>(desk: &mut D) -> Ended
+    ensures ended { result ≡ end.Usage }
+    ensures told { Reports usage_line (D.state desk.old) (D.state desk.new) }
+{
+    report(desk, b"usage: lastplan [--count] MODEL LOG\n");
+    Ended::Usage
+}
+
+/// Takes the words behind the option.
+fn run_files<D: Desk>(alloc: Global, is_count: bool, words: &[String], desk: &mut D) -> Ended
+    ensures { Takes is_count (map string_bytes words.now) result (D.state desk.old) (D.state desk.new) }
+{
+    let Some((model, rest)) = words.split_first() else {
+        return end_usage(desk);
+    };
+    let Some((log, more)) = rest.split_first() else {
+        return end_usage(desk);
+    };
+    if !more.is_empty() {
+        return end_usage(desk);
+    }
+    run_plan(alloc, desk, is_count, model.as_str(), log.as_str())
+}
+
+fn run_words<D: Desk>(alloc: Global, words: &[String], desk: &mut D) -> Ended
+    ensures { Runs (map string_bytes words.now) result (D.state desk.old) (D.state desk.new) }
+{
+    let Some((first, rest)) = words.split_first() else {
+        return end_usage(desk);
+    };
+    if first.as_str() == "--count" {
+        return run_files(alloc, true, rest, desk);
+    }
+    run_files(alloc, false, words, desk)
+}
+
+/// Tells the schedule of the last solution in the log that the words name, or, behind the word
+/// `--count`, counts of the log, over a desk. Where there are no words, since one of them isn't UTF-8 or
+/// memory was refused for them, it only says so.
+pub fn run<D: Desk>(alloc: Global, words: Result<Vec<String>, WordsFault>, desk: &mut D) -> Ended
+    ensures words { IfOk words (λ ws. Runs (map string_bytes ws.items) result (D.state desk.old) (D.state desk.new)) }
+    ensures usage { words ≡ Err WordsFault.NotUtf8 → (result ≡ end.Usage) × Reports usage_line (D.state desk.old) (D.state desk.new) }
+    ensures no_memory { words ≡ Err WordsFault.NoMemory → (result ≡ end.NoMemory) × Reports memory_line (D.state desk.old) (D.state desk.new) }
+{
+    match words {
+        Ok(words) => run_words(alloc, words.as_slice(), desk),
+        Err(WordsFault::NotUtf8) => end_usage(desk),
+        Err(WordsFault::NoMemory) => end_stopped(alloc, desk, PlanStop::Given(Given::NoMemory)),
+    }
+}

@@ -1,0 +1,5 @@
+pub mod Explained
+pub mod Texts
+pub mod Told
+pub mod Runs
+pub mod code
