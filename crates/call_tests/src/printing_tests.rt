@@ -160,6 +160,10 @@ fn answer(alloc: Global, model: &Model, solved: &Solved) -> Result<Printed, NoMe
     answer_on(alloc, model, solved, &mut desk)
 }
 
+/// A model whose objective has values to print.
+const AIMED: &str =
+    "a = intervalVar(optional,size=1,start=0..1,end=1..2); minimize(startOf(a,-7));";
+
 /// What is printed of an answer.
 #[derive(Clone, Copy)]
 struct Answers<'a> {
@@ -184,7 +188,7 @@ fn optimal(a: Assignment) -> Solved {
 }
 
 fn answers_so(alloc: Global, solved: &Solved, out: &[u8]) -> bool {
-    first_wrong(alloc, SMALL, &Answers { solved, out }).is_none()
+    first_wrong(alloc, AIMED, &Answers { solved, out }).is_none()
 }
 
 fn answers_line(alloc: Global, line: &str, out: &[u8]) -> bool {

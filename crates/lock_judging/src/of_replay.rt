@@ -2,7 +2,7 @@
 ghost use Rattle.std.specs.Prelude.{◌≡◌, true, IfOk, OnOk};
 ghost use Rattle.sched_base.specs.State.{is_opened};
 ghost use Rattle.kernel.specs.Promises.{Ready};
-ghost use Rattle.replay.specs.Replaying.{Replays};
+ghost use Rattle.replay.specs.Replaying.{Replays, ReplaysFront};
 ghost use Rattle.replay.specs.Laws.{OneVerdict, OneLine, NotBoth, NeverTooLong, WholeLogIsAccepted, AcceptedMeans};
 
 use kernel::{Kernel, Line};
@@ -32,6 +32,19 @@ pub fn replay<X: Refuter, V: Watcher<X>, D: Desk>(
     ensures ready { IfOk result (λ k. Ready model.now k) }
 {
     replay::replay::<X, V, D>(alloc, model, desk, watcher)
+}
+
+pub fn replay_front<X: Refuter, V: Watcher<X>, D: Desk>(
+    alloc: Global,
+    model: &Model,
+    desk: &mut D,
+    watcher: &mut V,
+) -> Result<Kernel<X>, ReplayFault>
+    requires opened { is_opened Inlet.Log (D.state desk.old) ≡ true }
+    ensures replays { ReplaysFront X.refuting X.Witness.numbers X.Witness.is_valid V.noted model.now result watcher.old watcher.new (D.state desk.old) (D.state desk.new) }
+    ensures ready { IfOk result (λ k. Ready model.now k) }
+{
+    replay::replay_front::<X, V, D>(alloc, model, desk, watcher)
 }
 
 pub fn judgement_is_determined<X: Refuter>()

@@ -1,5 +1,5 @@
 //! Models, assignments, and the meaning of constraints and objectives.
-ghost use Rattle.std.specs.Prelude.{◌≡◌, length, OnErr, IfOk, true, ◌<◌, Some, is_some, slice_get, IsTrue, ◌↔◌};
+ghost use Rattle.std.specs.Prelude.{◌≡◌, length, OnErr, IfOk, true, ◌<◌, Some, is_some, slice_get, slice_index_or, pos, IsTrue, ◌↔◌};
 ghost use Rattle.std.specs.Option.{option_copied};
 ghost use Rattle.sched_model.specs.Data.{with_interval, with_matrix, with_sequence, with_cumul, with_state, with_constraint, with_objective, same, distance};
 ghost use Rattle.sched_model.specs.code.Model.{data_of};
@@ -8,6 +8,8 @@ ghost use Rattle.sched_model.specs.Domain.{fits_def, is_in_domain};
 ghost use Rattle.sched_model.specs.Words.{placewise};
 ghost use Rattle.sched_model.specs.Value.{value_of, slot_of};
 ghost use Rattle.sched_model.specs.Hull.{hull_of};
+ghost use Rattle.sched_model.specs.Rank.{unranked_in, rank_within};
+ghost use Rattle.sched_model.specs.code.Ranks.{count_of};
 ghost use Rattle.sched_model.specs.Sentences.{Holds, holds_at};
 ghost use Rattle.sched_model.specs.declared.types.Constraint.{Constraint};
 ghost use Rattle.sched_model.specs.Solution.{IsSolution, beats, is_solution, objective_of};
@@ -17,11 +19,12 @@ ghost use Rattle.sched_model.specs.Temporal.{is_precedence};
 ghost use Rattle.std.specs.List.Sorted.{IsPermutation};
 ghost use Rattle.sched_model.specs.Changes.{IsInOrder};
 
-use sched_base::{Con, Cum, Itv, Mat, NoMemory, Seq, Stf};
+use sched_base::{Con, Cum, Itv, List, Mat, NoMemory, Seq, Stf};
 use sched_model::{
     Assignment, Change, Constraint, CumulDef, End, Expr, IntervalDef, MatrixDef, Model, Objective,
     Parts, Sense, SequenceDef, Slot, Slots, StateDef,
 };
+use std::alloc::Global;
 
 pub fn of(parts: Parts) -> Model
     requires { IsValid (data_of parts) }
@@ -111,6 +114,32 @@ pub fn objective(model: &Model) -> Option<&Objective>
     ensures valid { IsValid model.now }
 {
     model.objective()
+}
+
+/// How many criteria the objective has.
+pub fn criteria_count(model: &Model) -> u32
+    ensures { result ≡ count_of model.now.objective }
+{
+    sched_model::criteria_count(model)
+}
+
+/// The value of one of them, where `v` is the value of the objective's expression.
+pub fn unrank(model: &Model, v: i64, i: u32) -> i64
+    requires { i < count_of model.now.objective }
+    ensures { result ≡ slice_index_or (unranked_in model.now v) i (pos 0) }
+{
+    sched_model::unrank(model, v, i)
+}
+
+/// Several criteria as one expression, their rank.
+pub fn make_rank(
+    alloc: Global,
+    model: &Model,
+    criteria: List<Expr>,
+) -> Result<Option<Expr>, NoMemory>
+    ensures { IfOk result (λ o. o ≡ rank_within model.now criteria) }
+{
+    sched_model::make_rank(alloc, model, criteria)
 }
 
 pub fn in_domain(model: &Model, a: &Assignment) -> bool

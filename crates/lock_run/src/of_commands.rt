@@ -1,7 +1,7 @@
 //! The commands of the program.
 ghost use Rattle.std.specs.Prelude.{◌≡◌, Err, IfOk, map, string_bytes};
 ghost use Rattle.given_files.specs.Told.{Reports, memory_line};
-ghost use Rattle.commands.specs.Runs.{Runs};
+ghost use Rattle.commands.specs.Runs.{Runs, RunsWithin};
 ghost use Rattle.commands.specs.Told.{usage_line};
 ghost use Rattle.commands.specs.declared.ended.Ended.TheVariants as end;
 ghost use Rattle.commands.specs.Ended.{status_of};
@@ -15,6 +15,7 @@ use std::alloc::Global;
 
 pub fn run<D: Desk>(alloc: Global, words: Result<Vec<String>, WordsFault>, desk: &mut D) -> Ended
     ensures words { IfOk words (λ ws. Runs (map string_bytes ws.items) result (D.state desk.old) (D.state desk.new)) }
+    ensures within { IfOk words (λ ws. RunsWithin (map string_bytes ws.items) (D.state desk.old) (D.state desk.new)) }
     ensures usage { words ≡ Err WordsFault.Usage → (result ≡ end.Usage) × Reports usage_line (D.state desk.old) (D.state desk.new) }
     ensures no_memory { words ≡ Err WordsFault.NoMemory → (result ≡ end.NoMemory) × Reports memory_line (D.state desk.old) (D.state desk.new) }
 {

@@ -1,6 +1,7 @@
 //! What the files of a run hold, and how a refusal is told.
 ghost use Rattle.std.specs.Prelude.{◌≡◌, ◌++◌, OnOk};
 ghost use Rattle.std.specs.Fmt.{decimal};
+ghost use Rattle.given_files.specs.Files.{WithinModel, WithinSchedule};
 ghost use Rattle.given_files.specs.code.Reading.{OnlyReads, Reads};
 ghost use Rattle.given_files.specs.code.Testing.{OnlyTests, TestsFile};
 ghost use Rattle.given_files.specs.code.Telling.{IsTold};
@@ -13,6 +14,7 @@ use std::alloc::Global;
 
 pub fn read_file<D: Desk>(alloc: Global, desk: &mut D, name: &str) -> Result<Model, Stop>
     ensures only { OnlyReads (D.state desk.old) (D.state desk.new) }
+    ensures within { WithinModel name.now (D.state desk.old) (D.state desk.new) }
     ensures reads { Reads name.now result (D.state desk.old) (D.state desk.new) }
 {
     given_files::read_file(alloc, desk, name)
@@ -25,6 +27,7 @@ pub fn test_file<D: Desk>(
     schedule: &str,
 ) -> Result<Assignment, Stop>
     ensures only { OnlyTests (D.state desk.old) (D.state desk.new) }
+    ensures within { WithinSchedule schedule.now (D.state desk.old) (D.state desk.new) }
     ensures tests { TestsFile model.now schedule.now result (D.state desk.old) (D.state desk.new) }
 {
     given_files::test_file(alloc, desk, model, schedule)

@@ -1,5 +1,6 @@
 //! What is reported of a log.
-ghost use Rattle.log_reports.specs.Reports.{check_report, bound_report, core_report};
+ghost use Rattle.given_files.specs.Files.{WithinModel};
+ghost use Rattle.log_reports.specs.Reports.{WithinLog, check_report, bound_report, core_report};
 ghost use Rattle.log_reports.specs.code.Tries.{TriesReport};
 
 use log_reports::LogStop;
@@ -12,7 +13,9 @@ pub fn report_check<D: Desk>(
     model: &str,
     log: &str,
 ) -> Result<(), LogStop>
-    ensures { TriesReport check_report model.now log.now result (D.state desk.old) (D.state desk.new) }
+    ensures model { WithinModel model.now (D.state desk.old) (D.state desk.new) }
+    ensures log { WithinLog log.now (D.state desk.old) (D.state desk.new) }
+    ensures tries { TriesReport check_report model.now log.now result (D.state desk.old) (D.state desk.new) }
 {
     log_reports::report_check(alloc, desk, model, log)
 }
@@ -23,7 +26,9 @@ pub fn report_bound<D: Desk>(
     model: &str,
     log: &str,
 ) -> Result<(), LogStop>
-    ensures { TriesReport bound_report model.now log.now result (D.state desk.old) (D.state desk.new) }
+    ensures model { WithinModel model.now (D.state desk.old) (D.state desk.new) }
+    ensures log { WithinLog log.now (D.state desk.old) (D.state desk.new) }
+    ensures tries { TriesReport bound_report model.now log.now result (D.state desk.old) (D.state desk.new) }
 {
     log_reports::report_bound(alloc, desk, model, log)
 }
@@ -34,7 +39,9 @@ pub fn report_core<D: Desk>(
     model: &str,
     log: &str,
 ) -> Result<(), LogStop>
-    ensures { TriesReport core_report model.now log.now result (D.state desk.old) (D.state desk.new) }
+    ensures model { WithinModel model.now (D.state desk.old) (D.state desk.new) }
+    ensures log { WithinLog log.now (D.state desk.old) (D.state desk.new) }
+    ensures tries { TriesReport core_report model.now log.now result (D.state desk.old) (D.state desk.new) }
 {
     log_reports::report_core(alloc, desk, model, log)
 }

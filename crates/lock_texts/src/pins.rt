@@ -36,7 +36,7 @@ pub fn a_schedule_text_spells_one()
 
 /// An answer that shows a schedule is a text of it.
 pub fn an_answer_spells_its_schedule()
-    ensures { (m : Data) (s : Solved) (a : Assignment) → s.nodes ≤ 2 ^ 62 → Shows s.answer a → is_in_domain m a ≡ true → Spells m (answer_text m s) a }
+    ensures { (m : Data) (s : Solved) (a : Assignment) → IsValid m → s.nodes ≤ 2 ^ 62 → Shows m s.answer a → is_in_domain m a ≡ true → Spells m (answer_text m s) a }
 {
     read_schedule::answer_is_schedule();
 }
