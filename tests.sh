@@ -45,7 +45,7 @@ calls() {
   (cd crates/call_tests && rt try --test) > "$room/calls" 2>&1
 }
 
-echo "building ${programs:=schedtool gantt trials}, and the tests of public calls, all unproved"
+echo "building ${programs:=schedtool gantt lastplan why trials}, and the tests of public calls, all unproved"
 calls &
 testing=$!
 # shellcheck disable=SC2086

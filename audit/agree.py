@@ -186,6 +186,28 @@ class Models:
         written = ", ".join(f"[{t}, {v}]" for t, v in pairs)
         return f"F{k} = stepFunction([{written}]); {word}({x}, F{k});", holds
 
+    def alternative(self, names):
+        x, parts = self.draw.choice(names), self.draw.sample(names, self.draw.randint(0, len(names)))
+        count = self.draw.choice((None, 0, 1, 1, 2))
+        more = "" if count is None else f", {count}"
+
+        def holds(a):
+            chosen = [a[part] for part in parts if a[part] is not None]
+            if a[x] is None:
+                return not chosen
+            return len(chosen) == (1 if count is None else count) and all(place == a[x] for place in chosen)
+
+        return f"alternative({x}, [{', '.join(parts)}]{more});", holds
+
+    def objective(self, names):
+        """The statement, which of two values is better, and the criteria, of which an earlier one decides first."""
+        word, best = self.draw.choice((("minimize", min), ("maximize", max)))
+        if self.draw.random() < 0.6:
+            criteria = [self.expr(names, 3)]
+            return f"{word}({criteria[0].text});", best, criteria
+        criteria = [self.expr(names, 2) for _ in range(self.draw.choice((1, 2, 2, 3)))]
+        return f"{word}(staticLex([{', '.join(x.text for x in criteria)}]));", best, criteria
+
     def model(self):
         """The text, the places of each interval, the constraints, and the objective or None."""
         names = [f"x{i}" for i in range(self.draw.randint(1, 3))]
@@ -196,6 +218,8 @@ class Models:
         for k in range(self.draw.randint(0, 3)):
             if self.draw.random() < 0.2:
                 line, holds = self.calendar(names, k)
+            elif self.draw.random() < 0.2:
+                line, holds = self.alternative(names)
             elif self.draw.random() < 0.5:
                 line, holds = self.precedence(names)
             else:
@@ -204,8 +228,8 @@ class Models:
             lines.append(line)
             constraints.append(holds)
         if self.draw.random() < 0.7:
-            objective = self.draw.choice((("minimize", min), ("maximize", max))), self.expr(names, 3)
-            lines.insert(self.draw.randint(len(names), len(lines)), f"{objective[0][0]}({objective[1].text});")
+            line, *objective = self.objective(names)
+            lines.insert(self.draw.randint(len(names), len(lines)), line)
         return "\n".join(lines) + "\n", places, constraints, objective
 
     def changed(self, log):
@@ -236,14 +260,22 @@ def said(folder, command, *files):
     return ran.stdout.split("\n"), ran.stderr.strip()
 
 
+def values(objective, a):
+    return tuple(x.value(a) for x in objective[1])
+
+
+def told(numbers):
+    return ",".join(map(str, numbers))
+
+
 def wanted(solutions, objective):
-    """The verdict, and the best value if there is one."""
+    """The verdict, and the best values of the criteria if there are any."""
     if not solutions:
         return "infeasible", None
     if objective is None:
         return "feasible", None
-    best = objective[0][1](objective[1].value(a) for a in solutions)
-    return f"optimal {best}", best
+    best = objective[0](values(objective, a) for a in solutions)
+    return f"optimal {told(best)}", best
 
 
 def schedule(lines, names):
@@ -263,11 +295,17 @@ def compare(models, folder, counts):
     solutions = [a for a in ways if all(holds(a) for holds in constraints)]
     verdict, best = wanted(solutions, objective)
     answer, error = said(folder, "solve", "model", "log")
+    if objective and len(objective[1]) > 1 and error.startswith("model refused 13"):
+        counts["rank too large"] += 1
+        return
     assert answer[0] == verdict, f"{text}wanted {verdict}, but solve said {answer[0]}{error}"
     if solutions:
         found = schedule(answer, places)
         assert found in solutions, f"{text}no solution: {answer}"
-        assert best is None or objective[1].value(found) == best, f"{text}another value: {answer}"
+        assert best is None or values(objective, found) == best, f"{text}another value: {answer}"
+        write(folder, "plan", "\n".join(answer))
+        lines = ["valid", *([] if best is None else [f"value {told(best)}"]), "end", ""]
+        assert said(folder, "verify", "model", "plan")[0] == lines, f"{text}verify said something else"
     judged, error = said(folder, "check", "model", "log")
     assert judged[0] == f"accepted {verdict}", f"{text}check said {judged[0]}{error}"
     shown, _ = said(folder, "show", "model")
@@ -277,8 +315,8 @@ def compare(models, folder, counts):
     counts[verdict.split(" ")[0]] += 1
     with open(f"{folder}/log", encoding="utf-8") as log:
         lines = log.read().split("\n")[:-1]
-    values = {str(objective[1].value(a)) for a in solutions} if objective else set()
-    true = {f"accepted {it}" for it in (verdict, "unfinished none", *(f"unfinished {v}" for v in values))}
+    shown = {told(values(objective, a)) for a in solutions} if objective else set()
+    true = {f"accepted {it}" for it in (verdict, "unfinished none", *(f"unfinished {v}" for v in shown))}
     for _ in range(5):
         log = "\n".join(models.changed(lines)) + "\n"
         write(folder, "changed", log)

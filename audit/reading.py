@@ -7,13 +7,13 @@ usage: reading.py [--names] [--others] [CRATE]
        reading.py --rooms
        reading.py --page
 
-CRATE is `commands`, or `gantt` for the promise of the other program. The definitions of `commands` are told in rings, from
+CRATE is `commands`, or `gantt`, `last_plan` or `reasons` for the promise of another program. The definitions of `commands` are told in rings, from
 what a word of the program rests on to what only whoever writes another program needs; each ring stands on those before it.
 Counted are the lines of the definitions themselves, without comments, blank lines and imports. With --names each definition
 is named, with --others the files outside are counted too.
 
 With --rooms it tests where the specs stand: what a promise stands on is in specs/ itself, and what speaks of code, or is
-a law, in a folder there (code/, laws/, lemmas/). The promises are those of both programs and the files that
+a law, in a folder there (code/, laws/, lemmas/). The promises are those of all programs and the files that
 docs/PROMISES.md names. With --page it tests the lists of docs/PROMISES.md against the rings: each file of which a definition
 is reached stands in the list of the ring to which most of them belong, each path is there, and the lines of the rings are
 those that the page tells. Both end with status 1 where something is wrong.
@@ -42,6 +42,8 @@ LOGS = ["commands.specs.Runs.LogPromise", "commands.specs.Runs.HoldsBegunLog", "
 PRINTED = [
     "command_line.specs.Commands.command_of",
     "sched_text.specs.Answers.answer_text",
+    "sched_text.specs.Answers.numbers_word",
+    "sched_text.specs.Answers.values_word",
     "sched_text.specs.Answers.summary_text",
     "sched_text.specs.Answers.check_text",
     "log_reports.specs.Texts.bound_text",
@@ -221,7 +223,7 @@ def modules_behind(first, files):
 def misplaced(files):
     """Returns the specs that don't stand where their readers look for them."""
     promises = {f"{crate}.specs.{path.replace('/', '.')}" for crate, path in NAMED.findall(text_of(PROMISES))}
-    read = set().union(*(modules_behind(it, files) for it in promises & set(files) | {"commands.specs.Runs", "gantt.specs.Runs"}))
+    read = set().union(*(modules_behind(it, files) for it in promises & set(files) | {"commands.specs.Runs", "gantt.specs.Runs", "last_plan.specs.Runs", "reasons.specs.Runs"}))
     wrong = [f"docs/PROMISES.md names {it}, which isn't there" for it in sorted(promises - set(files))]
     for module in sorted(files):
         inside = module.split(".", 2)[2]

@@ -1,7 +1,7 @@
 #!/usr/bin/env bash
 # Builds a native, optimised program of this repository WITHOUT proving it, in a few minutes, and prints its path: for
 # tests and measurements alone. What counts is what `rt ci` proves and builds.
-# usage: audit/unproved.sh PROGRAM.. [--to FOLDER]      (schedtool, gantt, ..; FOLDER: a new one of the system's)
+# usage: audit/unproved.sh PROGRAM.. [--to FOLDER]      (schedtool, gantt, lastplan, why, ..; FOLDER: a new one of the system's)
 # How: `rt try` lowers all crates to one module and hands it to the kit's clang, with checks, for a run of its own. Here it
 # runs from a copy of the kit's two scripts, beside links to all else, whose clang keeps the module and fails, so that the
 # kit compiles and runs nothing; the module is then compiled and linked as `rt run` does it.
