@@ -11,15 +11,15 @@ use Rattle.restart_rules.specs.Restarts.{Limits}
 use Rattle.command_line.specs.Commands.{Command, Solve, Check, Verify, Show, Gen, Trial, Bound, Core}
 use Rattle.textline.specs.Lines.{Bytes}
 use Rattle.logtext.specs.Judgement.{log_limit}
-use Rattle.given_files.specs.declared.stop.Stop.TheVariants as given
+use Rattle.given_files.specs.declared.stop.GivenStop.TheVariants as given
 use Rattle.given_files.specs.Files.{HasFile, file_of, schedule_limit, ReadsModel, ReadsSchedule}
 use Rattle.given_files.specs.Told.{Reports, fault_line, memory_line, refusal_line, unfit_line}
 use Rattle.given_files.specs.code.Reading.{OnlyReads}
 use Rattle.given_files.specs.laws.Endings.{tells_on}
 use Rattle.commands.specs.declared.ended.Ended.{Ended}
 use Rattle.commands.specs.declared.ended.Ended.TheVariants as end
-use Rattle.commands.specs.declared.stop.Stop.{Stop}
-use Rattle.commands.specs.declared.stop.Stop.TheVariants as stop
+use Rattle.commands.specs.declared.stop.RunStop.{RunStop}
+use Rattle.commands.specs.declared.stop.RunStop.TheVariants as stop
 use Rattle.sched_text.specs.Canonical.{canonical_text}
 use Rattle.log_reports.specs.declared.stop.LogStop.{LogStop}
 use Rattle.log_reports.specs.declared.stop.LogStop.TheVariants as why
@@ -245,7 +245,7 @@ solve_no_memory model log limits old s new only unread later out cut reports = a
   ends = cut_told model log limits memory_line old s new cut reports;
 }) (taken model end.NoMemory (λ is. cc)) (λ no_fault enough. absurd (enough refl))
 
-pub solve_stopped : (model : Source) (log : Bytes) (limits : Limits) (e : Stop) (ended : Ended) (old s new : State) → ((r : Refusal) → SourceDeserves old model (Refused r) → IsTaken model end.ModelRefused) → TriesSolve model log limits (Err e) old s → EndsStopped e ended s new → RunPromise (Some (solving model log limits)) ended old new
+pub solve_stopped : (model : Source) (log : Bytes) (limits : Limits) (e : RunStop) (ended : Ended) (old s new : State) → ((r : Refusal) → SourceDeserves old model (Refused r) → IsTaken model end.ModelRefused) → TriesSolve model log limits (Err e) old s → EndsStopped e ended s new → RunPromise (Some (solving model log limits)) ended old new
 solve_stopped model log limits (stop.Given given.Fault) ended old s new due tries ends = subst (λ x. RunPromise (Some (solving model log limits)) x old new) (sym ends.0)
     (as_run model log limits end.Fault old new
     (faulted (solving model log limits) old s new (ap (λ (x : State). x.err) tries.only) tries.later tries.tried.0 (λ calm there. tries.tried.1 calm (source_there model log limits old there)) ends.1) (record {
@@ -381,7 +381,7 @@ verify_no_memory model schedule old s new only later out reports = record {
   reads = λ no_fault enough. absurd (enough refl);
 }
 
-pub verify_stopped : (model schedule : Bytes) (e : Stop) (ended : Ended) (old s new : State) → TriesVerify model schedule (Err e) old s → EndsStopped e ended s new → RunPromise (Some (Verify model schedule)) ended old new
+pub verify_stopped : (model schedule : Bytes) (e : RunStop) (ended : Ended) (old s new : State) → TriesVerify model schedule (Err e) old s → EndsStopped e ended s new → RunPromise (Some (Verify model schedule)) ended old new
 verify_stopped model schedule (stop.Given given.Fault) ended old s new tries ends = subst (λ x. RunPromise (Some (Verify model schedule)) x old new) (sym ends.0) (record {
   every = faulted (Verify model schedule) old s new (ap (λ (x : State). x.err) tries.only) tries.later tries.tried.0 (λ calm there. tries.tried.1 calm there.0 there.1) ends.1;
   its_own = record { only = verify_only fault_line old s new tries.only ends.1; ends = verified_told model schedule fault_line old s new tries.tried.2 ends.1 };
@@ -439,7 +439,7 @@ show_no_memory model old s new only later out reports = record {
   reads = λ no_fault enough. absurd (enough refl);
 }
 
-pub show_stopped : (model : Bytes) (e : Stop) (ended : Ended) (old s new : State) → TriesShow model (Err e) old s → EndsStopped e ended s new → RunPromise (Some (Show model)) ended old new
+pub show_stopped : (model : Bytes) (e : RunStop) (ended : Ended) (old s new : State) → TriesShow model (Err e) old s → EndsStopped e ended s new → RunPromise (Some (Show model)) ended old new
 show_stopped model (stop.Given given.Fault) ended old s new tries ends = subst (λ x. RunPromise (Some (Show model)) x old new) (sym ends.0) (record {
   every = faulted (Show model) old s new (ap (λ (x : State). x.err) tries.only) tries.later tries.tried.0.rose tries.tried.0.calm ends.1;
   its_own = record { only = show_only fault_line old s new tries.only ends.1; ends = shown_told model fault_line old s new tries.tried.1 ends.1 };
@@ -476,7 +476,7 @@ generated_shop shop e old new tries = subst (λ x. RunPromise (Some (Gen shop)) 
   reads = λ no_fault enough. tt;
 })
 
-pub gen_stopped : (shop : Shop) (e : Stop) (ended : Ended) (old s new : State) → TriesGen shop (Err e) old s → EndsStopped e ended s new → RunPromise (Some (Gen shop)) ended old new
+pub gen_stopped : (shop : Shop) (e : RunStop) (ended : Ended) (old s new : State) → TriesGen shop (Err e) old s → EndsStopped e ended s new → RunPromise (Some (Gen shop)) ended old new
 gen_stopped shop (stop.Given given.Fault) ended old s new tries ends = subst (λ x. RunPromise (Some (Gen shop)) x old new) (sym ends.0) (record {
   every = faulted (Gen shop) old s new (ap (λ (x : State). x.err) tries.only) tries.later tries.tried.0 (λ calm there. tries.tried.1 calm) ends.1;
   its_own = record { only = prints_only fault_line old s new tries.only ends.1; ends = subst (λ b. AppendedFrom (shop_text shop) old.out b) (sym (ap (λ (x : State). x.out) ends.1.only)) tries.tried.2 };

@@ -11,15 +11,15 @@ use Rattle.sched_model.specs.Data.{Data}
 use Rattle.textline.specs.Lines.{Bytes}
 use Rattle.command_line.specs.declared.shop.Shop.{Shop}
 use Rattle.cpo_elab.specs.Answers.Answer.{Accepted}
-use Rattle.given_files.specs.declared.stop.Stop.{Stop as GivenStop}
-use Rattle.given_files.specs.declared.stop.Stop.TheVariants as given
+use Rattle.given_files.specs.declared.stop.GivenStop.{GivenStop}
+use Rattle.given_files.specs.declared.stop.GivenStop.TheVariants as given
 use Rattle.given_files.specs.code.Reading.{OnlyReads}
 use Rattle.commands.specs.declared.ended.Ended.{Ended}
 use Rattle.commands.specs.declared.ended.Ended.TheVariants as end
 use Rattle.restart_rules.specs.Restarts.{Limits}
 use Rattle.solver.specs.Answers.{is_unfinished}
-use Rattle.commands.specs.declared.stop.Stop.{Stop}
-use Rattle.commands.specs.declared.stop.Stop.TheVariants as stop
+use Rattle.commands.specs.declared.stop.RunStop.{RunStop}
+use Rattle.commands.specs.declared.stop.RunStop.TheVariants as stop
 use Rattle.commands.specs.Ended.{is_success}
 use Rattle.commands.specs.Runs.{Source, SourceDeserves, ReadsSource, IsUnread, told_text, LogPromise, HoldsBegunLog, CutShort, ending_of}
 use Rattle.commands.specs.Runs.Source.{file, generated}
@@ -61,7 +61,7 @@ begun_cut m limits model log old s t reads deserved (inr begun) =
     (begun_out m log limits old s t reads (inr begun))
 
 -- the search came to no answer
-pub stopped : (m : Data) (limits : Limits) (model : Source) (log : Bytes) (e : Stop) (old s t : State) → OnlyReads old s → IsUnread model old s → s.faults ≡ old.faults → SourceDeserves old model (Accepted m) → Searches m log limits (Err e) s t → TriesSolve model log limits (Err e) old t
+pub stopped : (m : Data) (limits : Limits) (model : Source) (log : Bytes) (e : RunStop) (old s t : State) → OnlyReads old s → IsUnread model old s → s.faults ≡ old.faults → SourceDeserves old model (Accepted m) → Searches m log limits (Err e) s t → TriesSolve model log limits (Err e) old t
 stopped m limits model log (stop.Given given.Fault) old s t reads unread kept deserved says = record {
   only = begun_only m log limits old s t reads says.3;
   unread = unread_on model old s t unread (begun_model m log limits s t says.3);

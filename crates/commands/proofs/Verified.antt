@@ -9,13 +9,13 @@ use Rattle.sched_model.specs.declared.types.Assignment.{Assignment}
 use Rattle.sched_model.specs.Data.{Data}
 use Rattle.cpo_elab.specs.Answers.Answer.{Accepted}
 use Rattle.textline.specs.Lines.{Bytes}
-use Rattle.given_files.specs.declared.stop.Stop.TheVariants as given
+use Rattle.given_files.specs.declared.stop.GivenStop.TheVariants as given
 use Rattle.given_files.specs.Files.{FileDeserves, ReadsModel, ReadsSchedule}
 use Rattle.given_files.specs.code.Reading.{OnlyReads}
 use Rattle.given_files.specs.code.Testing.{OnlyTests, TestsFile}
 use Rattle.given_files.specs.laws.Verified.{both_only, verifies}
 use Rattle.commands.specs.declared.ended.Ended.TheVariants as end
-use Rattle.commands.specs.declared.stop.Stop.TheVariants as stop
+use Rattle.commands.specs.declared.stop.RunStop.TheVariants as stop
 use Rattle.commands.specs.VerifyText.{verify_text}
 use Rattle.commands.specs.code.Tries.{TriesVerify}
 

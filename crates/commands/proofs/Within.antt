@@ -10,7 +10,7 @@ use Rattle.sched_model.specs.Data.{Data}
 use Rattle.textline.specs.Lines.{Bytes}
 use Rattle.command_line.specs.Commands.{Command, Solve, Check, Verify, Show, Gen, Trial, Bound, Core}
 use Rattle.restart_rules.specs.Restarts.{Limits}
-use Rattle.given_files.specs.declared.stop.Stop.TheVariants as given
+use Rattle.given_files.specs.declared.stop.GivenStop.TheVariants as given
 use Rattle.given_files.specs.Files.{WithinModel, WithinSchedule}
 use Rattle.given_files.specs.Told.{Reports}
 use Rattle.given_files.specs.code.Reading.{OnlyReads}
@@ -18,8 +18,8 @@ use Rattle.given_files.specs.code.Testing.{OnlyTests}
 use Rattle.given_files.specs.laws.Within.{SameSlots, written_slots, model_on, schedule_on, schedule_behind}
 use Rattle.log_reports.specs.laws.Within.{log_on}
 use Rattle.commands.specs.declared.ended.Ended.{Ended}
-use Rattle.commands.specs.declared.stop.Stop.{Stop}
-use Rattle.commands.specs.declared.stop.Stop.TheVariants as stop
+use Rattle.commands.specs.declared.stop.RunStop.{RunStop}
+use Rattle.commands.specs.declared.stop.RunStop.TheVariants as stop
 use Rattle.commands.specs.Runs.{WithinFiles}
 use Rattle.commands.specs.code.Tries.{BeginsSearch, Searches, EndsStopped}
 
@@ -27,7 +27,7 @@ reported_slots : (text : Bytes) (old new : State) → Reports text old new → S
 reported_slots text old new reports = record { model = ap (λ (s : State). s.model) reports.only; log = ap (λ (s : State). s.log) reports.only; schedule = ap (λ (s : State). s.schedule) reports.only }
 
 -- to tell why a command stopped reads nothing
-stopped_slots : (e : Stop) (ended : Ended) (old new : State) → EndsStopped e ended old new → SameSlots old new
+stopped_slots : (e : RunStop) (ended : Ended) (old new : State) → EndsStopped e ended old new → SameSlots old new
 stopped_slots (stop.Given given.Fault) ended old new ends = reported_slots _ old new ends.1
 stopped_slots (stop.Given given.NoMemory) ended old new ends = reported_slots _ old new ends.1
 stopped_slots (stop.Given (given.ModelRefused r)) ended old new (inl ends) = reported_slots _ old new ends.1
@@ -48,7 +48,7 @@ files_on (Trial shop log nodes restarts) old s t same within = tt
 files_on (Bound model log) old s t same within = (model_on model old s t same.model within.0, log_on log old s t same.log within.1)
 files_on (Core model log) old s t same within = (model_on model old s t same.model within.0, log_on log old s t same.log within.1)
 
-pub stopped_within : (k : Command) (e : Stop) (ended : Ended) (old s new : State) → WithinFiles (Some k) old s → EndsStopped e ended s new → WithinFiles (Some k) old new
+pub stopped_within : (k : Command) (e : RunStop) (ended : Ended) (old s new : State) → WithinFiles (Some k) old s → EndsStopped e ended s new → WithinFiles (Some k) old new
 stopped_within k e ended old s new within ends = files_on k old s new (stopped_slots e ended s new ends) within
 
 -- where nothing was opened
@@ -72,7 +72,7 @@ begun_model : (m : Data) (log : Bytes) (limits : Limits) (s t : State) → Begin
 begun_model m log limits s t (inl same) = ap (λ (x : State). x.model) same
 begun_model m log limits s t (inr begun) = ap (λ (x : State). x.model) begun.1
 
-searched_model : (m : Data) (log : Bytes) (limits : Limits) (r : Result Solved Stop) (s t : State) → Searches m log limits r s t → t.model ≡ s.model
+searched_model : (m : Data) (log : Bytes) (limits : Limits) (r : Result Solved RunStop) (s t : State) → Searches m log limits r s t → t.model ≡ s.model
 searched_model m log limits (Ok solved) s t says = ap (λ (x : State). x.model) says.2
 searched_model m log limits (Err (stop.Given given.Fault)) s t says = begun_model m log limits s t says.3
 searched_model m log limits (Err (stop.Given given.NoMemory)) s t says = begun_model m log limits s t says.1
@@ -81,7 +81,7 @@ searched_model m log limits (Err (stop.Given (given.ScheduleRefused e))) s t say
 searched_model m log limits (Err (stop.LogRefused k)) s t says = absurd says
 searched_model m log limits (Err stop.LogTooLong) s t says = absurd says
 
-pub model_searched : (m : Data) (name log : Bytes) (limits : Limits) (r : Result Solved Stop) (old s t : State) → WithinModel name old s → Searches m log limits r s t → WithinModel name old t
+pub model_searched : (m : Data) (name log : Bytes) (limits : Limits) (r : Result Solved RunStop) (old s t : State) → WithinModel name old s → Searches m log limits r s t → WithinModel name old t
 model_searched m name log limits r old s t within says = model_on name old s t (searched_model m log limits r s t says) within
 
 pub model_tested : (name : Bytes) (old s t : State) → WithinModel name old s → OnlyTests s t → WithinModel name old t

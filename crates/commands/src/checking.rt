@@ -4,7 +4,7 @@ ghost use Rattle.commands.specs.Runs.{RunPromise, WithinFiles};
 
 use crate::ended::Ended;
 use crate::report::end_stopped;
-use crate::stop::Stop;
+use crate::stop::RunStop;
 use log_reports::report_check;
 use sched_base::Desk;
 use std::alloc::Global;
@@ -16,6 +16,6 @@ pub fn run_check<D: Desk>(alloc: Global, desk: &mut D, model: &str, log: &str) -
 {
     match report_check(alloc, desk, model, log) {
         Ok(()) => Ended::Accepted,
-        Err(stop) => end_stopped(alloc, desk, Stop::from(stop)),
+        Err(stop) => end_stopped(alloc, desk, RunStop::from(stop)),
     }
 }

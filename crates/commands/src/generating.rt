@@ -6,10 +6,10 @@ ghost use Rattle.commands.specs.code.Tries.{MakesModel, TriesGen};
 
 use crate::ended::Ended;
 use crate::report::end_stopped;
-use crate::stop::Stop;
+use crate::stop::RunStop;
 use command_line::Shop;
 use cpo_elab::read_model;
-use given_files::Stop as Given;
+use given_files::GivenStop as Given;
 use modelgen::generate;
 use sched_base::{Desk, NoMemory, Port};
 use sched_model::Model;
@@ -38,14 +38,14 @@ pub fn generated_model(alloc: Global, shop: Shop) -> Result<Model, Given>
 }
 
 /// Prints the text of a job shop's model.
-fn print_shop<D: Desk>(alloc: Global, desk: &mut D, shop: Shop) -> Result<Ended, Stop>
+fn print_shop<D: Desk>(alloc: Global, desk: &mut D, shop: Shop) -> Result<Ended, RunStop>
     requires { IsShop shop }
     ensures { TriesGen shop result (D.state desk.old) (D.state desk.new) }
 {
     let text = text_of(alloc, shop)?;
     match desk.write(Port::Out, text.as_slice()) {
         Ok(()) => Ok(Ended::Done),
-        Err(_) => Err(Stop::Given(Given::Fault)),
+        Err(_) => Err(RunStop::Given(Given::Fault)),
     }
 }
 

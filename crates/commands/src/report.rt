@@ -2,11 +2,11 @@ ghost use Rattle.std.specs.Prelude.{◌≡◌, IfOk};
 ghost use Rattle.commands.specs.Told.{log_line};
 ghost use Rattle.commands.specs.code.Stops.{ending_of_stop};
 ghost use Rattle.commands.specs.code.Tries.{EndsStopped};
-ghost use Rattle.commands.specs.declared.stop.Stop.TheVariants as stop;
+ghost use Rattle.commands.specs.declared.stop.RunStop.TheVariants as stop;
 
 use crate::ended::Ended;
-use crate::stop::Stop;
-use given_files::{Stop as Given, push_told, report, tell};
+use crate::stop::RunStop;
+use given_files::{GivenStop as Given, push_told, report, tell};
 use sched_base::{Desk, NoMemory};
 use std::alloc::Global;
 
@@ -53,13 +53,13 @@ fn end_given<D: Desk>(alloc: Global, desk: &mut D, given: Given) -> Ended
 }
 
 /// The ending of a command that came to no answer, with its line on standard error.
-pub fn end_stopped<D: Desk>(alloc: Global, desk: &mut D, stop: Stop) -> Ended
+pub fn end_stopped<D: Desk>(alloc: Global, desk: &mut D, stop: RunStop) -> Ended
     ensures { EndsStopped stop result (D.state desk.old) (D.state desk.new) }
 {
     match stop {
-        Stop::Given(given) => end_given(alloc, desk, given),
-        Stop::LogRefused(line) => end_log_refused(alloc, desk, line),
-        Stop::LogTooLong => {
+        RunStop::Given(given) => end_given(alloc, desk, given),
+        RunStop::LogRefused(line) => end_log_refused(alloc, desk, line),
+        RunStop::LogTooLong => {
             report(desk, b"log too long\n");
             Ended::LogRefused
         }

@@ -11,12 +11,12 @@ use crate::generating::run_gen;
 use crate::report::end_stopped;
 use crate::showing::run_show;
 use crate::solving::run_solve;
-use crate::stop::Stop;
+use crate::stop::RunStop;
 use crate::trying::run_trial;
 use crate::using::run_core;
 use crate::verifying::run_verify;
 use command_line::{Command, WordsFault, read_command};
-use given_files::{Stop as Given, report};
+use given_files::{GivenStop as Given, report};
 use sched_base::Desk;
 use std::alloc::Global;
 
@@ -56,7 +56,7 @@ fn run_words<D: Desk>(alloc: Global, words: &[String], desk: &mut D) -> Ended
         Ok(Command::Bound { model, log }) => run_bound(alloc, desk, model, log),
         Ok(Command::Core { model, log }) => run_core(alloc, desk, model, log),
         Err(WordsFault::Usage) => end_usage(desk),
-        Err(WordsFault::NoMemory) => end_stopped(alloc, desk, Stop::Given(Given::NoMemory)),
+        Err(WordsFault::NoMemory) => end_stopped(alloc, desk, RunStop::Given(Given::NoMemory)),
     }
 }
 
@@ -71,6 +71,6 @@ pub fn run<D: Desk>(alloc: Global, words: Result<Vec<String>, WordsFault>, desk:
     match words {
         Ok(words) => run_words(alloc, words.as_slice(), desk),
         Err(WordsFault::Usage) => end_usage(desk),
-        Err(WordsFault::NoMemory) => end_stopped(alloc, desk, Stop::Given(Given::NoMemory)),
+        Err(WordsFault::NoMemory) => end_stopped(alloc, desk, RunStop::Given(Given::NoMemory)),
     }
 }

@@ -6,14 +6,14 @@ ghost use Rattle.commands.specs.code.Tries.{TriesShow};
 
 use crate::ended::Ended;
 use crate::report::end_stopped;
-use crate::stop::Stop;
-use given_files::{Stop as Given, read_file};
+use crate::stop::RunStop;
+use given_files::{GivenStop as Given, read_file};
 use sched_base::Desk;
 use sched_text::print_model;
 use std::alloc::Global;
 
 /// Prints the model that a file holds in its canonical form.
-fn show_file<D: Desk>(alloc: Global, desk: &mut D, name: &str) -> Result<Ended, Stop>
+fn show_file<D: Desk>(alloc: Global, desk: &mut D, name: &str) -> Result<Ended, RunStop>
     ensures within { WithinModel name.now (D.state desk.old) (D.state desk.new) }
     ensures tries { TriesShow name.now result (D.state desk.old) (D.state desk.new) }
 {
@@ -22,7 +22,7 @@ fn show_file<D: Desk>(alloc: Global, desk: &mut D, name: &str) -> Result<Ended, 
     drop(model);
     match printed {
         Ok(()) => Ok(Ended::Done),
-        Err(_) => Err(Stop::Given(Given::Fault)),
+        Err(_) => Err(RunStop::Given(Given::Fault)),
     }
 }
 

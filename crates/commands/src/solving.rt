@@ -9,8 +9,8 @@ ghost use Rattle.commands.specs.code.Tries.{Searches, TriesSolve};
 
 use crate::ended::Ended;
 use crate::report::end_stopped;
-use crate::stop::Stop;
-use given_files::{Stop as Given, read_file};
+use crate::stop::RunStop;
+use given_files::{GivenStop as Given, read_file};
 use sched_base::Desk;
 use sched_model::{Answer, Model, Solved};
 use sched_text::write_answer;
@@ -39,7 +39,7 @@ pub fn search_logged<D: Desk>(
     log: &str,
     nodes: u32,
     restarts: u32,
-) -> Result<Solved, Stop>
+) -> Result<Solved, RunStop>
     requires { IsLimit nodes }
     ensures { Searches model.now log.now (limits_of nodes restarts) result (D.state desk.old) (D.state desk.new) }
 {
@@ -58,7 +58,7 @@ fn solve_file<D: Desk>(
     log: &str,
     nodes: u32,
     restarts: u32,
-) -> Result<Ended, Stop>
+) -> Result<Ended, RunStop>
     requires { IsLimit nodes }
     ensures within { WithinModel name.now (D.state desk.old) (D.state desk.new) }
     ensures tries { TriesSolve (file name.now) log.now (limits_of nodes restarts) result (D.state desk.old) (D.state desk.new) }
@@ -76,7 +76,7 @@ fn solve_file<D: Desk>(
     drop((model, solved));
     match written {
         Ok(()) => Ok(ended),
-        Err(_) => Err(Stop::Given(Given::Fault)),
+        Err(_) => Err(RunStop::Given(Given::Fault)),
     }
 }
 

@@ -9,11 +9,11 @@ use crate::ended::Ended;
 use crate::generating::generated_model;
 use crate::report::end_stopped;
 use crate::solving::{ending, search_logged};
-use crate::stop::Stop;
+use crate::stop::RunStop;
 use command_line::Shop;
 use cpo_elab::answer_is_determined;
 use generated_models::generated_texts_deserve;
-use given_files::Stop as Given;
+use given_files::GivenStop as Given;
 use sched_base::Desk;
 use sched_text::write_summary;
 use std::alloc::Global;
@@ -27,7 +27,7 @@ fn solve_shop<D: Desk>(
     log: &str,
     nodes: u32,
     restarts: u32,
-) -> Result<Ended, Stop>
+) -> Result<Ended, RunStop>
     requires sized { IsShop shop }
     requires limited { IsLimit nodes }
     ensures { TriesSolve (generated shop) log.now (limits_of nodes restarts) result (D.state desk.old) (D.state desk.new) }
@@ -45,7 +45,7 @@ fn solve_shop<D: Desk>(
     drop((model, solved));
     match written {
         Ok(()) => Ok(ended),
-        Err(_) => Err(Stop::Given(Given::Fault)),
+        Err(_) => Err(RunStop::Given(Given::Fault)),
     }
 }
 

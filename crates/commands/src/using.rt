@@ -4,7 +4,7 @@ ghost use Rattle.commands.specs.Runs.{RunPromise, WithinFiles};
 
 use crate::ended::Ended;
 use crate::report::end_stopped;
-use crate::stop::Stop;
+use crate::stop::RunStop;
 use log_reports::report_core;
 use sched_base::Desk;
 use std::alloc::Global;
@@ -16,6 +16,6 @@ pub fn run_core<D: Desk>(alloc: Global, desk: &mut D, model: &str, log: &str) ->
 {
     match report_core(alloc, desk, model, log) {
         Ok(()) => Ended::Done,
-        Err(stop) => end_stopped(alloc, desk, Stop::from(stop)),
+        Err(stop) => end_stopped(alloc, desk, RunStop::from(stop)),
     }
 }

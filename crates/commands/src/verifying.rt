@@ -6,9 +6,9 @@ ghost use Rattle.commands.specs.code.Tries.{TriesVerify};
 
 use crate::ended::Ended;
 use crate::report::end_stopped;
-use crate::stop::Stop;
+use crate::stop::RunStop;
 use crate::valid::verify_bytes;
-use given_files::{Stop as Given, read_file, test_file};
+use given_files::{GivenStop as Given, read_file, test_file};
 use sched_base::{Desk, Port};
 use sched_model::value;
 use std::alloc::Global;
@@ -19,7 +19,7 @@ fn verify_file<D: Desk>(
     desk: &mut D,
     name: &str,
     schedule: &str,
-) -> Result<Ended, Stop>
+) -> Result<Ended, RunStop>
     ensures model { WithinModel name.now (D.state desk.old) (D.state desk.new) }
     ensures schedule { WithinSchedule schedule.now (D.state desk.old) (D.state desk.new) }
     ensures tries { TriesVerify name.now schedule.now result (D.state desk.old) (D.state desk.new) }
@@ -29,7 +29,7 @@ fn verify_file<D: Desk>(
         Ok(a) => a,
         Err(stop) => {
             drop(model);
-            return Err(Stop::Given(stop));
+            return Err(RunStop::Given(stop));
         }
     };
     // Called for its clause alone.
@@ -40,7 +40,7 @@ fn verify_file<D: Desk>(
     let text = spelt?;
     match desk.write(Port::Out, text.as_slice()) {
         Ok(()) => Ok(Ended::Done),
-        Err(_) => Err(Stop::Given(Given::Fault)),
+        Err(_) => Err(RunStop::Given(Given::Fault)),
     }
 }
 

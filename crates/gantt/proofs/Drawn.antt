@@ -10,8 +10,8 @@ use Rattle.sched_model.specs.Data.{Data}
 use Rattle.cpo_elab.specs.Answers.Answer.{Accepted}
 use Rattle.textline.specs.Lines.{Bytes}
 use Rattle.svg_page.specs.Page.{IsPage}
-use Rattle.given_files.specs.declared.stop.Stop.{Stop}
-use Rattle.given_files.specs.declared.stop.Stop.TheVariants as stop
+use Rattle.given_files.specs.declared.stop.GivenStop.{GivenStop}
+use Rattle.given_files.specs.declared.stop.GivenStop.TheVariants as stop
 use Rattle.given_files.specs.Files.{FileDeserves}
 use Rattle.given_files.specs.Told.{Reports, fault_line, memory_line, refusal_line, unfit_line}
 use Rattle.given_files.specs.code.Reading.{OnlyReads}
@@ -58,9 +58,9 @@ page_half_printed m model schedule page a e old s t w reads kept deserved tested
     })
 
 -- or memory was refused for it
-pub page_refused : (r : Result (Unit {0}) Stop) (model schedule : Bytes) (old s t : State) → IsErrAnd r (λ e. e ≡ stop.NoMemory) → OnlyReads old s → s.faults ≡ old.faults → OnlyTests s t → TriesDraw model schedule r old t
+pub page_refused : (r : Result (Unit {0}) GivenStop) (model schedule : Bytes) (old s t : State) → IsErrAnd r (λ e. e ≡ stop.NoMemory) → OnlyReads old s → s.faults ≡ old.faults → OnlyTests s t → TriesDraw model schedule r old t
 page_refused (Ok u) model schedule old s t refused reads kept tested = absurd refused
-page_refused (Err e) model schedule old s t refused reads kept tested = subst (λ (x : Stop). TriesDraw model schedule (Err x) old t) (sym refused)
+page_refused (Err e) model schedule old s t refused reads kept tested = subst (λ (x : GivenStop). TriesDraw model schedule (Err x) old t) (sym refused)
     (subst (TriesDraw model schedule (Err stop.NoMemory) old) (sym (both_only old s t reads tested)) (record { only = refl; later = subst (λ k. k ≤ t.faults) kept tested.later; tried = refl }))
 
 -- How a run ended.
@@ -103,7 +103,7 @@ no_memory model schedule old s new first later out told = record {
 ended_as : (model schedule : Bytes) (e ended : Ended) (old new : State) → ended ≡ e → DrawPromise model schedule e old new → DrawPromise model schedule ended old new
 ended_as model schedule e ended old new is promise = subst (λ x. DrawPromise model schedule x old new) (sym is) promise
 
-pub stopped : (model schedule : Bytes) (why : Stop) (ended : Ended) (old s new : State) → TriesDraw model schedule (Err why) old s → EndsStopped ending_of_stop why ended s new → DrawPromise model schedule ended old new
+pub stopped : (model schedule : Bytes) (why : GivenStop) (ended : Ended) (old s new : State) → TriesDraw model schedule (Err why) old s → EndsStopped ending_of_stop why ended s new → DrawPromise model schedule ended old new
 stopped model schedule stop.Fault ended old s new tries ends = ended_as model schedule end.Fault ended old new ends.0 (record {
   only = whole_only old s new tries.only ends.1.only;
   ends = (

@@ -4,13 +4,13 @@ ghost use Rattle.gantt.specs.Runs.{DrawPromise};
 
 use crate::ended::Ended;
 use crate::report::end_stopped;
-use given_files::{Stop, read_file, test_file};
+use given_files::{GivenStop, read_file, test_file};
 use sched_base::{Desk, Port};
 use std::alloc::Global;
 use svg_page::svg_page;
 
 /// Reads the model and the schedule that two files hold, and prints the page of the schedule.
-fn draw_file<D: Desk>(alloc: Global, desk: &mut D, name: &str, schedule: &str) -> Result<(), Stop>
+fn draw_file<D: Desk>(alloc: Global, desk: &mut D, name: &str, schedule: &str) -> Result<(), GivenStop>
     ensures { TriesDraw name.now schedule.now result (D.state desk.old) (D.state desk.new) }
 {
     let model = read_file(alloc, desk, name)?;
@@ -18,7 +18,7 @@ fn draw_file<D: Desk>(alloc: Global, desk: &mut D, name: &str, schedule: &str) -
     let page = svg_page(alloc, &model, &a)?;
     match desk.write(Port::Out, page.as_slice()) {
         Ok(()) => Ok(()),
-        Err(_) => Err(Stop::Fault),
+        Err(_) => Err(GivenStop::Fault),
     }
 }
 

@@ -8,8 +8,8 @@ use Rattle.sched_model.specs.Data.{Data}
 use Rattle.textline.specs.Lines.{Bytes}
 use Rattle.given_files.specs.declared.stop.ScheduleRefusal.{ScheduleRefusal}
 use Rattle.given_files.specs.declared.stop.ScheduleRefusal.TheVariants.{TooLong, Line, Constraint}
-use Rattle.given_files.specs.declared.stop.Stop.{Stop}
-use Rattle.given_files.specs.declared.stop.Stop.TheVariants as stop
+use Rattle.given_files.specs.declared.stop.GivenStop.{GivenStop}
+use Rattle.given_files.specs.declared.stop.GivenStop.TheVariants as stop
 use Rattle.given_files.specs.Files.{IfFile, schedule_limit}
 use Rattle.given_files.specs.Schedules.{SpellsWithin, IsUnfit}
 use Rattle.given_files.specs.code.Testing.{schedule_bytes, FetchesSchedule, Tests, TestsFile}
@@ -38,7 +38,7 @@ unfit_all m TooLong b bs is long = let size : length b ≡ length (schedule_byte
 unfit_all m (Line k) b bs is unfit = subst (λ x. IsUnfit m x (Line k)) (all_read b bs is unfit.0) unfit
 unfit_all m (Constraint c) b bs is unfit = (unfit.0, spells_all m unfit.0 b bs is unfit.1, unfit.2)
 
-pub tested : (m : Data) (name bytes : Bytes) (r : Result Assignment Stop) (old new : State) → FetchesSchedule name (Ok bytes) old new → Tests m bytes r → TestsFile m name r old new
+pub tested : (m : Data) (name bytes : Bytes) (r : Result Assignment GivenStop) (old new : State) → FetchesSchedule name (Ok bytes) old new → Tests m bytes r → TestsFile m name r old new
 tested m name bytes (Ok a) old new fetched tests = (
   fetched.0,
   if_file old name (λ bs. bytes ≡ schedule_bytes bs) (λ bs. SpellsWithin m bs a) (λ bs is. spells_all m a bytes bs is tests.0) fetched.1,

@@ -7,6 +7,6 @@ mod telling;
 mod testing;
 
 pub use load::read_file;
-pub use stop::{ScheduleRefusal, Stop};
+pub use stop::{GivenStop, ScheduleRefusal};
 pub use telling::{push_told, report, tell};
 pub use testing::test_file;

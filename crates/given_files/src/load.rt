@@ -1,7 +1,7 @@
 ghost use Rattle.given_files.specs.Files.{WithinModel};
 ghost use Rattle.given_files.specs.code.Reading.{Fetches, OnlyReads, Reads};
 
-use crate::stop::Stop;
+use crate::stop::GivenStop;
 use cpo_elab::read_model;
 use sched_base::{Desk, Inlet, List, read_up_to};
 use sched_model::Model;
@@ -12,7 +12,7 @@ const MODEL_BYTES: usize = 16_777_217;
 
 /// The bytes of the model's file, at most `MODEL_BYTES` of them.
 #[tactic(auto, using(crate::proofs::Within::model_unopened, crate::proofs::Within::model_within))]
-fn fetch<D: Desk>(alloc: Global, desk: &mut D, name: &str) -> Result<List<u8>, Stop>
+fn fetch<D: Desk>(alloc: Global, desk: &mut D, name: &str) -> Result<List<u8>, GivenStop>
     ensures only { OnlyReads (D.state desk.old) (D.state desk.new) }
     ensures within { WithinModel name.now (D.state desk.old) (D.state desk.new) }
     ensures fetches { Fetches name.now result (D.state desk.old) (D.state desk.new) }
@@ -23,7 +23,7 @@ fn fetch<D: Desk>(alloc: Global, desk: &mut D, name: &str) -> Result<List<u8>, S
 }
 
 /// Reads the model's file, and the model that it holds.
-pub fn read_file<D: Desk>(alloc: Global, desk: &mut D, name: &str) -> Result<Model, Stop>
+pub fn read_file<D: Desk>(alloc: Global, desk: &mut D, name: &str) -> Result<Model, GivenStop>
     ensures only { OnlyReads (D.state desk.old) (D.state desk.new) }
     ensures within { WithinModel name.now (D.state desk.old) (D.state desk.new) }
     ensures reads { Reads name.now result (D.state desk.old) (D.state desk.new) }

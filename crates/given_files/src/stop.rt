@@ -15,7 +15,7 @@ pub enum ScheduleRefusal {
 
 /// Why a run comes to nothing that it was to print.
 #[derive(Clone, Copy, Debug)]
-pub enum Stop {
+pub enum GivenStop {
     /// The outside failed.
     Fault,
     NoMemory,
@@ -24,66 +24,66 @@ pub enum Stop {
     ScheduleRefused(ScheduleRefusal),
 }
 
-impl From<Failed> for Stop {
+impl From<Failed> for GivenStop {
     ghost use Rattle.std.specs.Prelude.{◌≡◌};
-    ghost use Rattle.given_files.specs.declared.stop.Stop.TheVariants as stop;
+    ghost use Rattle.given_files.specs.declared.stop.GivenStop.TheVariants as stop;
 
     ghost from_gives = { λ _ s. s ≡ stop.Fault };
 
-    fn from(_: Failed) -> Stop {
-        Stop::Fault
+    fn from(_: Failed) -> GivenStop {
+        GivenStop::Fault
     }
 }
 
-impl From<NoMemory> for Stop {
+impl From<NoMemory> for GivenStop {
     ghost use Rattle.std.specs.Prelude.{◌≡◌};
-    ghost use Rattle.given_files.specs.declared.stop.Stop.TheVariants as stop;
+    ghost use Rattle.given_files.specs.declared.stop.GivenStop.TheVariants as stop;
 
     ghost from_gives = { λ _ s. s ≡ stop.NoMemory };
 
-    fn from(_: NoMemory) -> Stop {
-        Stop::NoMemory
+    fn from(_: NoMemory) -> GivenStop {
+        GivenStop::NoMemory
     }
 }
 
-impl From<ReadError> for Stop {
+impl From<ReadError> for GivenStop {
     ghost use Rattle.std.specs.Prelude.{◌≡◌};
     ghost use Rattle.given_files.specs.code.Stops.{stop_of_read};
 
     ghost from_gives = { λ e s. s ≡ stop_of_read e };
 
-    fn from(e: ReadError) -> Stop {
+    fn from(e: ReadError) -> GivenStop {
         match e {
-            ReadError::Failed => Stop::Fault,
-            ReadError::NoMemory => Stop::NoMemory,
+            ReadError::Failed => GivenStop::Fault,
+            ReadError::NoMemory => GivenStop::NoMemory,
         }
     }
 }
 
-impl From<ReadFault> for Stop {
+impl From<ReadFault> for GivenStop {
     ghost use Rattle.std.specs.Prelude.{◌≡◌};
     ghost use Rattle.given_files.specs.code.Stops.{stop_of_text};
 
     ghost from_gives = { λ e s. s ≡ stop_of_text e };
 
-    fn from(e: ReadFault) -> Stop {
+    fn from(e: ReadFault) -> GivenStop {
         match e {
-            ReadFault::Refused(r) => Stop::ModelRefused(r),
-            ReadFault::NoMemory => Stop::NoMemory,
+            ReadFault::Refused(r) => GivenStop::ModelRefused(r),
+            ReadFault::NoMemory => GivenStop::NoMemory,
         }
     }
 }
 
-impl From<ScheduleFault> for Stop {
+impl From<ScheduleFault> for GivenStop {
     ghost use Rattle.std.specs.Prelude.{◌≡◌};
     ghost use Rattle.given_files.specs.code.Stops.{stop_of_schedule};
 
     ghost from_gives = { λ e s. s ≡ stop_of_schedule e };
 
-    fn from(e: ScheduleFault) -> Stop {
+    fn from(e: ScheduleFault) -> GivenStop {
         match e {
-            ScheduleFault::Refused { line } => Stop::ScheduleRefused(ScheduleRefusal::Line(line)),
-            ScheduleFault::NoMemory => Stop::NoMemory,
+            ScheduleFault::Refused { line } => GivenStop::ScheduleRefused(ScheduleRefusal::Line(line)),
+            ScheduleFault::NoMemory => GivenStop::NoMemory,
         }
     }
 }

@@ -3,9 +3,9 @@ ghost use Rattle.std.specs.Fmt.{decimal};
 ghost use Rattle.textline.specs.Lines.{line};
 ghost use Rattle.given_files.specs.Told.{Reports, refusal_line, unfit_line};
 ghost use Rattle.given_files.specs.code.Telling.{IsTold};
-ghost use Rattle.given_files.specs.declared.stop.Stop.TheVariants as stop;
+ghost use Rattle.given_files.specs.declared.stop.GivenStop.TheVariants as stop;
 
-use crate::stop::{ScheduleRefusal, Stop};
+use crate::stop::{GivenStop, ScheduleRefusal};
 use cpo_text::Refusal;
 use itoa::Buffer;
 use sched_base::{Desk, NoMemory, Port};
@@ -65,52 +65,52 @@ fn unfit_text(alloc: Global, r: ScheduleRefusal) -> Result<Vec<u8>, NoMemory>
 }
 
 /// Tells a refusal of the model.
-fn tell_refusal<D: Desk>(alloc: Global, desk: &mut D, r: Refusal) -> Stop
+fn tell_refusal<D: Desk>(alloc: Global, desk: &mut D, r: Refusal) -> GivenStop
     ensures { IsTold (stop.ModelRefused r) result (D.state desk.old) (D.state desk.new) }
 {
     match refusal_text(alloc, r) {
         Ok(text) => {
             report(desk, text.as_slice());
-            Stop::ModelRefused(r)
+            GivenStop::ModelRefused(r)
         }
         Err(_) => {
             report(desk, b"no memory\n");
-            Stop::NoMemory
+            GivenStop::NoMemory
         }
     }
 }
 
 /// Tells why the schedule is refused.
-fn tell_unfit<D: Desk>(alloc: Global, desk: &mut D, r: ScheduleRefusal) -> Stop
+fn tell_unfit<D: Desk>(alloc: Global, desk: &mut D, r: ScheduleRefusal) -> GivenStop
     ensures { IsTold (stop.ScheduleRefused r) result (D.state desk.old) (D.state desk.new) }
 {
     match unfit_text(alloc, r) {
         Ok(text) => {
             report(desk, text.as_slice());
-            Stop::ScheduleRefused(r)
+            GivenStop::ScheduleRefused(r)
         }
         Err(_) => {
             report(desk, b"no memory\n");
-            Stop::NoMemory
+            GivenStop::NoMemory
         }
     }
 }
 
 /// Puts the line of a stop on standard error, and answers which stop was told: this one, or want of
 /// memory, where memory was refused for the line.
-pub fn tell<D: Desk>(alloc: Global, desk: &mut D, stop: Stop) -> Stop
+pub fn tell<D: Desk>(alloc: Global, desk: &mut D, stop: GivenStop) -> GivenStop
     ensures { IsTold stop result (D.state desk.old) (D.state desk.new) }
 {
     match stop {
-        Stop::Fault => {
+        GivenStop::Fault => {
             report(desk, b"fault\n");
-            Stop::Fault
+            GivenStop::Fault
         }
-        Stop::NoMemory => {
+        GivenStop::NoMemory => {
             report(desk, b"no memory\n");
-            Stop::NoMemory
+            GivenStop::NoMemory
         }
-        Stop::ModelRefused(r) => tell_refusal(alloc, desk, r),
-        Stop::ScheduleRefused(r) => tell_unfit(alloc, desk, r),
+        GivenStop::ModelRefused(r) => tell_refusal(alloc, desk, r),
+        GivenStop::ScheduleRefused(r) => tell_unfit(alloc, desk, r),
     }
 }

@@ -3,7 +3,7 @@ ghost use Rattle.sched_model.specs.Domain.{is_in_domain};
 ghost use Rattle.given_files.specs.Files.{WithinSchedule};
 ghost use Rattle.given_files.specs.code.Testing.{FetchesSchedule, FindsFailing, OnlyTests, Tests, TestsFile};
 
-use crate::stop::{ScheduleRefusal, Stop};
+use crate::stop::{GivenStop, ScheduleRefusal};
 use read_schedule::read_schedule;
 use sched_base::{Con, Desk, Inlet, List, read_up_to};
 use sched_model::{Assignment, Model, holds};
@@ -14,7 +14,7 @@ const MOST_BYTES: usize = 67_108_864;
 
 /// The bytes of the schedule's file, one more than it may have at most.
 #[tactic(auto, using(crate::proofs::Within::schedule_unopened, crate::proofs::Within::schedule_within))]
-fn fetch<D: Desk>(alloc: Global, desk: &mut D, name: &str) -> Result<List<u8>, Stop>
+fn fetch<D: Desk>(alloc: Global, desk: &mut D, name: &str) -> Result<List<u8>, GivenStop>
     ensures only { OnlyTests (D.state desk.old) (D.state desk.new) }
     ensures within { WithinSchedule name.now (D.state desk.old) (D.state desk.new) }
     ensures fetches { FetchesSchedule name.now result (D.state desk.old) (D.state desk.new) }
@@ -39,16 +39,16 @@ fn first_failing(model: &Model, a: &Assignment) -> Option<u32>
 }
 
 /// The solution that a text spells.
-fn read_solution(alloc: Global, model: &Model, bytes: &[u8]) -> Result<Assignment, Stop>
+fn read_solution(alloc: Global, model: &Model, bytes: &[u8]) -> Result<Assignment, GivenStop>
     ensures { Tests model.now bytes.now result }
 {
     if bytes.len() > MOST_BYTES {
-        return Err(Stop::ScheduleRefused(ScheduleRefusal::TooLong));
+        return Err(GivenStop::ScheduleRefused(ScheduleRefusal::TooLong));
     }
     let a = read_schedule(alloc, model, bytes)?;
     match first_failing(model, &a) {
         None => Ok(a),
-        Some(c) => Err(Stop::ScheduleRefused(ScheduleRefusal::Constraint(c))),
+        Some(c) => Err(GivenStop::ScheduleRefused(ScheduleRefusal::Constraint(c))),
     }
 }
 
@@ -58,7 +58,7 @@ pub fn test_file<D: Desk>(
     desk: &mut D,
     model: &Model,
     schedule: &str,
-) -> Result<Assignment, Stop>
+) -> Result<Assignment, GivenStop>
     ensures only { OnlyTests (D.state desk.old) (D.state desk.new) }
     ensures within { WithinSchedule schedule.now (D.state desk.old) (D.state desk.new) }
     ensures tests { TestsFile model.now schedule.now result (D.state desk.old) (D.state desk.new) }

@@ -7,7 +7,7 @@ use Rattle.sched_model.specs.declared.types.Answer.{Answer}
 use Rattle.sched_model.specs.declared.types.Answer.TheVariants as answer
 use Rattle.textline.specs.Lines.{Bytes}
 use Rattle.logtext.specs.Judgement.{log_limit}
-use Rattle.given_files.specs.declared.stop.Stop.TheVariants as given
+use Rattle.given_files.specs.declared.stop.GivenStop.TheVariants as given
 use Rattle.given_files.specs.Files.{ReadsModel, file_of}
 use Rattle.given_files.specs.Told.{Reports, fault_line, memory_line, refusal_line}
 use Rattle.given_files.specs.laws.Endings.{tells_on}

@@ -25,7 +25,7 @@ use Rattle.replay.specs.LastSchedule.{found_schedule}
 use Rattle.replay.specs.Replaying.{ReplaysFront, JudgesFront, IsReplayed, IsWhole, IsCut, BeginsAt}
 use Rattle.replay.specs.lemmas.LastSchedule.{last_shown}
 use Rattle.replay.specs.lemmas.Told.{each, both}
-use Rattle.given_files.specs.declared.stop.Stop.TheVariants as given
+use Rattle.given_files.specs.declared.stop.GivenStop.TheVariants as given
 use Rattle.given_files.specs.Files.{IfFile, FileDeserves, ReadsModel}
 use Rattle.given_files.specs.code.Reading.{OnlyReads}
 use Rattle.last_plan.specs.declared.counts.Counts.{Counts}

@@ -6,7 +6,7 @@ ghost use Rattle.last_plan.specs.declared.stop.PlanStop.TheVariants as stop;
 use crate::ended::Ended;
 use crate::stop::PlanStop;
 use crate::texts::push_place;
-use given_files::{Stop as Given, push_told, report, tell};
+use given_files::{GivenStop as Given, push_told, report, tell};
 use sched_base::{Desk, NoMemory};
 use std::alloc::Global;
 

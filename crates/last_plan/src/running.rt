@@ -8,7 +8,7 @@ use crate::ended::Ended;
 use crate::planning::run_plan;
 use crate::report::end_stopped;
 use crate::stop::PlanStop;
-use given_files::{Stop as Given, report};
+use given_files::{GivenStop as Given, report};
 use real_desk::words::WordsFault;
 use sched_base::Desk;
 use std::alloc::Global;

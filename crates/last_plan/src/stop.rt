@@ -1,4 +1,4 @@
-use given_files::Stop as Given;
+use given_files::GivenStop as Given;
 use replay::ReplayFault;
 use sched_base::{Failed, NoMemory};
 
@@ -26,7 +26,7 @@ impl From<Given> for PlanStop {
 
 impl From<Failed> for PlanStop {
     ghost use Rattle.std.specs.Prelude.{◌≡◌};
-    ghost use Rattle.given_files.specs.declared.stop.Stop.TheVariants as given;
+    ghost use Rattle.given_files.specs.declared.stop.GivenStop.TheVariants as given;
     ghost use Rattle.last_plan.specs.declared.stop.PlanStop.TheVariants as stop;
 
     ghost from_gives = { λ _ s. s ≡ stop.Given given.Fault };
@@ -38,7 +38,7 @@ impl From<Failed> for PlanStop {
 
 impl From<NoMemory> for PlanStop {
     ghost use Rattle.std.specs.Prelude.{◌≡◌};
-    ghost use Rattle.given_files.specs.declared.stop.Stop.TheVariants as given;
+    ghost use Rattle.given_files.specs.declared.stop.GivenStop.TheVariants as given;
     ghost use Rattle.last_plan.specs.declared.stop.PlanStop.TheVariants as stop;
 
     ghost from_gives = { λ _ s. s ≡ stop.Given given.NoMemory };

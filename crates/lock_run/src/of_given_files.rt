@@ -7,12 +7,12 @@ ghost use Rattle.given_files.specs.code.Testing.{OnlyTests, TestsFile};
 ghost use Rattle.given_files.specs.code.Telling.{IsTold};
 ghost use Rattle.given_files.specs.Told.{Reports};
 
-use given_files::Stop;
+use given_files::GivenStop;
 use sched_base::{Desk, NoMemory};
 use sched_model::{Assignment, Model};
 use std::alloc::Global;
 
-pub fn read_file<D: Desk>(alloc: Global, desk: &mut D, name: &str) -> Result<Model, Stop>
+pub fn read_file<D: Desk>(alloc: Global, desk: &mut D, name: &str) -> Result<Model, GivenStop>
     ensures only { OnlyReads (D.state desk.old) (D.state desk.new) }
     ensures within { WithinModel name.now (D.state desk.old) (D.state desk.new) }
     ensures reads { Reads name.now result (D.state desk.old) (D.state desk.new) }
@@ -25,7 +25,7 @@ pub fn test_file<D: Desk>(
     desk: &mut D,
     model: &Model,
     schedule: &str,
-) -> Result<Assignment, Stop>
+) -> Result<Assignment, GivenStop>
     ensures only { OnlyTests (D.state desk.old) (D.state desk.new) }
     ensures within { WithinSchedule schedule.now (D.state desk.old) (D.state desk.new) }
     ensures tests { TestsFile model.now schedule.now result (D.state desk.old) (D.state desk.new) }
@@ -33,7 +33,7 @@ pub fn test_file<D: Desk>(
     given_files::test_file(alloc, desk, model, schedule)
 }
 
-pub fn tell<D: Desk>(alloc: Global, desk: &mut D, stop: Stop) -> Stop
+pub fn tell<D: Desk>(alloc: Global, desk: &mut D, stop: GivenStop) -> GivenStop
     ensures { IsTold stop result (D.state desk.old) (D.state desk.new) }
 {
     given_files::tell(alloc, desk, stop)

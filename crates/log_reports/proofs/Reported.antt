@@ -15,7 +15,7 @@ use Rattle.checker.specs.declared.judging.CheckFault.{CheckFault}
 use Rattle.checker.specs.declared.judging.CheckFault.TheVariants as fault
 use Rattle.checker.specs.Checking.{ChecksBy, JudgesBy}
 use Rattle.checker.specs.Judgement.{IsRefused, IsTooLong}
-use Rattle.given_files.specs.declared.stop.Stop.TheVariants as given
+use Rattle.given_files.specs.declared.stop.GivenStop.TheVariants as given
 use Rattle.given_files.specs.Files.{IfFile, HasFile, FileDeserves}
 use Rattle.given_files.specs.code.Reading.{OnlyReads, Reads}
 use Rattle.log_reports.specs.declared.stop.LogStop.{LogStop}

@@ -8,7 +8,7 @@ use crate::texts::{bound_bytes, core_bytes};
 use bound_report::{Bounded, bound};
 use checker::{Checked, check};
 use conflict::core;
-use given_files::{Stop as Given, read_file};
+use given_files::{GivenStop as Given, read_file};
 use sched_base::{Con, Desk, Inlet, List, Port};
 use sched_model::Model;
 use sched_text::write_accepted;

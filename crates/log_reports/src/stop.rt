@@ -1,5 +1,5 @@
 use checker::CheckFault;
-use given_files::Stop as Given;
+use given_files::GivenStop as Given;
 use sched_base::{Failed, NoMemory};
 
 /// Why nothing is reported of a log.
@@ -25,7 +25,7 @@ impl From<Given> for LogStop {
 
 impl From<Failed> for LogStop {
     ghost use Rattle.std.specs.Prelude.{◌≡◌};
-    ghost use Rattle.given_files.specs.declared.stop.Stop.TheVariants as given;
+    ghost use Rattle.given_files.specs.declared.stop.GivenStop.TheVariants as given;
     ghost use Rattle.log_reports.specs.declared.stop.LogStop.TheVariants as stop;
 
     ghost from_gives = { λ _ s. s ≡ stop.Given given.Fault };
@@ -37,7 +37,7 @@ impl From<Failed> for LogStop {
 
 impl From<NoMemory> for LogStop {
     ghost use Rattle.std.specs.Prelude.{◌≡◌};
-    ghost use Rattle.given_files.specs.declared.stop.Stop.TheVariants as given;
+    ghost use Rattle.given_files.specs.declared.stop.GivenStop.TheVariants as given;
     ghost use Rattle.log_reports.specs.declared.stop.LogStop.TheVariants as stop;
 
     ghost from_gives = { λ _ s. s ≡ stop.Given given.NoMemory };

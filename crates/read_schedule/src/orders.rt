@@ -10,7 +10,7 @@ ghost use Rattle.read_schedule.specs.code.Rows.{order_row};
 use crate::assignment::try_order;
 use crate::index::Index;
 use crate::lines::Lines;
-use crate::stop::Stop;
+use crate::stop::PartStop;
 use itoa::Buffer;
 use sched_base::{Itv, List, NoMemory};
 use sched_model::{Assignment, Model, SequenceDef};
@@ -39,7 +39,7 @@ fn read_members(
     model: &Model,
     index: &Index,
     words: &mut Words<'_>,
-) -> Result<List<Itv>, Stop>
+) -> Result<List<Itv>, PartStop>
     requires { index.now ≡ numbered 0 model.now.intervals }
     ensures { TriesAll (interval_names model.now) (are_all_itvs model.now) words.old result }
 {
@@ -49,7 +49,7 @@ fn read_members(
             return Ok(order);
         };
         let Some(x) = index.find(word) else {
-            return Err(Stop::Line(0));
+            return Err(PartStop::Line(0));
         };
         order.push(x)?;
     }
@@ -62,7 +62,7 @@ fn read_words(
     index: &Index,
     i: usize,
     line: &[u8],
-) -> Result<List<Itv>, Stop>
+) -> Result<List<Itv>, PartStop>
     requires index { index.now ≡ numbered 0 model.now.intervals }
     requires within { i < length model.now.sequences }
     ensures { TriesAll (order_row model.now i (sequence_at model.now i)) (are_all_itvs model.now) (words_of line.now) result }
@@ -70,10 +70,10 @@ fn read_words(
     let name = label(alloc, i, &model.sequences()[i])?;
     let mut words = Words::of(line);
     if !words.take(b"order") {
-        return Err(Stop::Line(0));
+        return Err(PartStop::Line(0));
     }
     if !words.take(name.as_slice()) {
-        return Err(Stop::Line(0));
+        return Err(PartStop::Line(0));
     }
     read_members(alloc, model, index, &mut words)
 }
@@ -86,7 +86,7 @@ fn next_order(
     i: usize,
     a: Assignment,
     lines: &mut Lines<'_>,
-) -> Result<(Assignment, List<Itv>), Stop>
+) -> Result<(Assignment, List<Itv>), PartStop>
     requires valid { IsValid model.now }
     requires domain { is_in_domain model.now a ≡ true }
     requires index { index.now ≡ numbered 0 model.now.intervals }
@@ -95,14 +95,14 @@ fn next_order(
     ensures row { TriesRow (order_row model.now i (sequence_at model.now i)) (lists_present a (sequence_at model.now i)) lines.old lines.new result }
 {
     let Some(line) = lines.next() else {
-        return Err(Stop::Line(0));
+        return Err(PartStop::Line(0));
     };
     let order = read_words(alloc, model, index, i, line)?;
     let (a, order, fits) = try_order(model, a, i, order);
     if fits {
         return Ok((a, order));
     }
-    Err(Stop::Line(0))
+    Err(PartStop::Line(0))
 }
 
 /// Reads the lines of the sequences. The assignment in the domain has the slots that were read.
@@ -112,7 +112,7 @@ pub fn read_orders(
     index: &Index,
     a: Assignment,
     lines: &mut Lines<'_>,
-) -> Result<(Assignment, List<List<Itv>>), Stop>
+) -> Result<(Assignment, List<List<Itv>>), PartStop>
     requires domain { is_in_domain model.now a ≡ true }
     requires index { index.now ≡ numbered 0 model.now.intervals }
     ensures { ReadsBeside (order_row model.now) (lists_present a) model.now.sequences a lines.old lines.new result }
@@ -125,8 +125,8 @@ pub fn read_orders(
                 a = back;
                 orders.push(order)?;
             }
-            Err(Stop::Line(_)) => return Err(Stop::Line(i)),
-            Err(Stop::NoMemory) => return Err(Stop::NoMemory),
+            Err(PartStop::Line(_)) => return Err(PartStop::Line(i)),
+            Err(PartStop::NoMemory) => return Err(PartStop::NoMemory),
         }
     }
     Ok((a, orders))

@@ -11,7 +11,7 @@ use crate::lines::Lines;
 use crate::orders::read_orders;
 use crate::slots::{each_can_stand, read_slots};
 use crate::states::read_states;
-use crate::stop::Stop;
+use crate::stop::PartStop;
 use sched_model::{Assignment, Model};
 use std::alloc::Global;
 
@@ -44,7 +44,7 @@ fn read_end(lines: &mut Lines<'_>) -> Option<usize>
 }
 
 /// Reads all lines behind a header.
-fn read_body(alloc: Global, model: &Model, lines: &mut Lines<'_>) -> Result<Assignment, Stop>
+fn read_body(alloc: Global, model: &Model, lines: &mut Lines<'_>) -> Result<Assignment, PartStop>
     requires stand { EachCanStand model.now.intervals true }
     requires valid { IsValid model.now }
     ensures { ReadsBody model.now lines.old result }
@@ -55,14 +55,14 @@ fn read_body(alloc: Global, model: &Model, lines: &mut Lines<'_>) -> Result<Assi
     let before = model.intervals().len();
     let (a, orders) = match read_orders(alloc, model, &index, a, lines) {
         Ok(read) => read,
-        Err(Stop::Line(n)) => return Err(Stop::Line(before + n)),
-        Err(Stop::NoMemory) => return Err(Stop::NoMemory),
+        Err(PartStop::Line(n)) => return Err(PartStop::Line(before + n)),
+        Err(PartStop::NoMemory) => return Err(PartStop::NoMemory),
     };
     let before = before + model.sequences().len();
     let (a, segs) = match read_states(alloc, model, a, lines) {
         Ok(read) => read,
-        Err(Stop::Line(n)) => return Err(Stop::Line(before + n)),
-        Err(Stop::NoMemory) => return Err(Stop::NoMemory),
+        Err(PartStop::Line(n)) => return Err(PartStop::Line(before + n)),
+        Err(PartStop::NoMemory) => return Err(PartStop::NoMemory),
     };
     let before = before + model.states().len();
     match read_end(lines) {
@@ -71,7 +71,7 @@ fn read_body(alloc: Global, model: &Model, lines: &mut Lines<'_>) -> Result<Assi
             orders,
             segs,
         }),
-        Some(n) => Err(Stop::Line(before + n)),
+        Some(n) => Err(PartStop::Line(before + n)),
     }
 }
 
@@ -95,9 +95,9 @@ pub fn read_schedule(
     };
     match read_body(alloc, model, &mut lines) {
         Ok(a) => Ok(a),
-        Err(Stop::Line(n)) => Err(ScheduleFault::Refused {
+        Err(PartStop::Line(n)) => Err(ScheduleFault::Refused {
             line: (header + n + 1) as u32,
         }),
-        Err(Stop::NoMemory) => Err(ScheduleFault::NoMemory),
+        Err(PartStop::NoMemory) => Err(ScheduleFault::NoMemory),
     }
 }

@@ -11,7 +11,7 @@ ghost use Rattle.read_schedule.specs.code.Reads.{CanStand, EachCanStand, ReadsAl
 ghost use Rattle.read_schedule.specs.code.Rows.{slot_row};
 
 use crate::lines::Lines;
-use crate::stop::Stop;
+use crate::stop::PartStop;
 use crate::words::take_number;
 use sched_base::List;
 use sched_model::{IntervalDef, Model, Slot};
@@ -164,7 +164,7 @@ fn next_slot(d: &IntervalDef, lines: &mut Lines<'_>) -> Option<Slot>
 }
 
 /// The slots, one line for each interval.
-fn read_all(alloc: Global, defs: &[IntervalDef], lines: &mut Lines<'_>) -> Result<List<Slot>, Stop>
+fn read_all(alloc: Global, defs: &[IntervalDef], lines: &mut Lines<'_>) -> Result<List<Slot>, PartStop>
     requires defs { list_all is_interval_def defs.now ≡ true }
     requires names { list_all (λ d. is_word d.name) defs.now ≡ true }
     ensures { ReadsRows slot_row fits_def defs.now lines.old lines.new result }
@@ -172,7 +172,7 @@ fn read_all(alloc: Global, defs: &[IntervalDef], lines: &mut Lines<'_>) -> Resul
     let mut slots = List::new(alloc);
     for d in defs {
         let Some(slot) = next_slot(d, lines) else {
-            return Err(Stop::Line(slots.len()));
+            return Err(PartStop::Line(slots.len()));
         };
         slots.push(slot)?;
     }
@@ -180,7 +180,7 @@ fn read_all(alloc: Global, defs: &[IntervalDef], lines: &mut Lines<'_>) -> Resul
 }
 
 /// Reads the lines of the intervals.
-pub fn read_slots(alloc: Global, model: &Model, lines: &mut Lines<'_>) -> Result<List<Slot>, Stop>
+pub fn read_slots(alloc: Global, model: &Model, lines: &mut Lines<'_>) -> Result<List<Slot>, PartStop>
     ensures { ReadsRows slot_row fits_def model.now.intervals lines.old lines.new result }
 {
     read_all(alloc, model.intervals(), lines)

@@ -10,7 +10,7 @@ ghost use Rattle.read_schedule.specs.code.Rows.{state_row};
 
 use crate::assignment::try_segments;
 use crate::lines::Lines;
-use crate::stop::Stop;
+use crate::stop::PartStop;
 use crate::words::take_number;
 use sched_base::List;
 use sched_model::{Assignment, Model, Segment};
@@ -34,13 +34,13 @@ fn take_segment(words: &mut Words<'_>) -> Option<Segment>
 }
 
 /// The segments whose numbers all the words are.
-fn read_segments(alloc: Global, words: &mut Words<'_>) -> Result<List<Segment>, Stop>
+fn read_segments(alloc: Global, words: &mut Words<'_>) -> Result<List<Segment>, PartStop>
     ensures { TriesAll (flat_map segment_words) are_spelled words.old result }
 {
     let mut segments = List::new(alloc);
     while !words.is_done() {
         let Some(segment) = take_segment(words) else {
-            return Err(Stop::Line(0));
+            return Err(PartStop::Line(0));
         };
         segments.push(segment)?;
     }
@@ -48,16 +48,16 @@ fn read_segments(alloc: Global, words: &mut Words<'_>) -> Result<List<Segment>, 
 }
 
 /// The segments in the words of a state function's line.
-fn read_words(alloc: Global, model: &Model, i: usize, line: &[u8]) -> Result<List<Segment>, Stop>
+fn read_words(alloc: Global, model: &Model, i: usize, line: &[u8]) -> Result<List<Segment>, PartStop>
     requires { i < length model.now.states }
     ensures { TriesAll (state_row i (state_at model.now i)) are_spelled (words_of line.now) result }
 {
     let mut words = Words::of(line);
     if !words.take(b"state") {
-        return Err(Stop::Line(0));
+        return Err(PartStop::Line(0));
     }
     if !words.take(model.states()[i].name.as_slice()) {
-        return Err(Stop::Line(0));
+        return Err(PartStop::Line(0));
     }
     read_segments(alloc, &mut words)
 }
@@ -69,7 +69,7 @@ fn next_segments(
     i: usize,
     a: Assignment,
     lines: &mut Lines<'_>,
-) -> Result<(Assignment, List<Segment>), Stop>
+) -> Result<(Assignment, List<Segment>), PartStop>
     requires valid { IsValid model.now }
     requires domain { is_in_domain model.now a ≡ true }
     requires within { i < length model.now.states }
@@ -77,14 +77,14 @@ fn next_segments(
     ensures row { TriesRow (state_row i (state_at model.now i)) (are_segments model.now (state_at model.now i)) lines.old lines.new result }
 {
     let Some(line) = lines.next() else {
-        return Err(Stop::Line(0));
+        return Err(PartStop::Line(0));
     };
     let segments = read_words(alloc, model, i, line)?;
     let (a, segments, fits) = try_segments(model, a, i, segments);
     if fits {
         return Ok((a, segments));
     }
-    Err(Stop::Line(0))
+    Err(PartStop::Line(0))
 }
 
 /// Reads the lines of the state functions.
@@ -93,7 +93,7 @@ pub fn read_states(
     model: &Model,
     a: Assignment,
     lines: &mut Lines<'_>,
-) -> Result<(Assignment, List<List<Segment>>), Stop>
+) -> Result<(Assignment, List<List<Segment>>), PartStop>
     requires { is_in_domain model.now a ≡ true }
     ensures { ReadsBeside state_row (are_segments model.now) model.now.states a lines.old lines.new result }
 {
@@ -105,8 +105,8 @@ pub fn read_states(
                 a = back;
                 segs.push(segments)?;
             }
-            Err(Stop::Line(_)) => return Err(Stop::Line(i)),
-            Err(Stop::NoMemory) => return Err(Stop::NoMemory),
+            Err(PartStop::Line(_)) => return Err(PartStop::Line(i)),
+            Err(PartStop::NoMemory) => return Err(PartStop::NoMemory),
         }
     }
     Ok((a, segs))

@@ -14,8 +14,8 @@ use Rattle.cpo_elab.specs.Answers.Answer.{Accepted, Refused}
 use Rattle.cpo_elab.specs.Deserves.{Deserves}
 use Rattle.textline.specs.Lines.{Bytes}
 use Rattle.given_files.specs.declared.stop.ScheduleRefusal.{ScheduleRefusal}
-use Rattle.given_files.specs.declared.stop.Stop.{Stop}
-use Rattle.given_files.specs.declared.stop.Stop.TheVariants as stop
+use Rattle.given_files.specs.declared.stop.GivenStop.{GivenStop}
+use Rattle.given_files.specs.declared.stop.GivenStop.TheVariants as stop
 use Rattle.given_files.specs.Files.{IfFile, FileDeserves}
 use Rattle.given_files.specs.Schedules.{SpellsWithin, IsUnfit}
 use Rattle.given_files.specs.Told.{fault_line, memory_line}
@@ -78,21 +78,21 @@ found model schedule text m x old s reads holds due finds = elim finds as (λ w.
 
 -- What a schedule in a file is found to be.
 
-pub tested_right : (m : Data) (text schedule : Bytes) (a : Assignment) (r : Result Explained Stop) (old s : State) → TestsFile m schedule (Ok a) old s → OfRight r → Tested m text schedule r old s
+pub tested_right : (m : Data) (text schedule : Bytes) (a : Assignment) (r : Result Explained GivenStop) (old s : State) → TestsFile m schedule (Ok a) old s → OfRight r → Tested m text schedule r old s
 tested_right m text schedule a (Ok x) old s tests right = (tests.0, inl (right.0, right.1, (a, tests.1, tests.2)))
 tested_right m text schedule a (Err stop.NoMemory) old s tests right = tt
 tested_right m text schedule a (Err stop.Fault) old s tests right = absurd right
 tested_right m text schedule a (Err (stop.ModelRefused e)) old s tests right = absurd right
 tested_right m text schedule a (Err (stop.ScheduleRefused e)) old s tests right = absurd right
 
-tested_unfit : (m : Data) (text schedule : Bytes) (e : ScheduleRefusal) (r : Result Explained Stop) (old s : State) → TestsFile m schedule (Err (stop.ScheduleRefused e)) old s → OfSchedule text e r → Tested m text schedule r old s
+tested_unfit : (m : Data) (text schedule : Bytes) (e : ScheduleRefusal) (r : Result Explained GivenStop) (old s : State) → TestsFile m schedule (Err (stop.ScheduleRefused e)) old s → OfSchedule text e r → Tested m text schedule r old s
 tested_unfit m text schedule e (Ok x) old s tests of = (tests.2, inr (of.0, (e, of.1.0, tests.0, of.1.1, of.1.2)))
 tested_unfit m text schedule e (Err stop.NoMemory) old s tests of = tt
 tested_unfit m text schedule e (Err stop.Fault) old s tests of = absurd of
 tested_unfit m text schedule e (Err (stop.ModelRefused f)) old s tests of = absurd of
 tested_unfit m text schedule e (Err (stop.ScheduleRefused f)) old s tests of = absurd of
 
-pub tested_stopped : (m : Data) (text schedule : Bytes) (why : Stop) (r : Result Explained Stop) (old s : State) → TestsFile m schedule (Err why) old s → OfStop text why r → Tested m text schedule r old s
+pub tested_stopped : (m : Data) (text schedule : Bytes) (why : GivenStop) (r : Result Explained GivenStop) (old s : State) → TestsFile m schedule (Err why) old s → OfStop text why r → Tested m text schedule r old s
 tested_stopped m text schedule (stop.ScheduleRefused e) r old s tests of = tested_unfit m text schedule e r old s tests of
 tested_stopped m text schedule stop.Fault r old s tests of = subst (λ x. Tested m text schedule x old s) (sym of) tests
 tested_stopped m text schedule stop.NoMemory r old s tests of = subst (λ x. Tested m text schedule x old s) (sym of) tt
@@ -103,20 +103,20 @@ only_looks old s reads = record { only = subst (λ (x : State). x ≡ record old
 
 -- What is told of a model, and of a schedule with it.
 
-pub not_fetched : (model : Bytes) (schedule : Option Bytes) (why : Stop) (old s : State) → FetchesText model (Err why) old s → ExplainTried model schedule (Err why) old s
+pub not_fetched : (model : Bytes) (schedule : Option Bytes) (why : GivenStop) (old s : State) → FetchesText model (Err why) old s → ExplainTried model schedule (Err why) old s
 not_fetched model schedule stop.Fault old s fault = (fault.rose, λ calm model_there schedule_there. fault.calm calm model_there)
 not_fetched model schedule stop.NoMemory old s fault = tt
 not_fetched model schedule (stop.ModelRefused e) old s fault = absurd fault
 not_fetched model schedule (stop.ScheduleRefused e) old s fault = absurd fault
 
-pub alone_told : (model text : Bytes) (m : Data) (r : Result Explained Stop) (old s : State) → s.faults ≡ old.faults → HoldsText model text old → Deserves text (Accepted m) → OfRight r → ExplainTried model None r old s
+pub alone_told : (model text : Bytes) (m : Data) (r : Result Explained GivenStop) (old s : State) → s.faults ≡ old.faults → HoldsText model text old → Deserves text (Accepted m) → OfRight r → ExplainTried model None r old s
 alone_told model text m (Ok x) old s kept holds due right = (kept, alone_right model text m x old holds due right.0 right.1)
 alone_told model text m (Err stop.NoMemory) old s kept holds due right = tt
 alone_told model text m (Err stop.Fault) old s kept holds due right = absurd right
 alone_told model text m (Err (stop.ModelRefused e)) old s kept holds due right = absurd right
 alone_told model text m (Err (stop.ScheduleRefused e)) old s kept holds due right = absurd right
 
-pub both_told : (model schedule text : Bytes) (m : Data) (r : Result Explained Stop) (old s t : State) → OnlyReads old s → s.faults ≡ old.faults → HoldsText model text old → Deserves text (Accepted m) → Tested m text schedule r s t → ExplainTried model (Some schedule) r old t
+pub both_told : (model schedule text : Bytes) (m : Data) (r : Result Explained GivenStop) (old s t : State) → OnlyReads old s → s.faults ≡ old.faults → HoldsText model text old → Deserves text (Accepted m) → Tested m text schedule r s t → ExplainTried model (Some schedule) r old t
 both_told model schedule text m (Ok x) old s t reads kept holds due tests = (tests.0 ∙ kept, found model schedule text m x old s reads holds due tests.1)
 both_told model schedule text m (Err stop.Fault) old s t reads kept holds due tests = (
   subst (λ k. Rose k t.faults) kept tests.rose,
@@ -159,7 +159,7 @@ module _ (model : Bytes) (schedule : Option Bytes) (old t : State) (looks : Only
   only_out : t ≡ record old { model = t.model; schedule = t.schedule; out = t.out; faults = t.faults }
   only_out = subst (λ (x : State). x ≡ record old { model = x.model; schedule = x.schedule; out = x.out; faults = x.faults }) (sym looks.only) refl
 
-  pub not_told : (why : Stop) → ExplainTried model schedule (Err why) old t → TriesWhy model schedule (Err why) old t
+  pub not_told : (why : GivenStop) → ExplainTried model schedule (Err why) old t → TriesWhy model schedule (Err why) old t
   not_told stop.Fault tried = record { only = only_out; later = looks.later; tried = (tried.0, tried.1, inl out_same) }
   not_told stop.NoMemory tried = record { only = only_out; later = looks.later; tried = out_same }
   not_told (stop.ModelRefused r) tried = absurd tried
@@ -205,7 +205,7 @@ module _ (model : Bytes) (schedule : Option Bytes) where
   as_told : (e ended : Ended) (old new : State) → ended ≡ e → WhyPromise model schedule e old new → WhyPromise model schedule ended old new
   as_told e ended old new is promise = subst (λ x. WhyPromise model schedule x old new) (sym is) promise
 
-  pub stopped : (why : Stop) (ended : Ended) (old s new : State) → TriesWhy model schedule (Err why) old s → EndsStopped ending_of_stop why ended s new → WhyPromise model schedule ended old new
+  pub stopped : (why : GivenStop) (ended : Ended) (old s new : State) → TriesWhy model schedule (Err why) old s → EndsStopped ending_of_stop why ended s new → WhyPromise model schedule ended old new
   stopped stop.Fault ended old s new tries ends = as_told end.Fault ended old new ends.0 (record {
     only = all_only old s new tries.only ends.1.only;
     ends = (

@@ -16,7 +16,7 @@ use crate::texts::{model_bytes, right_bytes, schedule_bytes};
 use crate::words::Word;
 use cpo_elab::read_model;
 use cpo_text::{ReadFault, Refusal};
-use given_files::{ScheduleRefusal, Stop, test_file};
+use given_files::{GivenStop, ScheduleRefusal, test_file};
 use sched_base::{Desk, Inlet, List, NoMemory, Port, read_up_to};
 use sched_model::Model;
 use std::alloc::Global;
@@ -35,7 +35,7 @@ pub struct Explained {
 }
 
 /// The bytes of the model's file, at most `MODEL_BYTES` of them.
-fn fetch<D: Desk>(alloc: Global, desk: &mut D, name: &str) -> Result<List<u8>, Stop>
+fn fetch<D: Desk>(alloc: Global, desk: &mut D, name: &str) -> Result<List<u8>, GivenStop>
     ensures only { OnlyReads (D.state desk.old) (D.state desk.new) }
     ensures fetches { FetchesText name.now result (D.state desk.old) (D.state desk.new) }
 {
@@ -55,11 +55,11 @@ fn stuck_of(alloc: Global, statement: &[u8], number: u32) -> Result<Option<Word>
 }
 
 /// Why the model's text is refused.
-fn of_model(alloc: Global, text: &[u8], r: Refusal) -> Result<Explained, Stop>
+fn of_model(alloc: Global, text: &[u8], r: Refusal) -> Result<Explained, GivenStop>
     ensures { OfModel text.now r result }
 {
     let Ok(at) = usize::try_from(r.at) else {
-        return Err(Stop::NoMemory);
+        return Err(GivenStop::NoMemory);
     };
     let stuck = stuck_of(alloc, behind(text, at), r.number)?;
     let bytes = model_bytes(alloc, text, r, stuck)?;
@@ -70,7 +70,7 @@ fn of_model(alloc: Global, text: &[u8], r: Refusal) -> Result<Explained, Stop>
 }
 
 /// Why the schedule is refused.
-fn of_schedule(alloc: Global, text: &[u8], r: ScheduleRefusal) -> Result<Explained, Stop>
+fn of_schedule(alloc: Global, text: &[u8], r: ScheduleRefusal) -> Result<Explained, GivenStop>
     ensures { OfSchedule text.now r result }
 {
     let part = match r {
@@ -96,18 +96,18 @@ fn right(alloc: Global) -> Result<Explained, NoMemory>
 }
 
 /// What is told where a schedule isn't found to be a solution, or the run stops.
-fn of_stop(alloc: Global, text: &[u8], stop: Stop) -> Result<Explained, Stop>
+fn of_stop(alloc: Global, text: &[u8], stop: GivenStop) -> Result<Explained, GivenStop>
     ensures { OfStop text.now stop result }
 {
     match stop {
-        Stop::ScheduleRefused(r) => of_schedule(alloc, text, r),
-        Stop::Fault => Err(Stop::Fault),
-        Stop::NoMemory => Err(Stop::NoMemory),
-        Stop::ModelRefused(r) => Err(Stop::ModelRefused(r)),
+        GivenStop::ScheduleRefused(r) => of_schedule(alloc, text, r),
+        GivenStop::Fault => Err(GivenStop::Fault),
+        GivenStop::NoMemory => Err(GivenStop::NoMemory),
+        GivenStop::ModelRefused(r) => Err(GivenStop::ModelRefused(r)),
     }
 }
 
-fn of_right(alloc: Global) -> Result<Explained, Stop>
+fn of_right(alloc: Global) -> Result<Explained, GivenStop>
     ensures { OfRight result }
 {
     let told = right(alloc)?;
@@ -121,7 +121,7 @@ fn tested<D: Desk>(
     model: &Model,
     text: &[u8],
     schedule: &str,
-) -> Result<Explained, Stop>
+) -> Result<Explained, GivenStop>
     ensures only { OnlyTests (D.state desk.old) (D.state desk.new) }
     ensures tested { Tested model.now text.now schedule.now result (D.state desk.old) (D.state desk.new) }
 {
@@ -135,7 +135,7 @@ fn tested<D: Desk>(
 }
 
 /// What is told of a model.
-fn explained_alone<D: Desk>(alloc: Global, desk: &mut D, name: &str) -> Result<Explained, Stop>
+fn explained_alone<D: Desk>(alloc: Global, desk: &mut D, name: &str) -> Result<Explained, GivenStop>
     ensures only { OnlyLooks (D.state desk.old) (D.state desk.new) }
     ensures tried { ExplainTried name.now None result (D.state desk.old) (D.state desk.new) }
 {
@@ -148,7 +148,7 @@ fn explained_alone<D: Desk>(alloc: Global, desk: &mut D, name: &str) -> Result<E
             drop(model);
             of_right(alloc)
         }
-        Err(ReadFault::NoMemory) => Err(Stop::NoMemory),
+        Err(ReadFault::NoMemory) => Err(GivenStop::NoMemory),
         Err(ReadFault::Refused(r)) => of_model(alloc, bytes.as_slice(), r),
     }
 }
@@ -159,7 +159,7 @@ fn explained_with<D: Desk>(
     desk: &mut D,
     name: &str,
     schedule: &str,
-) -> Result<Explained, Stop>
+) -> Result<Explained, GivenStop>
     ensures only { OnlyLooks (D.state desk.old) (D.state desk.new) }
     ensures tried { ExplainTried name.now (Some schedule.now) result (D.state desk.old) (D.state desk.new) }
 {
@@ -173,21 +173,21 @@ fn explained_with<D: Desk>(
             drop(model);
             told
         }
-        Err(ReadFault::NoMemory) => Err(Stop::NoMemory),
+        Err(ReadFault::NoMemory) => Err(GivenStop::NoMemory),
         Err(ReadFault::Refused(r)) => of_model(alloc, bytes.as_slice(), r),
     }
 }
 
-fn print<D: Desk>(desk: &mut D, told: &Explained) -> Result<Ended, Stop>
+fn print<D: Desk>(desk: &mut D, told: &Explained) -> Result<Ended, GivenStop>
     ensures { PrintsIt told.now result (D.state desk.old) (D.state desk.new) }
 {
     match desk.write(Port::Out, told.text.as_slice()) {
         Ok(()) => Ok(told.ended),
-        Err(_) => Err(Stop::Fault),
+        Err(_) => Err(GivenStop::Fault),
     }
 }
 
-fn explain_alone<D: Desk>(alloc: Global, desk: &mut D, name: &str) -> Result<Ended, Stop>
+fn explain_alone<D: Desk>(alloc: Global, desk: &mut D, name: &str) -> Result<Ended, GivenStop>
     ensures { TriesWhy name.now None result (D.state desk.old) (D.state desk.new) }
 {
     let told = explained_alone(alloc, desk, name)?;
@@ -199,7 +199,7 @@ fn explain_with<D: Desk>(
     desk: &mut D,
     name: &str,
     schedule: &str,
-) -> Result<Ended, Stop>
+) -> Result<Ended, GivenStop>
     ensures { TriesWhy name.now (Some schedule.now) result (D.state desk.old) (D.state desk.new) }
 {
     let told = explained_with(alloc, desk, name, schedule)?;

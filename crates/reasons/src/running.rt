@@ -7,7 +7,7 @@ ghost use Rattle.reasons.specs.declared.ended.Ended.TheVariants as end;
 use crate::ended::Ended;
 use crate::explaining::{why_model, why_schedule};
 use crate::report::end_stopped;
-use given_files::{Stop, report};
+use given_files::{GivenStop, report};
 use real_desk::words::WordsFault;
 use sched_base::Desk;
 use std::alloc::Global;
@@ -46,6 +46,6 @@ pub fn run<D: Desk>(alloc: Global, words: Result<Vec<String>, WordsFault>, desk:
     match words {
         Ok(words) => run_words(alloc, words.as_slice(), desk),
         Err(WordsFault::NotUtf8) => end_usage(desk),
-        Err(WordsFault::NoMemory) => end_stopped(alloc, desk, Stop::NoMemory),
+        Err(WordsFault::NoMemory) => end_stopped(alloc, desk, GivenStop::NoMemory),
     }
 }

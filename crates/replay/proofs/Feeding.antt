@@ -15,8 +15,8 @@ use Rattle.log_lines.specs.declared.fault.LineFault.TheVariants.{Bad}
 use Rattle.logtext.specs.Entries.{Spells}
 use Rattle.logtext.specs.Reading.{HasNoWholeLine, BeginsWithNone, IsLineAt}
 use Rattle.log_lines.specs.code.Pieces.{Fed, ReadsNext, fed_more}
-use Rattle.replay.specs.declared.reading.Found.{Found}
-use Rattle.replay.specs.declared.reading.Found.TheVariants.{Line, Wrong, Missing, Beyond}
+use Rattle.replay.specs.declared.reading.NextLine.{NextLine}
+use Rattle.replay.specs.declared.reading.NextLine.TheVariants.{Line, Wrong, Missing, Beyond}
 use Rattle.logtext.specs.Judgement.{log_limit}
 use Rattle.replay.specs.Replaying.{piece_limit}
 use Rattle.replay.specs.code.Pieces.{FeedsPiece, FindsLine, GoesOn, IsNear, IsReading, ReadsOn, Fails, holds, Holds, FallsShort}
@@ -286,5 +286,5 @@ module _ {W : Type 0} (refutes : Refuting W) (numbers : W → List ℤ) (valid :
       (reading_ended start old new fed place n before after reading (empty_open (drop place fed) nothing) feeds moved is, at_place fed place reading.within nothing, feeds.end is)
 
   -- the line that is found
-  pub found_entry : (start now : State) (fed : Bytes) (place : ℕ) (lines : Fed) (found : Found W) (e d : Entry W) → FindsLine numbers valid start now fed place (Ok found) lines → found ≡ Line e → e ≡ d → FindsLine numbers valid start now fed place (Ok (Line d)) lines
+  pub found_entry : (start now : State) (fed : Bytes) (place : ℕ) (lines : Fed) (found : NextLine W) (e d : Entry W) → FindsLine numbers valid start now fed place (Ok found) lines → found ≡ Line e → e ≡ d → FindsLine numbers valid start now fed place (Ok (Line d)) lines
   found_entry start now fed place lines found e d finds is same = subst (λ f. FindsLine numbers valid start now fed place (Ok f) lines) (is ∙ ap (λ x. Line x) same) finds

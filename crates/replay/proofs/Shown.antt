@@ -10,7 +10,7 @@ use Rattle.kernel.specs.declared.types.Line.{Line}
 use Rattle.kernel.specs.Steps.{LogState}
 use Rattle.logtext.specs.declared.entry.Entry.TheVariants.{Step}
 use Rattle.log_lines.specs.code.Pieces.{Fed}
-use Rattle.replay.specs.declared.reading.Found.TheVariants as found
+use Rattle.replay.specs.declared.reading.NextLine.TheVariants as found
 use Rattle.replay.specs.declared.replaying.Turn.{Turn}
 use Rattle.replay.specs.declared.replaying.Turn.TheVariants.{Stepped, Ended, Wrong, Missing, Beyond}
 use Rattle.logtext.specs.Judgement.{log_limit}

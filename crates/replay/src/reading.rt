@@ -14,7 +14,7 @@ use std::alloc::Global;
 const LOG_BYTES: usize = 4_611_686_018_427_387_904;
 
 /// What stands where the next line should.
-pub enum Found<W> {
+pub enum NextLine<W> {
     /// A line, which is taken.
     Line(Entry<W>),
     /// No spelling of a line, or too long a line.
@@ -59,7 +59,7 @@ pub fn next_line<X: Refuter, D: Desk>(
     desk: &mut D,
     buffer: &mut [u8],
     lines: &mut LineReader<X>,
-) -> Result<Found<X::Witness>, ReadError>
+) -> Result<NextLine<X::Witness>, ReadError>
     requires buffer { 0 < length buffer.old }
     requires small { length buffer.old ≤ 65536 }
     requires opened { is_opened Inlet.Log (D.state desk.old) ≡ true }
@@ -70,18 +70,18 @@ pub fn next_line<X: Refuter, D: Desk>(
 {
     'pieces: loop {
         match lines.next(alloc) {
-            Ok(Some(entry)) => return Ok(Found::Line(entry)),
+            Ok(Some(entry)) => return Ok(NextLine::Line(entry)),
             Ok(None) => {}
-            Err(LineFault::Bad { line: _, at: _ }) => return Ok(Found::Wrong),
+            Err(LineFault::Bad { line: _, at: _ }) => return Ok(NextLine::Wrong),
             Err(LineFault::NoMemory) => return Err(ReadError::NoMemory),
         }
         let count = lines.count();
         if count >= LOG_BYTES {
-            return Ok(Found::Beyond);
+            return Ok(NextLine::Beyond);
         }
         let n = feed_piece(desk, LOG_BYTES - count, buffer, lines)?;
         if n == 0 {
-            return Ok(Found::Missing);
+            return Ok(NextLine::Missing);
         }
     }
 }

@@ -12,7 +12,7 @@ ghost use Rattle.replay.specs.code.Endings.{Ends, EndsIn};
 ghost use Rattle.replay.specs.code.Turns.{FindsHead, IsBehindHead, Tries, Shows, Turns, version_in};
 
 use crate::fault::ReplayFault;
-use crate::reading::{Found, goes_on, next_line};
+use crate::reading::{NextLine, goes_on, next_line};
 use crate::watcher::Watcher;
 use kernel::{Kernel, Line, StepFault};
 use log_lines::LineReader;
@@ -80,10 +80,10 @@ fn take_head<X: Refuter, D: Desk>(
 {
     spelling_is_determined::<X>();
     match next_line(alloc, desk, buffer, lines)? {
-        Found::Line(entry) => Ok(version_in(&entry)),
-        Found::Wrong => Ok(None),
-        Found::Missing => Ok(None),
-        Found::Beyond => Ok(None),
+        NextLine::Line(entry) => Ok(version_in(&entry)),
+        NextLine::Wrong => Ok(None),
+        NextLine::Missing => Ok(None),
+        NextLine::Beyond => Ok(None),
     }
 }
 
@@ -167,10 +167,10 @@ fn take_line<X: Refuter, V: Watcher<X>, D: Desk>(
 {
     spelling_is_determined::<X>();
     let entry = match next_line(alloc, desk, buffer, lines)? {
-        Found::Line(entry) => entry,
-        Found::Wrong => return Ok(Turn::Wrong),
-        Found::Missing => return Ok(Turn::Missing),
-        Found::Beyond => return Ok(Turn::Beyond),
+        NextLine::Line(entry) => entry,
+        NextLine::Wrong => return Ok(Turn::Wrong),
+        NextLine::Missing => return Ok(Turn::Missing),
+        NextLine::Beyond => return Ok(Turn::Beyond),
     };
     match entry {
         Entry::Head(_) => Ok(Turn::Wrong),

@@ -3,18 +3,18 @@ use Rattle.log_reports.specs.declared.stop.LogStop.{LogStop}
 use Rattle.log_reports.specs.declared.stop.LogStop.TheVariants as why
 use Rattle.solver.specs.declared.fault.SolveFault.{SolveFault}
 use Rattle.solver.specs.declared.fault.SolveFault.TheVariants as solve
-use Rattle.given_files.specs.declared.stop.Stop.{Stop as GivenStop}
-use Rattle.given_files.specs.declared.stop.Stop.TheVariants as given
+use Rattle.given_files.specs.declared.stop.GivenStop.{GivenStop}
+use Rattle.given_files.specs.declared.stop.GivenStop.TheVariants as given
 use Rattle.commands.specs.declared.ended.Ended.{Ended}
 use Rattle.commands.specs.declared.ended.Ended.TheVariants as end
-use Rattle.commands.specs.declared.stop.Stop.{Stop}
-use Rattle.commands.specs.declared.stop.Stop.TheVariants.{Given, LogRefused, LogTooLong}
+use Rattle.commands.specs.declared.stop.RunStop.{RunStop}
+use Rattle.commands.specs.declared.stop.RunStop.TheVariants.{Given, LogRefused, LogTooLong}
 
-abbrev pub stop_of_search : SolveFault → Stop
+abbrev pub stop_of_search : SolveFault → RunStop
 stop_of_search solve.Fault = Given given.Fault
 stop_of_search solve.NoMemory = Given given.NoMemory
 
-abbrev pub stop_of_report : LogStop → Stop
+abbrev pub stop_of_report : LogStop → RunStop
 stop_of_report (why.Given s) = Given s
 stop_of_report (why.Refused k) = LogRefused k
 stop_of_report why.TooLong = LogTooLong

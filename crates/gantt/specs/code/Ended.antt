@@ -1,7 +1,7 @@
 -- The exit status of each ending, and the ending of each stop.
 use Rattle.std.specs.Prelude.{ℕ}
-use Rattle.given_files.specs.declared.stop.Stop.{Stop}
-use Rattle.given_files.specs.declared.stop.Stop.TheVariants as stop
+use Rattle.given_files.specs.declared.stop.GivenStop.{GivenStop}
+use Rattle.given_files.specs.declared.stop.GivenStop.TheVariants as stop
 use Rattle.gantt.specs.declared.ended.Ended.{Ended}
 use Rattle.gantt.specs.declared.ended.Ended.TheVariants.{Done, Usage, ModelRefused, Fault, ScheduleRefused, NoMemory}
 
@@ -13,7 +13,7 @@ status_of Fault = 4
 status_of ScheduleRefused = 6
 status_of NoMemory = 70
 
-abbrev pub ending_of_stop : Stop → Ended
+abbrev pub ending_of_stop : GivenStop → Ended
 ending_of_stop stop.Fault = Fault
 ending_of_stop stop.NoMemory = NoMemory
 ending_of_stop (stop.ModelRefused r) = ModelRefused

@@ -3,8 +3,8 @@ use Rattle.std.proofs.Common.{◌≡◌, ◌≤◌, ap, subst, inl, inr, arith}
 use Rattle.sched_base.specs.State.{State}
 use Rattle.sched_base.specs.Calls.{appended, AppendedFrom}
 use Rattle.textline.specs.Lines.{Bytes}
-use Rattle.given_files.specs.declared.stop.Stop.{Stop}
-use Rattle.given_files.specs.declared.stop.Stop.TheVariants as stop
+use Rattle.given_files.specs.declared.stop.GivenStop.{GivenStop}
+use Rattle.given_files.specs.declared.stop.GivenStop.TheVariants as stop
 use Rattle.given_files.specs.Told.{Tells, Reports}
 use Rattle.given_files.specs.code.Telling.{EndsStopped, IsTold}
 
@@ -19,7 +19,7 @@ tells_on text old s new err later reports = record {
 }
 
 -- where the ending is that of the stop which was told
-pub told_ends : {E : Type 0} (ending : Stop → E) (why told : Stop) (old new : State) → IsTold why told old new → EndsStopped ending why (ending told) old new
+pub told_ends : {E : Type 0} (ending : GivenStop → E) (why told : GivenStop) (old new : State) → IsTold why told old new → EndsStopped ending why (ending told) old new
 told_ends ending stop.Fault told old new is = (ap ending is.0, is.1)
 told_ends ending stop.NoMemory told old new is = (ap ending is.0, is.1)
 told_ends ending (stop.ModelRefused r) told old new (inl is) = inl (ap ending is.0, is.1)

@@ -1,8 +1,8 @@
 -- The exit status of each ending, and the ending of each stop.
 use Rattle.std.specs.Prelude.{◌≡◌, ℕ}
 use Rattle.sched_base.specs.State.{State}
-use Rattle.given_files.specs.declared.stop.Stop.{Stop}
-use Rattle.given_files.specs.declared.stop.Stop.TheVariants as given
+use Rattle.given_files.specs.declared.stop.GivenStop.{GivenStop}
+use Rattle.given_files.specs.declared.stop.GivenStop.TheVariants as given
 use Rattle.given_files.specs.Told.{Reports}
 use Rattle.given_files.specs.code.Telling.{EndsTold, EndsStopped as EndsGiven}
 use Rattle.last_plan.specs.declared.ended.Ended.{Ended}
@@ -21,7 +21,7 @@ status_of Fault = 4
 status_of LogRefused = 5
 status_of NoMemory = 70
 
-abbrev pub ending_of_given : Stop → Ended
+abbrev pub ending_of_given : GivenStop → Ended
 ending_of_given given.Fault = Fault
 ending_of_given given.NoMemory = NoMemory
 ending_of_given (given.ModelRefused r) = ModelRefused

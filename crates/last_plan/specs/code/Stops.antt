@@ -1,7 +1,7 @@
 -- Which stop a fault of a replay becomes.
 use Rattle.replay.specs.declared.fault.ReplayFault.{ReplayFault}
 use Rattle.replay.specs.declared.fault.ReplayFault.TheVariants as replayed
-use Rattle.given_files.specs.declared.stop.Stop.TheVariants as given
+use Rattle.given_files.specs.declared.stop.GivenStop.TheVariants as given
 use Rattle.last_plan.specs.declared.stop.PlanStop.{PlanStop}
 use Rattle.last_plan.specs.declared.stop.PlanStop.TheVariants.{Given, Refused, TooLong}
 

@@ -8,7 +8,7 @@ use Rattle.sched_model.specs.Data.{Data}
 use Rattle.cpo_elab.specs.Answers.Answer.{Refused as Unfit}
 use Rattle.textline.specs.Lines.{Bytes}
 use Rattle.logtext.specs.Judgement.{log_bytes}
-use Rattle.given_files.specs.declared.stop.Stop.TheVariants as given
+use Rattle.given_files.specs.declared.stop.GivenStop.TheVariants as given
 use Rattle.given_files.specs.Files.{IfFile, HasFile, FileDeserves, ReadsModel}
 use Rattle.given_files.specs.code.Reading.{IsFault}
 use Rattle.last_plan.specs.declared.ended.Ended.{Ended}

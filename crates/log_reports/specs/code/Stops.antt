@@ -1,7 +1,7 @@
 -- Which stop a fault of judging becomes.
 use Rattle.checker.specs.declared.judging.CheckFault.{CheckFault}
 use Rattle.checker.specs.declared.judging.CheckFault.TheVariants as check
-use Rattle.given_files.specs.declared.stop.Stop.TheVariants as given
+use Rattle.given_files.specs.declared.stop.GivenStop.TheVariants as given
 use Rattle.log_reports.specs.declared.stop.LogStop.{LogStop}
 use Rattle.log_reports.specs.declared.stop.LogStop.TheVariants.{Given, Refused, TooLong}
 

@@ -7,7 +7,7 @@ use Rattle.cpo_elab.specs.Answers.Answer.{Refused as Unfit}
 use Rattle.textline.specs.Lines.{Bytes}
 use Rattle.logtext.specs.Judgement.{log_bytes}
 use Rattle.checker.specs.Judgement.{IsRefused, IsTooLong}
-use Rattle.given_files.specs.declared.stop.Stop.TheVariants as given
+use Rattle.given_files.specs.declared.stop.GivenStop.TheVariants as given
 use Rattle.given_files.specs.Files.{IfFile, HasFile, FileDeserves, ReadsModel}
 use Rattle.given_files.specs.code.Reading.{OnlyReads, IsFault}
 use Rattle.log_reports.specs.declared.stop.LogStop.{LogStop}

@@ -3,8 +3,8 @@ use Rattle.std.proofs.Common.{◌≡◌, Bool, true, false, List, ◌∷◌, ◌
 use Rattle.textline.specs.Lines.{Bytes, line, words_of}
 use Rattle.read_schedule.specs.Schedules.{is_line}
 use Rattle.std.proofs.lemmas.List.{append_cancel_left}
-use Rattle.read_schedule.specs.declared.stop.Stop.{Stop}
-use Rattle.read_schedule.specs.declared.stop.Stop.TheVariants.{Line, NoMemory}
+use Rattle.read_schedule.specs.declared.stop.PartStop.{PartStop}
+use Rattle.read_schedule.specs.declared.stop.PartStop.TheVariants.{Line, NoMemory}
 use Rattle.read_schedule.specs.code.Reads.{Starts, TakesLine, TakesRow, ReadsAll, TriesAll, TriesRow}
 use Rattle.read_schedule.proofs.spelling.Texts.{lines_told}
 
@@ -33,12 +33,12 @@ taken_row spelled able fit old l new w taken read fits = (fits, taken.1 ∙ ap (
 
 -- the same of a reading that memory may end
 
-pub row_failed : {A : Type 0} (spelled : A → List Bytes) (able fit : A → Bool) → Told spelled able fit → (old l new : Bytes) (e : Stop) → TakesLine old new (Some l) → TriesAll spelled able (words_of l) (Err e) → TriesRow spelled fit old new (Err e)
+pub row_failed : {A : Type 0} (spelled : A → List Bytes) (able fit : A → Bool) → Told spelled able fit → (old l new : Bytes) (e : PartStop) → TakesLine old new (Some l) → TriesAll spelled able (words_of l) (Err e) → TriesRow spelled fit old new (Err e)
 row_failed spelled able fit told old l new (Line n) taken none = unread spelled able fit told old l new taken none
 row_failed spelled able fit told old l new NoMemory taken none = tt
 
 -- words in front of those that spell a value
-pub behind_words : {A : Type 0} (spelled : A → List Bytes) (able : A → Bool) (front : List Bytes) (ws rest : List Bytes) (r : Result A Stop) → ws ≡ front ++ rest → TriesAll spelled able rest r → TriesAll (λ v. front ++ spelled v) able ws r
+pub behind_words : {A : Type 0} (spelled : A → List Bytes) (able : A → Bool) (front : List Bytes) (ws rest : List Bytes) (r : Result A PartStop) → ws ≡ front ++ rest → TriesAll spelled able rest r → TriesAll (λ v. front ++ spelled v) able ws r
 behind_words spelled able front ws rest (Ok v) same tries = (tries.0, same ∙ ap (λ vs. front ++ vs) tries.1)
 behind_words spelled able front ws rest (Err (Line n)) same none = λ v fit e. none v fit (append_cancel_left front rest (spelled v) (sym same ∙ e))
 behind_words spelled able front ws rest (Err NoMemory) same none = tt

@@ -24,8 +24,8 @@ use Rattle.sched_text.specs.laws.Lines.{slots_tell, is_spelled_slot, spelled_slo
 use Rattle.read_schedule.specs.Schedules.{is_line, text}
 use Rattle.read_schedule.specs.code.Rows.{rows, begins, slot_row, order_row, state_row, body, end_row}
 use Rattle.read_schedule.specs.code.Reads.{EachCanStand, HasSlots, ReadsRows, StopsRows, StopsBody, Starts, TakesEnd, Unlike, ReadsBody, sequence_at, state_at}
-use Rattle.read_schedule.specs.declared.stop.Stop.{Stop}
-use Rattle.read_schedule.specs.declared.stop.Stop.TheVariants.{Line, NoMemory}
+use Rattle.read_schedule.specs.declared.stop.PartStop.{PartStop}
+use Rattle.read_schedule.specs.declared.stop.PartStop.TheVariants.{Line, NoMemory}
 use Rattle.read_schedule.proofs.spelling.Rows.{text_append, places_are, rows_each, rows_length, begun_length, placewise_begins, completed, next_row, fronts_same}
 use Rattle.read_schedule.proofs.given.Assignments.{domain_parts, domain_from, some_domain}
 use Rattle.read_schedule.proofs.given.Defs.{order_at, segments_at, got_at}
@@ -295,7 +295,7 @@ read_front m slots a orders segs bytes mid late rest has first second third =
     three_texts (rows slot_row 0 m.intervals a.slots) (rows (order_row m) 0 m.sequences orders) (rows state_row 0 m.states segs) bytes mid late rest (first ∙ ap (λ s. text (rows slot_row 0 m.intervals s) ++ mid) (sym has.same)) second third
 
 -- what reading the lines of the intervals came to
-pub slots_failed : (m : Data) → IsValid m → (bytes new : Bytes) (e : Stop) → EachCanStand m.intervals true → ReadsRows slot_row fits_def m.intervals bytes new (Err e) → ReadsBody m bytes (Err e)
+pub slots_failed : (m : Data) → IsValid m → (bytes new : Bytes) (e : PartStop) → EachCanStand m.intervals true → ReadsRows slot_row fits_def m.intervals bytes new (Err e) → ReadsBody m bytes (Err e)
 slots_failed m valid bytes new (Line n) some s = slots_stop m valid bytes n some s
 slots_failed m valid bytes new NoMemory some s = tt
 

@@ -22,8 +22,8 @@ use Rattle.sched_text.specs.laws.Lines.{is_spelled_segment}
 use Rattle.sched_text.specs.laws.Values.{has_no_comma}
 use Rattle.read_schedule.specs.Schedules.{AreNumbers, IsVerdict, IsCount, IsHeader, is_line, text}
 use Rattle.read_schedule.specs.code.Rows.{rows, begins, body, end_row}
-use Rattle.read_schedule.specs.declared.stop.Stop.{Stop}
-use Rattle.read_schedule.specs.declared.stop.Stop.TheVariants.{Line, NoMemory}
+use Rattle.read_schedule.specs.declared.stop.PartStop.{PartStop}
+use Rattle.read_schedule.specs.declared.stop.PartStop.TheVariants.{Line, NoMemory}
 
 -- the place of the first line feed
 abbrev pub FindsFeed : Bytes → Option ℕ → Type 0
@@ -45,7 +45,7 @@ ReadsAll spelled fit ws (Some v) = (fit v ≡ true) × (ws ≡ spelled v)
 ReadsAll {A} spelled fit ws None = (v : A) → fit v ≡ true → ws ≡ spelled v → ⊥
 
 -- the same where memory may be refused
-abbrev pub TriesAll : {A : Type 0} → (A → List Bytes) → (A → Bool) → List Bytes → Result A Stop → Type 0
+abbrev pub TriesAll : {A : Type 0} → (A → List Bytes) → (A → Bool) → List Bytes → Result A PartStop → Type 0
 TriesAll spelled fit ws (Ok v) = (fit v ≡ true) × (ws ≡ spelled v)
 TriesAll {A} spelled fit ws (Err (Line n)) = (v : A) → fit v ≡ true → ws ≡ spelled v → ⊥
 TriesAll spelled fit ws (Err NoMemory) = ⊤
@@ -55,7 +55,7 @@ abbrev pub TakesRow : {A : Type 0} → (A → List Bytes) → (A → Bool) → B
 TakesRow spelled fit old new (Some v) = (fit v ≡ true) × (old ≡ line (spelled v) ++ new)
 TakesRow {A} spelled fit old new None = (v : A) → fit v ≡ true → Starts (spelled v) old → ⊥
 
-abbrev pub TriesRow : {A : Type 0} → (A → List Bytes) → (A → Bool) → Bytes → Bytes → Result (Assignment × A) Stop → Type 0
+abbrev pub TriesRow : {A : Type 0} → (A → List Bytes) → (A → Bool) → Bytes → Bytes → Result (Assignment × A) PartStop → Type 0
 TriesRow spelled fit old new (Ok p) = (fit p.1 ≡ true) × (old ≡ line (spelled p.1) ++ new)
 TriesRow {A} spelled fit old new (Err (Line n)) = (v : A) → fit v ≡ true → Starts (spelled v) old → ⊥
 TriesRow spelled fit old new (Err NoMemory) = ⊤
@@ -72,13 +72,13 @@ pub record StopsRows {X Y : Type 0} (g : ℕ → X → Y → List Bytes) (fit : 
   pub stuck : (y : Y) → fit def y ≡ true → Starts (g n def y) rest → ⊥
 
 -- the lines of a value for each definition were read
-abbrev pub ReadsRows : {X Y : Type 0} → (ℕ → X → Y → List Bytes) → (X → Y → Bool) → List X → Bytes → Bytes → Result (List Y) Stop → Type 0
+abbrev pub ReadsRows : {X Y : Type 0} → (ℕ → X → Y → List Bytes) → (X → Y → Bool) → List X → Bytes → Bytes → Result (List Y) PartStop → Type 0
 ReadsRows g fit xs old new (Ok ys) = (placewise fit xs ys ≡ true) × (old ≡ text (rows g 0 xs ys) ++ new)
 ReadsRows g fit xs old new (Err (Line n)) = StopsRows g fit xs old n
 ReadsRows g fit xs old new (Err NoMemory) = ⊤
 
 -- the same beside an assignment that stays
-abbrev pub ReadsBeside : {X Y : Type 0} → (ℕ → X → Y → List Bytes) → (X → Y → Bool) → List X → Assignment → Bytes → Bytes → Result (Assignment × List Y) Stop → Type 0
+abbrev pub ReadsBeside : {X Y : Type 0} → (ℕ → X → Y → List Bytes) → (X → Y → Bool) → List X → Assignment → Bytes → Bytes → Result (Assignment × List Y) PartStop → Type 0
 ReadsBeside g fit xs a old new (Ok p) = (p.0 ≡ a) × (placewise fit xs p.1 ≡ true) × (old ≡ text (rows g 0 xs p.1) ++ new)
 ReadsBeside g fit xs a old new (Err (Line n)) = StopsRows g fit xs old n
 ReadsBeside g fit xs a old new (Err NoMemory) = ⊤
@@ -214,7 +214,7 @@ pub record StopsBody (m : Data) (bytes : Bytes) (n : ℕ) : Type 0 where
   pub goes : body m schedule ≡ front ++ after
   pub unlike : (a : Assignment) (us : List (List Bytes)) → is_in_domain m a ≡ true → body m a ≡ front ++ us → Unlike us rest
 
-abbrev pub ReadsBody : Data → Bytes → Result Assignment Stop → Type 0
+abbrev pub ReadsBody : Data → Bytes → Result Assignment PartStop → Type 0
 ReadsBody m bytes (Ok a) = (is_in_domain m a ≡ true) × (bytes ≡ text (body m a))
 ReadsBody m bytes (Err (Line n)) = StopsBody m bytes n
 ReadsBody m bytes (Err NoMemory) = ⊤

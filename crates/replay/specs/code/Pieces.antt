@@ -10,8 +10,8 @@ use Rattle.textline.specs.Lines.{Bytes}
 use Rattle.logtext.specs.Entries.{line_limit}
 use Rattle.logtext.specs.Reading.{HasNoWholeLine, BeginsWithNone, IsLineAt}
 use Rattle.log_lines.specs.code.Pieces.{Fed, fed_more}
-use Rattle.replay.specs.declared.reading.Found.{Found}
-use Rattle.replay.specs.declared.reading.Found.TheVariants.{Line, Wrong, Missing, Beyond}
+use Rattle.replay.specs.declared.reading.NextLine.{NextLine}
+use Rattle.replay.specs.declared.reading.NextLine.TheVariants.{Line, Wrong, Missing, Beyond}
 use Rattle.logtext.specs.Judgement.{log_limit}
 use Rattle.replay.specs.Replaying.{piece_limit}
 
@@ -67,7 +67,7 @@ Fails most Failed start now = FallsShort most start now × Rose start.faults now
 Fails most NoMemory start now = FallsShort most start now × (now.faults ≡ start.faults)
 
 -- what stands at a place, where lines have taken the bytes in front of it
-abbrev pub FindsLine : {W : Type 0} → (W → List ℤ) → (W → Bool) → State → State → Bytes → ℕ → Result (Found W) ReadError → Fed → Type 0
+abbrev pub FindsLine : {W : Type 0} → (W → List ℤ) → (W → Bool) → State → State → Bytes → ℕ → Result (NextLine W) ReadError → Fed → Type 0
 FindsLine numbers valid start now fed place (Ok (Line e)) lines = (all : Bytes) × ReadsOn start now fed all place × ((to : ℕ) × IsLineAt numbers valid all place to e × Holds lines all to)
 FindsLine numbers valid start now fed place (Ok Wrong) lines = (all : Bytes) × ReadsOn start now fed all place × (HasNoWholeLine (drop place all) → ⊥) × BeginsWithNone numbers valid (drop place all)
 FindsLine numbers valid start now fed place (Ok Missing) lines = (all : Bytes) × ReadsOn start now fed all place × HasNoWholeLine (drop place all) × IsAtEnd now × (length all < log_limit)

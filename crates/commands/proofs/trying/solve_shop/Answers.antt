@@ -1,6 +1,6 @@
 use Rattle.std.proofs.Common.{◌≡◌, Err, rules, refl, sym, subst}
 use Rattle.restart_rules.specs.Restarts.{limits_of}
-use Rattle.commands.specs.declared.stop.Stop.TheVariants as stop
+use Rattle.commands.specs.declared.stop.RunStop.TheVariants as stop
 use Rattle.commands.specs.Runs.Source.{generated}
 use Rattle.commands.specs.code.Tries.{TriesSolve}
 use Rattle.commands.proofs.Solved.{nothing_read, unmade, stopped, printed, half_printed}

@@ -2,7 +2,7 @@ use Rattle.std.proofs.Common.{◌≡◌, ◌<◌, ◌∙◌, refl, sym, ap, subs
 use Rattle.sched_model.specs.Domain.{lists_present}
 use Rattle.read_schedule.specs.code.Rows.{order_row}
 use Rattle.read_schedule.specs.code.Reads.{TriesRow, sequence_at}
-use Rattle.read_schedule.specs.declared.stop.Stop.TheVariants.{Line}
+use Rattle.read_schedule.specs.declared.stop.PartStop.TheVariants.{Line}
 use Rattle.read_schedule.proofs.spelling.Rows.{row_pushed, row_missing, rows_start, begins_all}
 use Rattle.read_schedule.proofs.given.Defs.{item_of}
 use Rattle.read_schedule.proofs.orders.read_orders.Goals as goal

@@ -4,7 +4,7 @@ use Rattle.sched_model.specs.Words.{placewise}
 use Rattle.sched_model.specs.laws.Limits.{limits_of}
 use Rattle.read_schedule.specs.code.Rows.{order_row, state_row}
 use Rattle.read_schedule.specs.code.Reads.{HasSlots, ReadsBeside, ReadsBody}
-use Rattle.read_schedule.specs.declared.stop.Stop.TheVariants.{Line}
+use Rattle.read_schedule.specs.declared.stop.PartStop.TheVariants.{Line}
 use Rattle.read_schedule.proofs.whole.Body.{slots_failed, orders_stop, states_stop, end_stops, all_there, read_front, read_domain, all_read, few_segments}
 use Rattle.read_schedule.proofs.reading.read_body.Goals as goal
 

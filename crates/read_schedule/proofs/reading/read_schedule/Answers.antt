@@ -1,6 +1,6 @@
 use Rattle.std.proofs.Common.{◌≡◌, Err, Some, None, rules, subst, refl}
 use Rattle.read_schedule.specs.code.Reads.{ReadsBody, TakesHeader}
-use Rattle.read_schedule.specs.declared.stop.Stop.TheVariants.{Line}
+use Rattle.read_schedule.specs.declared.stop.PartStop.TheVariants.{Line}
 use Rattle.read_schedule.proofs.whole.Headed.{none_stands, half_refused, body_refused, body_spelled}
 use Rattle.read_schedule.proofs.reading.read_schedule.Goals as goal
 

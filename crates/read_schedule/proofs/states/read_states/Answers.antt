@@ -2,7 +2,7 @@ use Rattle.std.proofs.Common.{◌≡◌, ◌<◌, ◌∙◌, refl, ap, subst, le
 use Rattle.sched_model.specs.Domain.{are_segments}
 use Rattle.read_schedule.specs.code.Rows.{state_row}
 use Rattle.read_schedule.specs.code.Reads.{TriesRow, state_at}
-use Rattle.read_schedule.specs.declared.stop.Stop.TheVariants.{Line}
+use Rattle.read_schedule.specs.declared.stop.PartStop.TheVariants.{Line}
 use Rattle.read_schedule.proofs.spelling.Rows.{row_pushed, row_missing, rows_start, begins_all}
 use Rattle.read_schedule.proofs.given.Defs.{item_of}
 use Rattle.read_schedule.proofs.states.read_states.Goals as goal

@@ -1,5 +1,5 @@
 use Rattle.std.proofs.Common.{◌≡◌, [], Ok, Err, sym, subst, arith, rules}
-use Rattle.replay.specs.declared.reading.Found.TheVariants.{Line, Wrong, Missing, Beyond}
+use Rattle.replay.specs.declared.reading.NextLine.TheVariants.{Line, Wrong, Missing, Beyond}
 use Rattle.replay.specs.code.Pieces.{FindsLine}
 use Rattle.replay.specs.code.Turns.{FindsHead}
 use Rattle.replay.proofs.Spelt.{Spellings}

@@ -1,6 +1,6 @@
 use Rattle.std.proofs.Common.{◌≡◌, drop, Ok, Err, refl, sym, subst, rules}
 use Rattle.logtext.specs.declared.entry.Entry.TheVariants.{Head, Step, Finish}
-use Rattle.replay.specs.declared.reading.Found.TheVariants.{Wrong, Missing}
+use Rattle.replay.specs.declared.reading.NextLine.TheVariants.{Wrong, Missing}
 use Rattle.replay.specs.code.Pieces.{FindsLine}
 use Rattle.replay.specs.code.Turns.{Turns}
 use Rattle.replay.proofs.Spelt.{Spellings}
