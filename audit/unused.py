@@ -16,9 +16,10 @@ import re
 import sys
 
 ROOT = os.path.dirname(os.path.dirname(os.path.abspath(__file__)))
-ITEM = re.compile(r"^(?:(?:pub|abbrev|unfoldable|level) )*(?:(?:record|data) (?:pub )?([A-Za-z][\w'-]*)|([A-Za-z][\w'-]*) :)", re.M)
+ITEM = re.compile(r"^(?:(?:pub|abbrev|unfoldable|level) )*(?:(?:record|data) (?:pub )?([A-Za-z][\w'-]*)|([A-Za-z][\w'-]*) :|(module) )", re.M)
+COMMENT = re.compile(r"(?:^|(?<=\s))--(?=\s|-).*", re.M)
 WORD = re.compile(r"[A-Za-z_][\w'-]*")
-USE = re.compile(r"^(?:pub )?use .*(?:\n\s+.*)*", re.M)
+USE = re.compile(r"^(?:pub )?use .*(?:\n[ \t]+\S.*)*", re.M)
 # What is named by goals, and what the toolchain looks for by its name.
 GOALS = ("Answers.antt", "Invariants.antt", "Proof.antt")
 
@@ -34,10 +35,11 @@ def files_of(root):
 
 def items_of(text):
     """The items of a .antt file: of each its name and all its text, the comment in front left out."""
-    text = re.sub(r"--.*", "", text)
-    starts = [(it.start(), it[1] or it[2]) for it in ITEM.finditer(text)]
+    text = COMMENT.sub("", text)
+    starts = [(it.start(), it[1] or it[2] or it[3]) for it in ITEM.finditer(text)]
     for (begin, name), (end, _) in zip(starts, [*starts[1:], (len(text), "")]):
-        yield name, text[begin:end]
+        if name != "module":
+            yield name, text[begin:end]
 
 
 def main(words):
@@ -49,7 +51,7 @@ def main(words):
             count.update(WORD.findall(re.sub(r"//.*", "", text)))
             continue
         text = USE.sub("", text)
-        count.update(WORD.findall(re.sub(r"--.*", "", text)))
+        count.update(WORD.findall(COMMENT.sub("", text)))
         for name, item in items_of(text):
             own[name] += sum(it == name for it in WORD.findall(item))
             if os.path.basename(path) not in GOALS and "/formers/" not in path:

@@ -27,7 +27,7 @@ use Rattle.log_reports.specs.Reports.{Report, PrintsReport, PrintsPart, ReadsLog
 use Rattle.log_reports.specs.code.Tries.{TriesReport}
 use Rattle.commands.specs.code.Stops.{stop_of_report}
 use Rattle.commands.specs.Ended.{is_success}
-use Rattle.commands.specs.Told.{usage_line, log_line, too_long_line}
+use Rattle.commands.specs.Told.{log_line, too_long_line}
 use Rattle.commands.specs.Runs.{Source, SourceDeserves, HasSource, ReadsSource, IsUnread, SolvePromise, shop_text, told_text, RunPromise, NeverRefused, EveryRun, CommandPromise, HasFiles, RefusesModel, ShowsPart, LogPromise, HoldsBegunLog, CutShort, AnswerPromise, ReportEnds, ReportPromise, ReadsBoth, ReadsFiles, ending_of, SolveEnds, VerifiesPart}
 use Rattle.commands.specs.VerifyText.{verify_text}
 use Rattle.commands.specs.Runs.Source.{file, generated}
@@ -493,23 +493,6 @@ gen_stopped shop stop.LogTooLong ended old s new tries ends = absurd tries.tried
 gen_stopped shop (stop.Given (given.ScheduleRefused r)) ended old s new tries ends = absurd tries.tried
 
 -- Words that are no command, and words for which memory was refused.
-
-pub no_command : (old new : State) → Reports usage_line old new → RunPromise None end.Usage old new
-no_command old new reports = record {
-  every = record {
-    later = reports.later;
-    usage = λ enough. (λ h. refl, λ h. refl);
-    unopened = λ h. reports;
-    fault = λ h. cc;
-    calm = λ is there h. cc;
-    kept = λ h. cc;
-    quiet = λ h other. ap (λ (x : State). x.out) reports.only;
-    fault_told = λ h. cc;
-    memory_told = λ h. cc;
-  };
-  its_own = reports;
-  reads = λ no_fault enough. tt;
-}
 
 unread : (command : Option Command) (old new : State) → Reports memory_line old new → EveryRun command end.NoMemory old new
 unread command old new reports = record {

@@ -87,9 +87,6 @@ model_searched m name log limits r old s t within says = model_on name old s t (
 pub model_tested : (name : Bytes) (old s t : State) → WithinModel name old s → OnlyTests s t → WithinModel name old t
 model_tested name old s t within tested = model_on name old s t (ap (λ (x : State). x.model) tested.only) within
 
-pub schedule_unread : (name : Bytes) (old s : State) → OnlyReads old s → WithinSchedule name old s
-schedule_unread name old s reads = inl (ap (λ (x : State). x.schedule) reads.only)
-
 pub schedule_tested : (name : Bytes) (old s t : State) → OnlyReads old s → WithinSchedule name s t → WithinSchedule name old t
 schedule_tested name old s t reads within = schedule_behind name old s t (ap (λ (x : State). x.files) reads.only) (ap (λ (x : State). x.schedule) reads.only) within
 

@@ -25,17 +25,6 @@ rooms c j some = le-div (c / (2 * j) + c / (2 * j + 1)) c j some (halve (c / (2 
 near_wider : (a b : ℕ) (z : ℤ) → a ≤ b → IsNear a z → IsNear b z
 near_wider a b z wide near = (near.0, omega (arith, ints, near.1))
 
-pub small_wider : (a b : ℕ) (n : Node) → a ≤ b → IsSmall a n → IsSmall b n
-small_wider a b n wide small = record {
-  sum_from = small.sum_from;
-  sum_to = omega (arith, ints, small.sum_to);
-  env = ends n.env small.env;
-}
-  where
-    ends : (o : Option ℤ) → IfSome o (IsNear a) → IfSome o (IsNear b)
-    ends None near = tt
-    ends (Some z) near = near_wider a b z wide near
-
 -- a number of the left part, with a sum of the right part after it
 near_after : (a b c : ℕ) (z n : ℤ) → a + b ≤ c → IsNear a z → pos 0 ≤ℤ n → n ≤ℤ pos b → IsNear c (z +ℤ n)
 near_after a b c z n wide near from to = (omega (arith, ints, near.0, from), omega (arith, ints, near.1, to))

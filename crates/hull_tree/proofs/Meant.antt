@@ -105,10 +105,6 @@ means_length ns i x d c e is same_d at m = means_leaf m ns i e (LengthOf x d) (l
 pub means_presence : (ns : List Node) (i : ℕ) (x : Itv) (e : Expr) → e ≡ full.PresenceOf x → IsAt ns (node.Leaf (leaf.Presence x)) i → (m : Data) → Means m ns i e
 means_presence ns i x e is at m = means_leaf m ns i e (PresenceOf x) (leaf.Presence x) (rolls-PresenceOf x ∙ sym is) (each_of_one (λ z. Some x ≡ Some z) x refl) (λ r. refl) at
 
--- what is more of the nodes changes nothing
-pub means_more : (m : Data) (ns ks : List Node) (i : ℕ) (e : Expr) → Grown ns ks → Means m ns i e → Means m ks i e
-means_more m ns ks i e g mean = record { within = let a = g.size in let b = mean.within in omega (arith, a, b); names = named_on ns ks (names_of e) g mean.names; ends = λ h there valid r hs of are. mean.ends h there valid r hs of (ends_before m ns ks r hs g are) }
-
 some_of_one : (o : Option Ends) (h : Ends) → truth_of (o ∷ []) ≡ Some h → (x : Ends) × (o ≡ Some x)
 some_of_one None h is = cc
 some_of_one (Some x) h is = (x, refl)

@@ -1,7 +1,7 @@
 -- What the calls of a queue do to its links.
 use Rattle.std.proofs.Common.{◌≡◌, ℕ, zero, suc, ◌<◌, ◌≤◌, true, false, List, [], ◌∷◌, ◌++◌, inl, inr, Option, Some, None, is_some, length, get_or, set, refl, sym, ap, subst, ◌∙◌, arith, slice_get}
 use Rattle.std.proofs.Math.ListN.{length-set}
-use Rattle.std.proofs.lemmas.Bool.{cases_eq, eq-eqb, false_from_ne_true}
+use Rattle.std.proofs.lemmas.Bool.{cases_eq, false_from_ne_true}
 use Rattle.std.specs.Ptr.{Ptr}
 use Rattle.iqueue.specs.declared.node.Node.{Node}
 use Rattle.iqueue.specs.code.Queue.{Queue, AreDistinctBelow, is_in, without, woken}
@@ -20,9 +20,6 @@ read_is : (ns : List Node) (k : ℕ) (n m : Node) → slice_get ns k ≡ Some m 
 read_is [] k n m there is = cc
 read_is (x ∷ ns) zero n m there is = let same : x ≡ m = cc in is ∙ same
 read_is (x ∷ ns) (suc k) n m there is = read_is ns k n m there is
-
-without_first : (k : ℕ) (js : List ℕ) → without k (k ∷ js) ≡ js
-without_first k js = rw (eq-eqb k k refl) refl
 
 pub without_absent : (k : ℕ) (ks : List ℕ) → is_in k ks ≡ false → without k ks ≡ ks
 without_absent k [] absent = refl

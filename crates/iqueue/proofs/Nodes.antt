@@ -1,7 +1,6 @@
 -- What a write to one node does to the row of nodes.
 use Rattle.std.proofs.Common.{◌≡◌, ℕ, zero, suc, ◌<◌, List, [], ◌∷◌, Some, length, get_or, set, refl, ap, arith, slice_get, lit<, Option, None}
 use Rattle.std.specs.Ptr.{Ptr}
-use Rattle.std.specs.Mem.{type_size}
 use Rattle.kept.proofs.Indices.{index_place}
 use Rattle.iqueue.specs.declared.node.Node.{Node}
 use Rattle.iqueue.specs.contracts.node.Node.{the_row}
@@ -82,7 +81,3 @@ prev_keeps (Some p) n = refl
 pub prev_is : (d : Option Ptr) (n : Node) → prev_of (prev_to d n) ≡ d
 prev_is None n = refl
 prev_is (Some p) n = refl
-
--- what a node takes
-pub node_size : type_size the_row ≡ 24
-node_size = refl

@@ -1,6 +1,5 @@
 -- One step of a walk over some expressions that joins their ranges.
-use Rattle.std.proofs.Common.{◌≡◌, ℕ, ◌+◌, ◌<◌, ℤ, ◌+ℤ◌, Bool, true, false, ◌&&◌, ◌||◌, List, [], ◌∷◌, ◌++◌, length, map, drop, get_or, fold, Option, Some, None, refl, sym, ap, ◌∙◌}
-use Rattle.std.specs.List.{list_all, list_any}
+use Rattle.std.proofs.Common.{◌≡◌, ℕ, ◌+◌, ◌<◌, ℤ, ◌+ℤ◌, List, [], ◌∷◌, ◌++◌, length, map, drop, get_or, fold, Option, Some, None, refl, sym, ap, ◌∙◌}
 use Rattle.std.specs.Option.{option_to_list}
 use Rattle.std.proofs.lemmas.List.{at_drop_more}
 use Rattle.sched_model.specs.Words.{total}
@@ -54,21 +53,3 @@ pub least_turn : {X : Type 0} (f : X → Ends) (xs : List X) (i : ℕ) (x : X) (
     → i < length xs → x ≡ get_or xs i x → r ≡ f x → q ≡ least_range (option_to_list o ++ r ∷ []) → least_range (q ∷ map f (drop (i + 1) xs)) ≡ whole
 least_turn f xs i x r o q whole before within at_i is new =
     turn (λ s rs. least_range (option_to_list s ++ rs)) f xs i x r o (Some q) whole before within at_i is (λ rs. lesser_more o r rs ∙ ap (λ z. least_range (z ∷ rs)) (sym new))
-
-and_regroup : (a b c d : Bool) → d ≡ (a && b) → (a && (b && c)) ≡ (d && c)
-and_regroup true b c d h = ap (λ z. z && c) (sym h)
-and_regroup false b c d h = ap (λ z. z && c) (sym h)
-
-or_regroup : (a b c d : Bool) → d ≡ (a || b) → (a || (b || c)) ≡ (d || c)
-or_regroup true b c d h = ap (λ z. z || c) (sym h)
-or_regroup false b c d h = ap (λ z. z || c) (sym h)
-
-pub all_turn : {X : Type 0} (p : Ends → Bool) (f : X → Ends) (xs : List X) (i : ℕ) (x : X) (r : Ends) (b d whole : Bool) → (b && list_all p (map f (drop i xs))) ≡ whole
-    → i < length xs → x ≡ get_or xs i x → r ≡ f x → d ≡ (b && p r) → (d && list_all p (map f (drop (i + 1) xs))) ≡ whole
-all_turn p f xs i x r b d whole before within at_i is new =
-    turn (λ s rs. s && list_all p rs) f xs i x r b d whole before within at_i is (λ rs. and_regroup b (p r) (list_all p rs) d new)
-
-pub any_turn : {X : Type 0} (p : Ends → Bool) (f : X → Ends) (xs : List X) (i : ℕ) (x : X) (r : Ends) (b d whole : Bool) → (b || list_any p (map f (drop i xs))) ≡ whole
-    → i < length xs → x ≡ get_or xs i x → r ≡ f x → d ≡ (b || p r) → (d || list_any p (map f (drop (i + 1) xs))) ≡ whole
-any_turn p f xs i x r b d whole before within at_i is new =
-    turn (λ s rs. s || list_any p rs) f xs i x r b d whole before within at_i is (λ rs. or_regroup b (p r) (list_any p rs) d new)

@@ -14,11 +14,7 @@ use Rattle.region.specs.laws.Lists.{both_true, true_both}
 use Rattle.region.specs.laws.OneSequence.{same_is, same_self, has_cases}
 use Rattle.findings.specs.Ends.{is_open_end}
 use Rattle.findings.specs.code.Reads.{AreUnrefuted, is_among}
-use Rattle.refute_hier.specs.declared.family.Kind.{Kind}
-use Rattle.prop_hier.specs.declared.counts.Counts.{Counts}
 use Rattle.prop_hier.specs.code.Asked.{AskedFirst, AreMembers}
-use Rattle.prop_hier.specs.code.Counts.{counts_of}
-use Rattle.prop_hier.specs.code.Ready.{AreParts, IsReady}
 use Rattle.base_laws.specs.laws.Truth.{alone}
 
 pub none_yet : (test : Option Guess → Bool) (r : Region) (xs : List Itv) → AskedFirst test r xs 0
@@ -62,9 +58,6 @@ pub has_at : (xs : List Itv) (n : ℕ) (x d : Itv) → n < length xs → x ≡ g
 has_at [] n x d within is = absurd (omega (arith, within))
 has_at (y ∷ ys) zero x d within is = or_left (same x y) (has ys x) (subst (λ w. same x w ≡ true) is (same_self x))
 has_at (y ∷ ys) (suc n) x d within is = or_right (same x y) (has ys x) (has_at ys n x d (omega (arith, within)) is)
-
-pub ready_at : (kind : Kind) (r : Region) (a : Itv) (bs xs : List Itv) (c : Counts) (n : ℕ) (x d : Itv) → AreParts bs → c ≡ counts_of kind r a bs → AreMembers xs a bs → n < length xs → x ≡ get_or xs n d → IsReady kind r a bs c x
-ready_at kind r a bs xs c n x d parts counts of within is = record { parts = parts; counts = counts; member = of x (has_at xs n x d within is) }
 
 one_among : (xs : List Itv) (x : Itv) (t : Topic) → has xs x ≡ true → is_among (x ∷ []) [] t ≡ true → is_among xs [] t ≡ true
 one_among xs x (One z c) there h = subst (λ w. has xs w ≡ true) (sym (same_is z x (alone (same z x) h))) there

@@ -1,5 +1,5 @@
 -- The numbers of parts, where these are counted one after another.
-use Rattle.std.specs.Prelude.{◌≡◌, ℕ, ◌+◌, ◌<◌, ◌≤◌, Bool, true, false, if◌then◌else◌, List, [], length, get_or}
+use Rattle.std.specs.Prelude.{◌≡◌, ℕ, ◌+◌, ◌<◌, ◌≤◌, Bool, true, false, if◌then◌else◌, List, length, get_or}
 use Rattle.std.specs.List.{count_by}
 use Rattle.std.proofs.Common.{refl, sym, ap, subst, ◌∙◌, arith, take}
 use Rattle.std.proofs.lemmas.List.{length-take-le, take_all}
@@ -11,26 +11,8 @@ use Rattle.refute_hier.specs.declared.parts.Role.TheVariants.{IsThere, StartsBef
 use Rattle.refute_hier.specs.Parts.{plays, plays_in}
 use Rattle.refute_hier.specs.declared.family.Kind.{Kind}
 use Rattle.prop_hier.specs.declared.counts.Counts.{Counts}
-use Rattle.prop_hier.specs.code.Counts.{asks, counted, counts_of, one_if, counted_with, counts_with, no_counts}
+use Rattle.prop_hier.specs.code.Counts.{asks, counted, counts_of, one_if, counted_with, counts_with}
 use Rattle.prop_hier.specs.code.Few.{AreBelow}
-
-role_none : (kind : Kind) (role : Role) (r : Region) (a : Itv) → 0 ≡ counted kind role r a []
-role_none kind role r a = by_case (asks kind role)
-  where
-    by_case : (b : Bool) → 0 ≡ (if b then count_by (plays_in r role a) [] else 0)
-    by_case true = refl
-    by_case false = refl
-
-pub counted_none : (kind : Kind) (r : Region) (a : Itv) → no_counts ≡ counts_of kind r a []
-counted_none kind r a = rw (
-  ← role_none kind IsThere r a,
-  ← role_none kind StartsBefore r a,
-  ← role_none kind EndsAfter r a,
-  ← role_none kind Clashes r a,
-  ← role_none kind MayStart r a,
-  ← role_none kind MayEnd r a,
-  ← role_none kind MayMatch r a,
-) refl
 
 nothing_more : (n : ℕ) → n + 0 ≡ n
 nothing_more n = omega arith

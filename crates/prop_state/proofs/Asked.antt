@@ -1,5 +1,5 @@
 -- What was asked is silent, and what is silent finds nothing.
-use Rattle.std.specs.Prelude.{◌≡◌, ℕ, zero, suc, ◌+◌, ◌<◌, ◌≤◌, ℤ, ◌≤ℤ◌, Bool, true, false, not, ◌&&◌, List, [], ◌∷◌, ◌++◌, length, take, Option, Some, None, IfNone, nat_eq, nat_lt}
+use Rattle.std.specs.Prelude.{◌≡◌, ℕ, zero, suc, ◌+◌, ◌<◌, ◌≤◌, ℤ, ◌≤ℤ◌, Bool, true, false, not, ◌&&◌, List, [], ◌∷◌, ◌++◌, length, take, Option, Some, None, IfNone, nat_eq}
 use Rattle.std.proofs.Common.{refl, sym, ap, subst, ◌∙◌, inl, inr, arith, get_or}
 use Rattle.std.proofs.lemmas.Bool.{true≢false}
 use Rattle.std.proofs.lemmas.Bool.Decides.{nat_tests}
@@ -22,7 +22,7 @@ use Rattle.prop_state.specs.code.Walks.{EachOf, SilentTwo, SilentThree, SilentAr
 use Rattle.prop_state.specs.code.Silence.{longest_part, IsCovered, may_refute_pair, may_refute_around, may_refute_triple}
 use Rattle.prop_state.specs.laws.Owners.{demand_here}
 use Rattle.prop_state.specs.laws.Quieting.{silent_two, silent_three}
-use Rattle.prop_state.specs.laws.Silence.{pair_silent, triple_silent, around_silent, states_silent, order_silent, same_silent, asked_from_silent, silent_from_asked}
+use Rattle.prop_state.specs.laws.Silence.{pair_silent, triple_silent, around_silent, states_silent, same_silent, asked_from_silent, silent_from_asked}
 use Rattle.base_laws.specs.laws.Truth.{never_both}
 
 -- a constraint with its demand
@@ -52,10 +52,6 @@ named_here m r k c d e is of numbers = record { constraint = refl; is = sym is; 
 pub none_to : {X P Q : Type 0} (o : Option X) → (P → Q) → IfNone o P → IfNone o Q
 none_to None f p = f p
 none_to (Some x) f p = tt
-
--- a walk through a list, one after the other
-pub each_none : (P : ℕ → Type 0) (xs : List ℕ) → EachOf P (take 0 xs)
-each_none P xs x here = absurd here
 
 each_next : (P : ℕ → Type 0) (xs : List ℕ) (n : ℕ) (x d : ℕ) → n < length xs → x ≡ get_or xs n d → EachOf P (take n xs) → P x → EachOf P (take (suc n) xs)
 each_next P [] n x d within is before here z h = absurd h
@@ -91,13 +87,6 @@ busy_two m r best k a b one other busy still =
 
 pub is_of : (m : Data) (r : Region) (k c : ℕ) (n : Named) → IsNamed m r k c n → IsOf m r k n
 is_of m r k c n is = record { constraint = refl; is = is.is; of = is.of; ends = is.ends }
-
--- of a second that isn't later, or that may not refute
-pub two_order : (m : Data) (r : Region) (best : Option ℤ) (k c1 c2 : ℕ) → c2 ≤ c1 → SilentTwo m r best k c1 c2
-two_order m r best k c1 c2 past one other = order_silent m r best c1 c2 (not_less c1 c2 past)
-  where
-    not_less : (i j : ℕ) → j ≤ i → nat_lt i j ≡ false
-    not_less i j h = grind (arith, nat_tests, h)
 
 pub two_calm : (m : Data) (r : Region) (best : Option ℤ) (k : ℕ) (a b : Named) → IsOf m r k a → IsOf m r k b → may_refute_pair m a b ≡ false → SilentTwo m r best k a.c b.c
 two_calm m r best k a b one other calm mine yours = pair_silent m r best k a b one other calm
@@ -135,10 +124,6 @@ between_off p q s t h = ap (λ b. p && q && b && not t) h ∙ none p q (not t)
 
 between_same : (p q s t : Bool) → t ≡ true → (p && q && s && not t) ≡ false
 between_same p q s t h = ap (λ b. p && q && s && not b) h ∙ never_both (p && q && s) false refl
-
-pub second_same : (m : Data) (r : Region) (best : Option ℤ) (k : ℕ) (a x b : Named) → IsOf m r k a → IsOf m r k x → IsOf m r k b → same_state a.demand.state x.demand.state ≡ true → SilentThree m r best k a.c x.c b.c
-second_same m r best k a x b one mid other is f g h =
-    states_silent m r best a.c x.c b.c a.demand x.demand b.demand one.is mid.is other.is (between_same (of_one a.demand x.demand) (of_one a.demand b.demand) (same_state a.demand.state b.demand.state) (same_state a.demand.state x.demand.state) is)
 
 pub three_asked : (m : Data) (r : Region) (best : Option ℤ) (k c1 c2 c3 : ℕ) → IsSilent m r best (State3 c1 c2 c3) → SilentThree m r best k c1 c2 c3
 three_asked m r best k c1 c2 c3 silent f g h = silent

@@ -54,10 +54,6 @@ add_interval m cs i d e xs ys whole before within is made =
 pub room_for_each : (m : Data) (n c : ℕ) (t : List (List ℕ)) → AreDemands m n t → length m.constraints ≤ c → HasRoom t c
 room_for_each m n c t each enough k below = (let few = subst (λ (l : List ℕ). length l ≤ length m.constraints) (sym (each.each k (subst (λ (i : ℕ). k < i) each.size below))) (few_demands m k) in omega (arith, few, enough))
 
--- the demands that are noted, one more at its place
-pub noted_none : (m : Data) (r : Region) (k : ℕ) (cs : List ℕ) (ns : List Named) (i : ℕ) → i < 0 → (c : ℕ) (n : Named) → IsNamed m r k (get_or cs i c) (get_or ns i n)
-noted_none m r k cs ns i below = absurd (omega (arith, below))
-
 pub noted_more : (m : Data) (r : Region) (k i e : ℕ) (cs : List ℕ) (ns : List Named) (v : Named) → i < length cs → i < length ns → ((j : ℕ) → j < i → (c : ℕ) (n : Named) → IsNamed m r k (get_or cs j c) (get_or ns j n)) → IsNamed m r k (get_or cs i e) v
     → (j : ℕ) → j < i + 1 → (c : ℕ) (n : Named) → IsNamed m r k (get_or cs j c) (get_or (set ns i v) j n)
 noted_more m r k i e cs ns v listed within before here j below c n = elim (cases_eq j i) [

@@ -31,9 +31,6 @@ none_more n ks h = record { size = length_push ks None ∙ ap (λ k. k + 1) h.si
     pushed (x ∷ xs) zero = refl
     pushed (x ∷ xs) (suc k) = pushed xs k
 
-pub none_at_first : (m : Data) (n k : ℕ) (ks : List (Option (List Bounds))) → k ≡ n → AreUnknown k ks → AreKnown m n ks
-none_at_first m n k ks same h = record { size = h.size ∙ same; each = λ j low. subst (IfKnown m j) (sym (h.each j)) tt }
-
 -- what is fresh, one demand after the other
 pub fresh_none : (m : Data) (r : Region) (k : ℕ) (cs : List ℕ) (ns : List Named) (known : Option (List Bounds)) → AreFresh m r k cs ns known 0 [] []
 fresh_none m r k cs ns known = record { size = refl; named = λ i low c n. absurd (omega (arith, low)); all = λ i low c e. absurd (omega (arith, low)) }

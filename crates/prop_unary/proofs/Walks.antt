@@ -11,9 +11,6 @@ use Rattle.prop_unary.specs.code.Circles.{EachOf, EachBetween}
 use Rattle.prop_unary.specs.code.Rows.{member_at}
 use Rattle.prop_unary.specs.laws.Rows.{each_placed}
 
-pub each_none : (P : Itv → Type 0) (xs : List Itv) → EachOf P (take 0 xs)
-each_none P xs x here = cc
-
 each_next : (P : Itv → Type 0) (xs : List Itv) (n : ℕ) (x d : Itv) → n < length xs → x ≡ get_or xs n d → EachOf P (take n xs) → P x → EachOf P (take (suc n) xs)
 each_next P [] n x d within is before here z h = absurd (omega (arith, within))
 each_next P (y ∷ ys) zero x d within is before here z h = elim (has_cases (same z y) (has [] z) h) [

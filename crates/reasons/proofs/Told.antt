@@ -98,9 +98,6 @@ tested_stopped m text schedule stop.Fault r old s tests of = subst (λ x. Tested
 tested_stopped m text schedule stop.NoMemory r old s tests of = subst (λ x. Tested m text schedule x old s) (sym of) tt
 tested_stopped m text schedule (stop.ModelRefused e) r old s tests of = absurd tests
 
-pub only_looks : (old s : State) → OnlyReads old s → OnlyLooks old s
-only_looks old s reads = record { only = subst (λ (x : State). x ≡ record old { model = x.model; schedule = x.schedule; faults = x.faults }) (sym reads.only) refl; later = reads.later }
-
 -- What is told of a model, and of a schedule with it.
 
 pub not_fetched : (model : Bytes) (schedule : Option Bytes) (why : GivenStop) (old s : State) → FetchesText model (Err why) old s → ExplainTried model schedule (Err why) old s

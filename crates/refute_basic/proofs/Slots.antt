@@ -1,8 +1,6 @@
 -- The settled slots, one by one.
-use Rattle.std.specs.Prelude.{◌≡◌, ℕ, zero, suc, ◌+◌, ◌^◌, ◌<◌, ◌≤◌, ◌-ℤ◌, Bool, true, false, not, ◌&&◌, List, [], ◌∷◌, None, Some, map, length, slice_get, drop}
-use Rattle.std.specs.List.{list_all}
-use Rattle.std.proofs.Common.{refl, sym, ap, subst, ◌∙◌, arith, get_or, add-one}
-use Rattle.std.proofs.lemmas.Bool.{not-false}
+use Rattle.std.specs.Prelude.{◌≡◌, ℕ, zero, suc, ◌^◌, ◌<◌, ◌≤◌, ◌-ℤ◌, Bool, false, not, ◌&&◌, List, [], ◌∷◌, None, Some, map, length, slice_get}
+use Rattle.std.proofs.Common.{refl, sym, ap, subst, ◌∙◌, arith, get_or}
 use Rattle.std.proofs.lemmas.List.{get_or_past}
 use Rattle.std.proofs.lemmas.Option.{slice_get_past, slice_get-get_or}
 use Rattle.sched_model.specs.declared.types.Constraint.{Constraint}
@@ -13,13 +11,13 @@ use Rattle.region.specs.Looks.{IsRegionOf}
 use Rattle.sched_base.specs.declared.ids.Itv.{Itv}
 use Rattle.sched_model.specs.declared.types.Slot.{Slot}
 use Rattle.sched_model.specs.declared.types.Slot.TheVariants as slot
-use Rattle.sched_model.specs.Words.{◌implies◌, is_between, passes}
+use Rattle.sched_model.specs.Words.{is_between}
 use Rattle.sched_model.specs.Value.{slot_of}
 use Rattle.region.specs.declared.types.Bounds.{Bounds}
 use Rattle.region.specs.declared.types.Presence.TheVariants as presence
 use Rattle.region.specs.Cells.{Region, unknown, bounds_of, settled_slot}
 use Rattle.region.specs.laws.Narrowing.{as_many_bounds}
-use Rattle.refute_basic.specs.Leaf.{is_leaf_constraint, settled_alone, is_unsized_at, fails_at, keeps, has_size}
+use Rattle.refute_basic.specs.Leaf.{is_leaf_constraint, settled_alone, is_unsized_at, fails_at, has_size}
 use Rattle.refute_basic.specs.laws.Fits.{few_of}
 
 mapped : (bs : List Bounds) (n : ℕ) → settled_slot (get_or bs n unknown) ≡ get_or (map settled_slot bs) n slot.Absent
@@ -61,28 +59,6 @@ failing_at m r cs u c b same is fails = rw (← same, is) fails
 
 pub missing_at : (m : Data) (r : Region) (cs : List Constraint) (u : ℕ) → cs ≡ m.constraints → slice_get cs u ≡ None → false ≡ fails_at m r u
 missing_at m r cs u same is = rw (← same, is) refl
-
--- one step of a walk over the constraints
-not_failing : (p q : Bool) → false ≡ (p && not q) → (p implies q) ≡ true
-not_failing true q h = not-false q (sym h)
-not_failing false q h = refl
-
-hold_next_at : (m : Data) (r : Region) (cs : List Constraint) (u : ℕ) → u < length cs → false ≡ passes (λ c. is_leaf_constraint c && not (holds m (settled_alone r) c)) (slice_get cs u) → list_all (keeps m r) (drop (suc u) cs) ≡ list_all (keeps m r) (drop u cs)
-hold_next_at m r [] u within h = absurd (omega (arith, within))
-hold_next_at m r (c ∷ cs) zero within h = rw (not_failing (is_leaf_constraint c) (holds m (settled_alone r) c) h) refl
-hold_next_at m r (c ∷ cs) (suc u) within h = hold_next_at m r cs u (omega (arith, within)) h
-
-pub hold_next : (m : Data) (r : Region) (u : ℕ) (b : Bool) → u < length m.constraints → false ≡ fails_at m r u → list_all (keeps m r) (drop u m.constraints) ≡ b → list_all (keeps m r) (drop (u + 1) m.constraints) ≡ b
-hold_next m r u b within h before = rw add-one (hold_next_at m r m.constraints u within h ∙ before)
-
--- one step of a walk over the intervals
-sized_next_at : (bs : List Bounds) (u : ℕ) → u < length bs → false ≡ passes (λ c. not (has_size c)) (slice_get bs u) → list_all has_size (drop (suc u) bs) ≡ list_all has_size (drop u bs)
-sized_next_at [] u within h = absurd (omega (arith, within))
-sized_next_at (b ∷ bs) zero within h = rw (not-false (has_size b) (sym h)) refl
-sized_next_at (b ∷ bs) (suc u) within h = sized_next_at bs u (omega (arith, within)) h
-
-pub sized_next : (r : Region) (u : ℕ) (b : Bool) → u < length r.bounds → false ≡ is_unsized_at r u → list_all has_size (drop u r.bounds) ≡ b → list_all has_size (drop (u + 1) r.bounds) ≡ b
-sized_next r u b within h before = rw add-one (sized_next_at r.bounds u within h ∙ before)
 
 pub settled_slot_at : (r : Region) (x : Itv) (c : Bounds) (s : Slot) → c ≡ bounds_of r x → s ≡ settled_slot c → s ≡ slot_of (settled_alone r) x
 settled_slot_at r x c s is slot = slot ∙ ap settled_slot is ∙ settled_slot_of r x

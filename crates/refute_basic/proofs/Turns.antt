@@ -1,5 +1,5 @@
 -- A walk goes on by one arc after another.
-use Rattle.std.specs.Prelude.{◌≡◌, ℕ, ◌+◌, ◌<◌, ℤ, ◌+ℤ◌, Bool, true, false, ◌&&◌, List, ◌∷◌, length, drop, Option, Some, None, nat_eq}
+use Rattle.std.specs.Prelude.{◌≡◌, ℕ, ◌+◌, ◌<◌, ℤ, ◌+ℤ◌, Bool, true, false, ◌&&◌, List, ◌∷◌, length, drop, Option, Some, nat_eq}
 use Rattle.std.proofs.Common.{sym, ap, ◌∙◌, arith, get_or}
 use Rattle.std.proofs.lemmas.Bool.Decides.{nat_tests}
 use Rattle.std.proofs.lemmas.List.{at_drop_more}
@@ -19,9 +19,6 @@ next_of m r begin at sum is k i o within here e =
     at_drop_more (goes_on m r begin at sum) is k i within
     ∙ ap (λ (j : ArcName). goes_on m r begin at sum (j ∷ drop (k + 1) is)) (sym here)
     ∙ ap (λ (p : Option Edge). passes (λ e. nat_eq at e.tail && goes_on m r begin e.head (sum +ℤ e.weight) (drop (k + 1) is)) p) (sym e)
-
-pub turn_none : (m : Data) (r : Region) (begin at : ℕ) (sum : ℤ) (is : List ArcName) (k : ℕ) (i : ArcName) → k < length is → i ≡ get_or is k i → None ≡ edge_of m r i → false ≡ goes_on m r begin at sum (drop k is)
-turn_none m r begin at sum is k i within here e = sym (next_of m r begin at sum is k i None within here e)
 
 pub turn_off : (m : Data) (r : Region) (begin at : ℕ) (sum : ℤ) (is : List ArcName) (k : ℕ) (i : ArcName) (e : Edge) → k < length is → i ≡ get_or is k i → Some e ≡ edge_of m r i → (at ≡ e.tail → ⊥) → false ≡ goes_on m r begin at sum (drop k is)
 turn_off m r begin at sum is k i e within here is_e other = sym (next_of m r begin at sum is k i (Some e) within here is_e ∙ off at e.tail _ other)

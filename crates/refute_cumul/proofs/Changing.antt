@@ -58,9 +58,6 @@ later_least (c ∷ cs) zero (suc k) d order le h = first_least cs c order k d (o
 later_least (c ∷ cs) (suc i) zero d order le h = absurd (omega (arith, le))
 later_least (c ∷ cs) (suc i) (suc k) d order le h = later_least cs i k d (order_tail c cs order) (omega (arith, le)) (omega (arith, h))
 
-abbrev no_change : Change
-no_change = record { t = pos 0; minus = false; h = pos 0 }
-
 pub no_levels : (cs : List Change) → IsInOrder cs → AreLevels cs 0 []
 no_levels cs order = record {
   rising = λ i k d le h. absurd (omega (arith, h));
@@ -142,14 +139,6 @@ next_moment cs i ps d level order so_far within last sum =
         level_last ps (record { t = (get_or cs i d).t; level = level }) (pos 0) t (λ k e h. behind (get_or ps k e).t (get_or cs i d).t t (so_far.early k i e d h (omega arith) within) here) here
         ∙ sum ∙ ap (λ n. total (map rise (take n cs))) (plus_one i)
         ∙ summed cs i d t order within here (before d)
-
--- when no change is left
-pub whole_profile : (cs : List Change) (i : ℕ) (ps : List Level) → AreLevels cs i ps → length cs ≤ i → (t : ℤ) → level_in ps t ≡ sum_until t cs
-whole_profile cs i ps so_far past t = so_far.value t (λ e h. absurd (omega (arith, past, h)))
-
--- no sum
-pub nothing_summed : (cs : List Change) → pos 0 ≡ total (map rise (take 0 cs))
-nothing_summed cs = refl
 
 -- sorted changes are the load
 pub sorted_load : (r : Region) (below : Bool) (is : List Part) (cs ds : List Change) (t : ℤ) → cs ≡ load_changes r below is → IsPermutation cs ds → sum_until t ds ≡ load r below is t

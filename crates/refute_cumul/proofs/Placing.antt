@@ -95,17 +95,6 @@ some_place (p ∷ ps) t rising = by_case (int_le p.t t) refl (some_place ps t (�
     by_case true is (k, at) = (suc k, record { within = (let w = at.within in omega (arith, w)); before = first (up_to p.t t is) k at; behind = rest k at })
     by_case false is (k, at) = (0, record { within = omega arith; before = λ i d h. absurd (omega (arith, h)); behind = none (past p.t t is) })
 
--- how far a place reaches
-pub reaches_itself : (ps : List Level) (i : ℕ) (top : ℤ) → i < length ps → ((d : Level) → top ≡ (get_or ps i d).level) → Reaches ps i (record { top = top; next = i + 1 })
-reaches_itself ps i top within is = record {
-  later = omega arith;
-  within = omega (arith, within);
-  below = record { each = λ k d h w. let same : k ≡ i = omega (arith, h, w) in subst (λ n. (get_or ps n d).level ≤ℤ top) (sym same) (equal _ _ (is d)) };
-}
-  where
-    equal : (x y : ℤ) → x ≡ y → y ≤ℤ x
-    equal x y h = omega (arith, ints, h)
-
 pub reaches_on : (ps : List Level) (i : ℕ) (top behind : ℤ) (next next' : ℕ) → Reaches ps i (record { top = top; next = next }) → Reaches ps next (record { top = behind; next = next' }) → Reaches ps i (record { top = int_max top behind; next = next' })
 reaches_on ps i top behind next next' one two = record {
   later = (let f = one.later in let g = two.later in omega (arith, f, g));
@@ -135,9 +124,6 @@ pub record IsPassed (ps : List Level) (k i : ℕ) (limit : ℤ) : Type 0 where
   pub within : i ≤ length ps
   pub below : IsBelow ps k i limit
 
-pub passed_none : (ps : List Level) (k : ℕ) (limit : ℤ) → k ≤ length ps → IsPassed ps k k limit
-passed_none ps k limit within = record { from = omega arith; within = within; below = record { each = λ i d h w. absurd (omega (arith, h, w)) } }
-
 pub passed_one : (ps : List Level) (k i : ℕ) (limit : ℤ) → IsPassed ps k i limit → i < length ps → ((d : Level) → (get_or ps i d).level ≤ℤ limit) → IsPassed ps k (i + 1) limit
 passed_one ps k i limit so_far within below = record {
   from = (let f = so_far.from in omega (arith, f));
@@ -164,10 +150,6 @@ passed_run ps k i limit q so_far reach low = record {
   where
     trans : (x y z : ℤ) → x ≤ℤ y → y ≤ℤ z → x ≤ℤ z
     trans x y z h k = omega (arith, ints, h, k)
-
--- it ends behind the last place, or at one from the end of the span on
-pub never_by_end : (ps : List Level) (k i : ℕ) (to limit : ℤ) → IsPassed ps k i limit → length ps ≤ i → IsNeverAbove ps k to limit
-never_by_end ps k i to limit so_far past = record { each = λ n d h w before. so_far.below.each n d h (omega (arith, past, w)) }
 
 pub never_by_moment : (ps : List Level) (k i : ℕ) (to limit : ℤ) → IsRising ps → IsPassed ps k i limit → i < length ps → ((d : Level) → to ≤ℤ (get_or ps i d).t) → IsNeverAbove ps k to limit
 never_by_moment ps k i to limit rising so_far within late = record {
@@ -241,13 +223,6 @@ stays_below ps from to limit k z rising at is low never t since until = by_place
       | inl early ↦ absurd (no_earlier n there early)
       | inr late ↦ subst (λ y. y ≤ℤ limit) (sym (level_at ps t n there)) (level_there n there late)
     ]
-
--- an empty span
-pub empty_below : (ps : List Level) (from to limit : ℤ) → to ≤ℤ from → StaysBelow ps from to limit
-empty_below ps from to limit h t since until = absurd (never from to t h since until)
-  where
-    never : (from to t : ℤ) → to ≤ℤ from → from ≤ℤ t → t <ℤ to → ⊥
-    never from to t h i j = omega (arith, ints, h, i, j)
 
 -- facts at one default
 pub above_here : (ps : List Level) (k i : ℕ) (to limit : ℤ) (e : Level) → k ≤ i → i < length ps → (get_or ps i e).t <ℤ to → limit <ℤ (get_or ps i e).level → IsAbove ps k to limit i

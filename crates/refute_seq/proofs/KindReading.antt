@@ -43,22 +43,6 @@ one_set k n s numbers more is set count = record { set = s; numbers_are = is; is
     longer : (a b : ℕ) → a ≡ 1 + b → k + a ≡ n + b
     longer a b h = omega (arith, h, more)
 
-pub overload_said : (w : SeqWitness) (c : ℤ) (numbers : List ℤ) → IsTrue (is_valid w) → numbers_of w ≡ pos 2 ∷ c ∷ numbers → (n : ℕ) × IsTrue (is_number n) × (c ≡ pos n) × OneSet 2 numbers
-overload_said (Overload n s) c numbers valid same =
-    let three = three_true (is_number n) (is_number_set s) (is_number (3 + length s)) valid in
-    (n, three.0, first n (set_numbers s) same, one_set 2 3 s numbers refl (rest n (set_numbers s) same) three.1 three.2)
-  where
-    first : (n : ℕ) (zs : List ℤ) → pos 2 ∷ pos n ∷ zs ≡ pos 2 ∷ c ∷ numbers → c ≡ pos n
-    first n zs same = cc
-
-    rest : (n : ℕ) (zs : List ℤ) → pos 2 ∷ pos n ∷ zs ≡ pos 2 ∷ c ∷ numbers → zs ≡ numbers
-    rest n zs same = cc
-overload_said (Pair n a b k) c numbers valid same = cc
-overload_said (Triple p x y z) c numbers valid same = cc
-overload_said (Edge n d i s u v) c numbers valid same = cc
-overload_said (NotEnd n d i s) c numbers valid same = cc
-overload_said (Detect n d i s) c numbers valid same = cc
-
 head_of : (k n d j : ℕ) (c side i : ℤ) (zs numbers : List ℤ) → IsTrue (is_number n && is_number d && is_number j) → pos k ∷ pos n ∷ pos d ∷ pos j ∷ zs ≡ pos k ∷ c ∷ side ∷ i ∷ numbers → Headed c side i
 head_of k n d j c side i zs numbers valid same = record { head = record { c = n; side = d; i = j }; is = valid; first = cc; second = cc; third = cc }
 
@@ -111,21 +95,12 @@ made_count k n s numbers more is count = ap is_number (longer (length numbers) (
     longer : (a b : ℕ) → a ≡ 1 + b → n + b ≡ k + a
     longer a b h = omega (arith, h, more)
 
-pub overload_made : (c : ℤ) (n : ℕ) (s : List ℕ) (numbers : List ℤ) → c ≡ pos n → IsTrue (is_number n) → set_numbers s ≡ numbers → IsTrue (is_number_set s) → true ≡ is_number (2 + length numbers)
-    → (numbers_of (Overload n s) ≡ pos 2 ∷ c ∷ numbers) × IsTrue (is_valid (Overload n s))
-overload_made c n s numbers is small read set count = (rw (is, read) refl, all_three (is_number n) (is_number_set s) (is_number (3 + length s)) small set (made_count 2 3 s numbers refl read count))
-
 -- where the head has three small numbers
 pub record HeadIs (c side i : ℤ) (f : Head) : Type 0 where
   pub first : c ≡ pos f.c
   pub second : side ≡ pos f.side
   pub third : i ≡ pos f.i
   pub small : is_head f
-
-pub not_end_made : (c side i : ℤ) (f : Head) (s : List ℕ) (numbers : List ℤ) → HeadIs c side i f → set_numbers s ≡ numbers → IsTrue (is_number_set s) → true ≡ is_number (4 + length numbers)
-    → (numbers_of (NotEnd f.c f.side f.i s) ≡ pos 4 ∷ c ∷ side ∷ i ∷ numbers) × IsTrue (is_valid (NotEnd f.c f.side f.i s))
-not_end_made c side i f s numbers h read set count =
-    (rw (h.first, h.second, h.third, read) refl, all_three (is_number f.c && is_number f.side && is_number f.i) (is_number_set s) (is_number (5 + length s)) h.small set (made_count 4 5 s numbers refl read count))
 
 pub detect_made : (c side i : ℤ) (f : Head) (s : List ℕ) (numbers : List ℤ) → HeadIs c side i f → set_numbers s ≡ numbers → IsTrue (is_number_set s) → true ≡ is_number (4 + length numbers)
     → (numbers_of (Detect f.c f.side f.i s) ≡ pos 5 ∷ c ∷ side ∷ i ∷ numbers) × IsTrue (is_valid (Detect f.c f.side f.i s))

@@ -4,7 +4,6 @@ use Rattle.std.specs.List.{list_all}
 use Rattle.std.proofs.Common.{refl, sym, ap, ◌∙◌, arith, get_or, length-append}
 use Rattle.std.proofs.lemmas.Bool.{true≢false}
 use Rattle.std.proofs.lemmas.List.{length-map, length-take-le, take_more, take-append-drop, append-nil}
-use Rattle.base_laws.specs.laws.Places.{at_left, at_right}
 use Rattle.base_laws.specs.laws.Items.{all_push}
 use Rattle.sched_model.specs.Words.{adjacent}
 use Rattle.sched_model.specs.Bounds.{is_number}
@@ -15,10 +14,6 @@ use Rattle.refute_seq.specs.laws.SetNumbers.{set_count, members_told, set_split}
 -- one number
 pub number_first : (s : List ℕ) (n : ℕ) → n ≡ 0 → slice_get (set_numbers s) n ≡ Some (pos (length s))
 number_first s n is = ap (slice_get (set_numbers s)) is
-
-pub member_within : (s : List ℕ) (n : ℕ) → n < length (set_numbers s) → (n ≡ 0 → ⊥) → n - 1 < length s
-member_within s zero within other = absurd (other refl)
-member_within s (suc k) within other = omega (arith, within, set_count s)
 
 member_at : (s : List ℕ) (k n : ℕ) → k < length s → n ≡ get_or s k 0 → slice_get (map (λ i. pos i) s) k ≡ Some (pos n)
 member_at [] k n within is = absurd (omega (arith, within))
@@ -34,16 +29,6 @@ number_later s (suc k) n within other is = member_at s k n (omega (arith, within
 
 pub number_read : (s : List ℕ) (k : ℕ) (z : ℤ) → k < length (set_numbers s) → (k ≡ 0 → ⊥) → z ≡ pos (get_or s (k - 1) 0) → slice_get (set_numbers s) k ≡ Some z
 number_read s k z within other is = number_later s k (get_or s (k - 1) 0) within other refl ∙ ap (λ y. Some y) (sym is)
-
--- one of the numbers of two lists
-pub number_left : (xs ys : List ℤ) (n : ℕ) (z : ℤ) → slice_get xs n ≡ Some z → slice_get (xs ++ ys) n ≡ Some z
-number_left xs ys n z h = at_left xs ys n z h
-
-pub number_right : (xs ys : List ℤ) (n k : ℕ) (z : ℤ) → k ≡ length xs → k ≤ n → slice_get ys (n - k) ≡ Some z → slice_get (xs ++ ys) n ≡ Some z
-number_right xs ys n k z count past h = ap (slice_get (xs ++ ys)) (split n k (length xs) count past) ∙ at_right xs ys (n - k) ∙ h
-  where
-    split : (n k j : ℕ) → k ≡ j → k ≤ n → n ≡ j + (n - k)
-    split n k j same past = omega (arith, same, past)
 
 -- reading one member more
 pub read_next : (s t : List ℕ) (members : List ℤ) (k n : ℕ) (z : ℤ) → t ≡ s ++ n ∷ [] → map (λ i. pos i) s ≡ take k members → k < length members → z ≡ get_or members k (pos 0) → z ≡ pos n → map (λ i. pos i) t ≡ take (k + 1) members

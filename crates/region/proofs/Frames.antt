@@ -3,7 +3,7 @@ use Rattle.std.specs.Prelude.{◌≡◌, ℕ, zero, suc, ◌+◌, ◌*◌, ◌-�
 use Rattle.std.proofs.Common.{refl, sym, ap, subst, ◌∙◌, arith, get_or, set}
 use Rattle.std.proofs.lemmas.Nat.{mul-le}
 use Rattle.std.proofs.Math.ListN.{replicate}
-use Rattle.std.proofs.Math.Seq.{drop-cons, drop-length}
+use Rattle.std.proofs.Math.Seq.{drop-cons}
 use Rattle.std.proofs.lemmas.List.{get_or-set_other, get_or-set_same}
 use Rattle.std.proofs.lemmas.Bool.Decides.{nat_tests}
 use Rattle.sched_base.specs.declared.ids.Itv.{Itv}
@@ -58,12 +58,6 @@ noted_more ps ms k m within is room noted x =
     decided : (b : Bool) → same x m ≡ b → get_or (set ps m.0 k) x.0 (length ms) ≡ k + (if not b then 1 + place_of (drop (suc k) ms) x else 0)
     decided true h = ap (λ z. get_or (set ps m.0 k) z.0 (length ms)) (same_is x m h) ∙ get_or-set_same ps m.0 k (length ms) room ∙ none k
     decided false h = get_or-set_other ps m.0 x.0 k (length ms) (differ x.0 m.0 h) ∙ noted x ∙ next k (place_of (drop (suc k) ms) x)
-
-pub noted_none : (ps : List ℕ) (ms : List Itv) → ((x : Itv) → slice_index_or ps x.0 (length ms) ≡ length ms) → AreNoted ps ms (length ms)
-noted_none ps ms blank x = blank x ∙ none (length ms) ∙ ap (λ ds. length ms + place_of ds x) (sym (drop-length ms))
-  where
-    none : (k : ℕ) → k ≡ k + 0
-    none k = omega arith
 
 pub noted_all : (ps : List ℕ) (ms : List Itv) (k : ℕ) → k ≡ 0 → AreNoted ps ms k → (x : Itv) → slice_index_or ps x.0 (length ms) ≡ place_of ms x
 noted_all ps ms k e noted x = noted x ∙ ap (λ n. n + place_of (drop n ms) x) e ∙ none (place_of ms x)

@@ -116,15 +116,6 @@ twice (StartGe x t) i j k e = let at : (t -ℤ pos i) -ℤ pos j ≡ t -ℤ pos 
 twice (EndLe x t) i j k e = let at : (t +ℤ pos i) +ℤ pos j ≡ t +ℤ pos k = omega (arith, ints, e) in ap (EndLe x) at
 twice (EndGe x t) i j k e = let at : (t -ℤ pos i) -ℤ pos j ≡ t -ℤ pos k = omega (arith, ints, e) in ap (EndGe x) at
 
-pub at_start : (g : Guess) → moved g 0 ≡ g
-at_start (Present x) = refl
-at_start (Absent x) = refl
-at_start (Before p x y) = refl
-at_start (StartLe x t) = let same : t +ℤ pos 0 ≡ t = omega (arith, ints) in ap (StartLe x) same
-at_start (StartGe x t) = let same : t -ℤ pos 0 ≡ t = omega (arith, ints) in ap (StartGe x) same
-at_start (EndLe x t) = let same : t +ℤ pos 0 ≡ t = omega (arith, ints) in ap (EndLe x) same
-at_start (EndGe x t) = let same : t -ℤ pos 0 ≡ t = omega (arith, ints) in ap (EndGe x) same
-
 -- how many steps a moved guess has left
 up_left : (t b : ℤ) (k : ℕ) → int_lt t b ≡ true → k < unsigned_abs (b -ℤ t) → unsigned_abs (b -ℤ (t +ℤ pos k)) + k ≡ unsigned_abs (b -ℤ t)
 up_left t b k h w = grind (arith, ints)

@@ -15,9 +15,6 @@ use Rattle.theta_passes.specs.code.Places.{has_place}
 is_one : (n : ℕ) → n ≡ 1 → nat_eq n 1 ≡ true
 is_one n e = grind (arith, nat_tests)
 
-pub one_is : (n : ℕ) → nat_eq n 1 ≡ true → n ≡ 1
-one_is n e = grind (arith, nat_tests)
-
 number_itself : (n : ℕ) → nat_eq n n ≡ true
 number_itself n = grind (arith, nat_tests)
 

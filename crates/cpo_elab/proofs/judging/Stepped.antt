@@ -84,9 +84,6 @@ split xs i x within at_i shaped =
     and_parts (is_shaped_form x.form) (are_shaped (drop (i + 1) xs))
     (ap (λ y. is_shaped_form y.form && are_shaped (drop (i + 1) xs)) at_i ∙ sym (at_drop_more are_shaped xs i x within) ∙ shaped)
 
-pub next_shaped : (xs : List Reading) (i : ℕ) (x : Reading) → i < length xs → x ≡ get_or xs i x → are_shaped (drop i xs) ≡ true → is_shaped_form x.form ≡ true
-next_shaped xs i x within at_i shaped = (split xs i x within at_i shaped).0
-
 pub rest_shaped : (xs : List Reading) (i : ℕ) (x : Reading) → i < length xs → x ≡ get_or xs i x → are_shaped (drop i xs) ≡ true → are_shaped (drop (i + 1) xs) ≡ true
 rest_shaped xs i x within at_i shaped = (split xs i x within at_i shaped).1
 

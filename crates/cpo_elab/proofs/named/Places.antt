@@ -1,16 +1,9 @@
 -- The place of a name among names that are seen as lists of bytes.
-use Rattle.std.proofs.Common.{◌≡◌, ℕ, ◌+◌, Bool, not, ◌||◌, cond, if◌then◌else◌, List, [], ◌∷◌, ◌++◌, map, position, None, is_some, refl, sym, ap, ◌∙◌}
-use Rattle.std.specs.List.{position_or_len, list_any}
+use Rattle.std.proofs.Common.{◌≡◌, ℕ, ◌+◌, Bool, ◌||◌, if◌then◌else◌, List, [], ◌∷◌, ◌++◌, map, position, None, is_some, refl, sym, ap, ◌∙◌}
+use Rattle.std.specs.List.{list_any}
 use Rattle.std.specs.Str.{bytes_eq}
-use Rattle.std.proofs.lemmas.List.{length-map, map-append}
+use Rattle.std.proofs.lemmas.List.{map-append}
 use Rattle.base_laws.specs.laws.Places.{found}
-
-pub place_in_map : {X Y : Type 0} (f : X → Y) (p : Y → Bool) (xs : List X) → position_or_len p (map f xs) ≡ position_or_len (λ x. p (f x)) xs
-place_in_map f p [] = refl
-place_in_map f p (x ∷ xs) = ap (λ n. cond (not (p (f x))) (1 + n) 0) (place_in_map f p xs)
-
-pub position_in_map : {X Y : Type 0} (f : X → Y) (p : Y → Bool) (xs : List X) → position p (map f xs) ≡ position (λ x. p (f x)) xs
-position_in_map f p xs = rw (place_in_map f p xs, length-map xs f) refl
 
 any_in_map : {X Y : Type 0} (f : X → Y) (p : Y → Bool) (xs : List X) → list_any p (map f xs) ≡ list_any (λ x. p (f x)) xs
 any_in_map f p [] = refl

@@ -1,8 +1,8 @@
 -- Where a quotation and a comment close: one turn of the loops that look for it.
-use Rattle.std.proofs.Common.{◌≡◌, ℕ, suc, ◌+◌, ◌<◌, ◌==◌, true, false, List, [], ◌∷◌, length, drop, get_or, option_map, Option, Some, None, refl, sym, ap, ◌∙◌, arith}
+use Rattle.std.proofs.Common.{◌≡◌, ℕ, suc, ◌+◌, ◌<◌, true, false, List, [], ◌∷◌, length, drop, option_map, Option, Some, None, refl, sym, ap, ◌∙◌, arith}
 use Rattle.std.proofs.lemmas.List.{at_drop_more}
 use Rattle.cpo_text.specs.Tokens.{begins}
-use Rattle.cpo_text.specs.code.Lexing.{quote_len, close_len}
+use Rattle.cpo_text.specs.code.Lexing.{close_len}
 
 moved : (i : ℕ) (o : Option ℕ) → option_map (λ n. i + n) (option_map suc o) ≡ option_map (λ n. (i + 1) + n) o
 moved i None = refl
@@ -12,28 +12,9 @@ start : (o : Option ℕ) → option_map (λ n. 0 + n) o ≡ o
 start None = refl
 start (Some n) = ap Some (omega arith)
 
-pub quote_init : (bs : List ℕ) → option_map (λ n. 0 + n) (quote_len bs) ≡ quote_len bs
-quote_init bs = start (quote_len bs)
-
-pub quote_here : (bs : List ℕ) (i d : ℕ) → i < length bs → (get_or bs i d == 34) ≡ true → quote_len (drop i bs) ≡ Some 1
-quote_here bs i d within is = at_drop_more quote_len bs i d within ∙ (rw is refl)
-
-pub quote_broken : (bs : List ℕ) (i d : ℕ) → i < length bs → (get_or bs i d == 34) ≡ false → (get_or bs i d == 10) ≡ true → quote_len (drop i bs) ≡ None
-quote_broken bs i d within other is = at_drop_more quote_len bs i d within ∙ (rw (other, is) refl)
-
-pub quote_turn : (bs : List ℕ) (i d : ℕ) → i < length bs → (get_or bs i d == 34) ≡ false → (get_or bs i d == 10) ≡ false
-    → option_map (λ n. i + n) (quote_len (drop i bs)) ≡ option_map (λ n. (i + 1) + n) (quote_len (drop (i + 1) bs))
-quote_turn bs i d within other more = ap (option_map (λ n. i + n)) (at_drop_more quote_len bs i d within ∙ (rw (other, more) refl)) ∙ moved i (quote_len (drop (i + 1) bs))
-
-pub close_init : (bs : List ℕ) → option_map (λ n. 0 + n) (close_len bs) ≡ close_len bs
-close_init bs = start (close_len bs)
-
 here : (bs : List ℕ) → begins 42 47 bs ≡ true → close_len bs ≡ Some 2
 here [] is = cc
 here (b ∷ bs) is = rw is refl
-
-pub close_here : (bs : List ℕ) (i : ℕ) → begins 42 47 (drop i bs) ≡ true → close_len (drop i bs) ≡ Some 2
-close_here bs i is = here (drop i bs) is
 
 pub close_turn : (bs : List ℕ) (i d : ℕ) → i < length bs → begins 42 47 (drop i bs) ≡ false
     → option_map (λ n. i + n) (close_len (drop i bs)) ≡ option_map (λ n. (i + 1) + n) (close_len (drop (i + 1) bs))

@@ -21,9 +21,6 @@ not_from k at before = grind (arith, nat_tests)
 from : (k at : ℕ) → at ≤ k → nat_le at k ≡ true
 from k at behind = grind (arith, nat_tests)
 
-not_up_to : (k end : ℕ) → end ≤ k → nat_lt k end ≡ false
-not_up_to k end behind = grind (arith, nat_tests)
-
 up_to : (k end : ℕ) → k < end → nat_lt k end ≡ true
 up_to k end before = grind (arith, nat_tests)
 

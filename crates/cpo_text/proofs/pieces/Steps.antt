@@ -1,18 +1,15 @@
 -- One piece further in a text.
-use Rattle.std.proofs.Common.{◌≡◌, ℕ, ◌+◌, ◌≤◌, List, [], ◌∷◌, length, take, drop, Some, None, refl, sym, ap, ◌∙◌}
-use Rattle.std.proofs.lemmas.List.{drop-drop, at_drop_all}
+use Rattle.std.proofs.Common.{◌≡◌, ℕ, ◌+◌, List, [], ◌∷◌, take, drop, Some, None, refl, sym, ap, ◌∙◌}
+use Rattle.std.proofs.lemmas.List.{drop-drop}
 use Rattle.cpo_text.specs.declared.piece.Piece.{Piece}
 use Rattle.cpo_text.specs.Tokens.{word_of, put}
 use Rattle.cpo_text.specs.code.Lexing.{piece_at, tokens_from}
 use Rattle.cpo_text.specs.code.Places.{said_word}
 use Rattle.cpo_text.specs.declared.word.Word.{Word as Said}
-use Rattle.cpo_text.proofs.pieces.Walks.{tokens_step, tokens_stop, at_end}
+use Rattle.cpo_text.proofs.pieces.Walks.{tokens_step, tokens_stop}
 
 pub no_tokens : (at : ℕ) (text rest : List ℕ) → rest ≡ drop at text → None ≡ piece_at rest → tokens_from at (drop at text) ≡ []
 no_tokens at text rest is none = tokens_stop at (drop at text) (ap piece_at (sym is) ∙ sym none)
-
-pub end_tokens : (at : ℕ) (text : List ℕ) → length text ≤ at → tokens_from at (drop at text) ≡ []
-end_tokens at text done = at_drop_all (tokens_from at) text at done ∙ tokens_stop at [] at_end
 
 step : (at : ℕ) (text rest : List ℕ) (p : Piece) (n : ℕ) → rest ≡ drop at text → Some (p, n) ≡ piece_at rest
     → tokens_from at (drop at text) ≡ put at (word_of p (take n rest)) (tokens_from (at + n) (drop (at + n) text))

@@ -131,13 +131,6 @@ end_alike reads (Two p x y) r q one alike = refl
 pub open_end_alike : (m : Data) (reads : Reads) (g : Guess) (r q : Region) → IsRegionOf m r → IsRegionOf m q → is_among reads.intervals reads.pairs (topic g) ≡ true → AreAlike reads r q → is_open_end r g ≡ is_open_end q g
 open_end_alike m reads g r q of also one alike = ap (λ b. b && is_end r (topic g)) (admits_alike m reads (topic g) r q of also one alike) ∙ ap (λ b. admits q g && b) (end_alike reads (topic g) r q one alike)
 
-pub turned_alike : (reads : Reads) (r q : Region) → AreAlike reads r q → AreAlike reads q r
-turned_alike reads r q alike = record {
-  bounds = λ x one. sym (alike.bounds x one);
-  presences = λ x one. sym (alike.presences x one);
-  orders = λ p x y one. sym (alike.orders p x y one);
-}
-
 -- regions of one model with the same cells are alike
 bounds_alike : (m : Data) (r q : Region) (x : Itv) → IsRegionOf m r → IsRegionOf m q → SameFive x r q → bounds_of r x ≡ bounds_of q x
 bounds_alike m r q x of also five = by_case (nat_lt x.0 (length m.intervals)) refl

@@ -1,6 +1,6 @@
 -- A node under which nothing tells of a changed interval has the range that it had.
 use Rattle.std.specs.Prelude.{◌≡◌, ℕ, zero, suc, ◌+◌, ◌<◌, ◌≤◌, Bool, true, false, List, Some, length, pos, slice_get}
-use Rattle.std.proofs.Common.{refl, sym, ap, subst, ◌∙◌, arith}
+use Rattle.std.proofs.Common.{refl, sym, ap, ◌∙◌, arith}
 use Rattle.sched_base.specs.declared.ids.Itv.{Itv}
 use Rattle.sched_model.specs.Data.{Data, same}
 use Rattle.sched_model.specs.Ranges.{Ends}
@@ -10,7 +10,6 @@ use Rattle.look_hull.specs.LookHull.{start_look, end_look, size_look, presence_l
 use Rattle.hull_tree.specs.declared.atoms.Atom.{Atom}
 use Rattle.hull_tree.specs.declared.nodes.Leaf.{Leaf}
 use Rattle.hull_tree.specs.declared.nodes.Leaf.TheVariants.{Lit, Start, End, Size, Presence}
-use Rattle.hull_tree.specs.declared.nodes.Op.{Op}
 use Rattle.hull_tree.specs.declared.nodes.Node.{Node}
 use Rattle.hull_tree.specs.declared.nodes.Span.{Span}
 use Rattle.hull_tree.specs.declared.nodes.Node.TheVariants as node
@@ -55,15 +54,3 @@ pub skipped : (m : Data) (ns : List Node) (fs : List Span) (ats : List Atom) (x 
     → IsClear ats x (span_at fs i) × IsClear ats y (span_at fs i) → e ≡ ends_at hs i → IsEndsOf m ns q i e
 skipped m ns fs ats x y hs q i e nodes atoms differ within clear is ks new =
     is ∙ skips m ns fs differ.before q hs ks nodes differ.ends new (i + 1) i (omega arith) within (untouched ns ats x y differ.before q (span_at fs i) atoms differ.same clear.0 clear.1)
-
--- a node that is visited
-pub visited_leaf : (m : Data) (ns : List Node) (q : Region) (i : ℕ) (l : Leaf) (e : Ends) → i < length ns → node_at ns i ≡ node.Leaf l → e ≡ leaf_ends m q l → IsEndsOf m ns q i e
-visited_leaf m ns q i l e within is range ks new = range ∙ sym (new.each i within ∙ ap (node_ends m q ks) is)
-
-pub visited_pair : (m : Data) (ns : List Node) (q : Region) (i : ℕ) (op : Op) (a b : ℕ) (d e f : Ends) → i < length ns → node_at ns i ≡ node.Pair op a b → IsEndsOf m ns q a d → IsEndsOf m ns q b e
-    → f ≡ combined op d e → IsEndsOf m ns q i f
-visited_pair m ns q i op a b d e f within is first second range ks new =
-    range ∙ ap (λ z. combined op z e) (first ks new) ∙ ap (λ z. combined op (ends_at ks a) z) (second ks new) ∙ sym (new.each i within ∙ ap (node_ends m q ks) is)
-
-pub placed_pair : (ns : List Node) (fs : List Span) (i : ℕ) (op : Op) (a b : ℕ) → AreNodes ns fs → i < length ns → node_at ns i ≡ node.Pair op a b → (a < i) × (b < i)
-placed_pair ns fs i op a b nodes within is = let p = subst (IsPlaced fs i) is (nodes.each i within) in (p.0, p.1)

@@ -2,7 +2,7 @@
 use Rattle.std.specs.Prelude.{◌≡◌, ℕ, zero, suc, ℤ, pos, ◌-ℤ◌, Bool, true, false, List, [], ◌∷◌, map, slice_get, slice_index_or, int_le}
 use Rattle.std.specs.Int.{int_max, int_min}
 use Rattle.std.specs.List.{list_all}
-use Rattle.std.proofs.Common.{refl, sym, subst, arith, cond, ◌≤ℤ◌}
+use Rattle.std.proofs.Common.{refl, sym, arith, cond, ◌≤ℤ◌}
 use Rattle.std.proofs.lemmas.Int.{ints}
 use Rattle.std.proofs.lemmas.Bool.{true≢false, and_parts}
 use Rattle.sched_model.specs.declared.types.IntervalDef.{IntervalDef}
@@ -11,18 +11,16 @@ use Rattle.sched_model.specs.declared.types.CompareOp.TheVariants.{Eq, Ne, Le, G
 use Rattle.sched_model.specs.declared.types.Expr.{Expr}
 use Rattle.sched_model.specs.declared.types.Expr.TheOpen.{Expr-F}
 use Rattle.sched_model.specs.declared.types.Expr.TheOpen.Expr-F.{Lit, StartOf, EndOf, SizeOf, LengthOf, PresenceOf, Neg, Sum, Product, Max, Min, Compare, Not, And, Or, Implies}
-use Rattle.sched_model.specs.declared.types.Expr.TheFolds.{fold-roll-Expr, ind-Expr, map-Expr}
-use Rattle.sched_model.specs.declared.types.Expr.TheViews.{roll-Expr}
+use Rattle.sched_model.specs.declared.types.Expr.TheFolds.{map-Expr}
 use Rattle.sched_model.specs.Words.{placewise}
 use Rattle.sched_model.specs.Data.{Data}
 use Rattle.sched_model.specs.Ranges.{Ends}
-use Rattle.sched_model.specs.Valid.{is_interval_def, IsValid}
-use Rattle.sched_model.specs.laws.Held.{composed}
+use Rattle.sched_model.specs.Valid.{is_interval_def}
 use Rattle.region.specs.declared.types.Bounds.{Bounds}
 use Rattle.region.specs.declared.types.Presence.{Presence}
 use Rattle.region.specs.declared.types.Presence.TheVariants as presence
 use Rattle.region.specs.Cells.{Region, unknown}
-use Rattle.region.specs.Looks.{IsRegionOf, is_narrowed, est_in, lst_in, ect_in, lct_in}
+use Rattle.region.specs.Looks.{is_narrowed, est_in, lst_in, ect_in, lct_in}
 use Rattle.region.specs.laws.Standing.{least_is, greatest_is}
 use Rattle.look_hull.specs.LookHull.{unless_empty, unless_absent, start_look, end_look, size_look, presence_look, range_of_listed, truth_range, compare_range, look_step, look_hull}
 use Rattle.look_hull.specs.laws.Inside.{Inside, AllInside, negated_inside, total_inside, greatest_inside, least_inside, product_inside, point_inside}
@@ -119,12 +117,3 @@ level m r valid narrow (Not p) = truth_proper _ _
 level m r valid narrow (And ps) = truth_proper _ _
 level m r valid narrow (Or ps) = truth_proper _ _
 level m r valid narrow (Implies p q) = truth_proper _ _
-
-look_proper : (m : Data) (r : Region) → IsValid m → IsRegionOf m r → (e : Expr) → Fine m r e
-look_proper m r valid of = ind-Expr (Fine m r) (λ x y is. subst (λ z. Fine m r (roll-Expr z)) is
-    (rw (fold-roll-Expr Ends (look_step m r), composed (Fine m r) Ends (look_hull m r) y)
-    (level m r valid.intervals of.bounds y)))
-
--- the law: the least end is at most the greatest
-pub look_not_empty : (m : Data) (r : Region) (e : Expr) → IsValid m → IsRegionOf m r → (look_hull m r e).0 ≤ℤ (look_hull m r e).1
-look_not_empty m r e valid of = (look_proper m r valid of e).low.high

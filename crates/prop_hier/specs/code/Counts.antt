@@ -58,9 +58,6 @@ counts_with kind a b n = record {
   may_match = counted_with kind MayMatch a b n.may_match;
 }
 
-abbrev pub no_counts : Counts
-no_counts = record { there = 0; starts_before = 0; ends_after = 0; clashes = 0; may_start = 0; may_end = 0; may_match = 0 }
-
 -- and where one part has other bounds
 
 abbrev pub recounted : Kind → Role → Bounds → Bounds → Bounds → ℕ → ℕ

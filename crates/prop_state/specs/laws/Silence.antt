@@ -29,8 +29,7 @@ use Rattle.refute_state.specs.declared.witness.StateWitness.{StateWitness}
 use Rattle.refute_state.specs.declared.witness.StateWitness.TheVariants.{State, State3}
 use Rattle.refute_state.specs.Demands.{demand_at, same_state, some_state, demand_gap}
 use Rattle.refute_state.specs.Times.{is_long_in, is_long, is_late}
-use Rattle.refute_state.specs.State.{goes_past, cant_share, state_pair, state_row}
-use Rattle.refute_state.specs.Witness.{is_valid}
+use Rattle.refute_state.specs.State.{goes_past, cant_share, state_pair}
 use Rattle.refute_state.specs.laws.Settled.{In}
 use Rattle.refute_state.specs.State3.{other_between, state_triple}
 use Rattle.refute_state.specs.OnState.{refutes}
@@ -314,11 +313,6 @@ around_silent m r best k c2 n a b e one other mid covered h guess asked = never_
 pub states_silent : (m : Data) (r : Region) (best : Option ℤ) (c1 c2 c3 : ℕ) (a x b : Demand) → demand_at m c1 ≡ Some a → demand_at m c2 ≡ Some x → demand_at m c3 ≡ Some b → other_between a x b ≡ false → IsSilent m r best (State3 c1 c2 c3)
 states_silent m r best c1 c2 c3 a x b one mid other h guess asked = never_refuting (refutes m (seen_at r best guess) (State3 c1 c2 c3)) (λ is.
     true≢false (sym (triple_from m r best c1 c2 c3 a x b guess one mid other is).states ∙ h))
-
--- a constraint isn't later than itself, nor than one before it
-pub order_silent : (m : Data) (r : Region) (best : Option ℤ) (c1 c2 : ℕ) → nat_lt c1 c2 ≡ false → IsSilent m r best (State c1 c2)
-order_silent m r best c1 c2 h guess asked = never_refuting (refutes m (seen_at r best guess) (State c1 c2)) (λ is.
-    true≢false (sym (both_true (nat_lt c1 c2) _ (both_true (is_valid (State c1 c2)) (state_row m (seen_at r best guess) c1 c2) is).1).0 ∙ h))
 
 pub same_silent : (m : Data) (r : Region) (best : Option ℤ) (c1 c2 c3 : ℕ) → nat_eq c1 c3 ≡ true → IsSilent m r best (State3 c1 c2 c3)
 same_silent m r best c1 c2 c3 h guess asked = never_refuting (refutes m (seen_at r best guess) (State3 c1 c2 c3)) (λ is.

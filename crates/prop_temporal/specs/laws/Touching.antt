@@ -1,8 +1,7 @@
 -- Constraints are added to those that name an interval, one after another.
 use Rattle.std.specs.Prelude.{◌≡◌, ◌⊎◌, ℕ, zero, suc, ◌+◌, ◌<◌, ◌≤◌, Bool, true, false, List, [], ◌∷◌, ◌++◌, length, get_or, slice_set, slice_get, None, nat_eq, nat_lt}
-use Rattle.std.specs.List.{list_any}
 use Rattle.std.proofs.Common.{inl, inr, refl, sym, ap, subst, ◌∙◌, arith, take}
-use Rattle.std.proofs.lemmas.Bool.{true≢false, or_left, or_right}
+use Rattle.std.proofs.lemmas.Bool.{true≢false}
 use Rattle.std.proofs.lemmas.Bool.Decides.{nat_tests}
 use Rattle.std.proofs.lemmas.List.{get_or-set_same, get_or-set_other, length-set}
 use Rattle.sched_base.specs.declared.ids.Itv.{Itv}
@@ -15,10 +14,6 @@ use Rattle.prop_temporal.specs.code.Members.{members_at, touched_by}
 use Rattle.prop_temporal.specs.code.Heights.{is_touched, AreTouched}
 use Rattle.prop_temporal.specs.code.Touches.{Touches, AreTouchedBy}
 use Rattle.base_laws.specs.laws.Numbers.{below_or_last}
-
-any_before : (c : ℕ) (xs : List ℕ) (d : ℕ) → list_any (λ k. nat_eq c k) xs ≡ true → list_any (λ k. nat_eq c k) (xs ++ d ∷ []) ≡ true
-any_before c [] d h = absurd (true≢false (sym h))
-any_before c (x ∷ xs) d h = elim (has_cases (nat_eq c x) (list_any (λ k. nat_eq c k) xs) h) [ inl e ↦ or_left _ _ e | inr e ↦ or_right _ _ (any_before c xs d e) ]
 
 same_or_not : (i j : ℕ) → (i ≡ j) ⊎ (i ≡ j → ⊥)
 same_or_not i j = by_case (nat_eq i j) refl

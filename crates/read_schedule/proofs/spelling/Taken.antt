@@ -1,6 +1,6 @@
 -- The next line by what is read of its words.
 use Rattle.std.proofs.Common.{◌≡◌, Bool, true, false, List, ◌∷◌, ◌++◌, Some, None, Result, Ok, Err, sym, ap, ◌∙◌}
-use Rattle.textline.specs.Lines.{Bytes, line, words_of}
+use Rattle.textline.specs.Lines.{Bytes, words_of}
 use Rattle.read_schedule.specs.Schedules.{is_line}
 use Rattle.std.proofs.lemmas.List.{append_cancel_left}
 use Rattle.read_schedule.specs.declared.stop.PartStop.{PartStop}
@@ -28,9 +28,6 @@ unfit spelled able fit told old l new w taken read fails = λ v fits starts.
     let one : v ≡ w = told.tells v w (told.more v fits) read.0 same in
     let both : true ≡ false = sym fits ∙ ap fit one ∙ fails in cc
 
-pub taken_row : {A : Type 0} (spelled : A → List Bytes) (able fit : A → Bool) (old l new : Bytes) (w : A) → TakesLine old new (Some l) → ReadsAll spelled able (words_of l) (Some w) → fit w ≡ true → TakesRow spelled fit old new (Some w)
-taken_row spelled able fit old l new w taken read fits = (fits, taken.1 ∙ ap (λ ws. line ws ++ new) read.1)
-
 -- the same of a reading that memory may end
 
 pub row_failed : {A : Type 0} (spelled : A → List Bytes) (able fit : A → Bool) → Told spelled able fit → (old l new : Bytes) (e : PartStop) → TakesLine old new (Some l) → TriesAll spelled able (words_of l) (Err e) → TriesRow spelled fit old new (Err e)
@@ -46,9 +43,3 @@ behind_words spelled able front ws rest (Err NoMemory) same none = tt
 -- another first word, or another second one
 pub other_first : {A : Type 0} (spelled : A → List Bytes) (able : A → Bool) (w v : Bytes) (ws old new : List Bytes) → ((vs : List Bytes) → old ≡ w ∷ vs → ⊥) → ws ≡ old → (a : A) → able a ≡ true → ws ≡ w ∷ v ∷ spelled a → ⊥
 other_first spelled able w v ws old new none same a fit e = none (v ∷ spelled a) (sym same ∙ e)
-
-pub other_second : {A : Type 0} (spelled : A → List Bytes) (able : A → Bool) (w v : Bytes) (ws old : List Bytes) → ((vs : List Bytes) → old ≡ v ∷ vs → ⊥) → ws ≡ w ∷ old → (a : A) → able a ≡ true → ws ≡ w ∷ v ∷ spelled a → ⊥
-other_second spelled able w v ws old none same a fit e = none (spelled a) (behind w w old (v ∷ spelled a) (sym same ∙ e))
-  where
-    behind : (v w : Bytes) (x y : List Bytes) → v ∷ x ≡ w ∷ y → x ≡ y
-    behind v w x y e = cc

@@ -1,5 +1,5 @@
 -- Bodies behind a header.
-use Rattle.std.proofs.Common.{◌≡◌, inl, inr, ℕ, ◌+◌, ◌*◌, ◌≤◌, true, false, List, [], ◌∷◌, ◌++◌, codes, length, map, replicate, sym, ◌∙◌, ap, subst, refl, arith, append_assoc, append-nil, Some, None}
+use Rattle.std.proofs.Common.{◌≡◌, inl, inr, ℕ, ◌+◌, ◌*◌, true, false, List, [], ◌∷◌, ◌++◌, codes, length, map, replicate, sym, ◌∙◌, ap, subst, refl, arith, append_assoc, append-nil, Some, None}
 use Rattle.std.specs.Fmt.{decimal, signed_decimal}
 use Rattle.std.proofs.lemmas.Bool.{and_from}
 use Rattle.base_laws.specs.laws.Items.{all_append}
@@ -155,12 +155,6 @@ body_refused m valid bytes new j n k head b count =
     (omega (arith, count, length_two h b.front, head.2, b.count))
     (inr (h, b.schedule, b.after, head.1, b.domain, ap (λ ls. h ++ ls) b.goes ∙ sym (append_assoc h b.front b.after)))
     (whole_unlike m h bytes new n b head.1 head.3 (λ none. head.4 (sym head.2 ∙ none)))
-
-pub header_length : (h : List (List Bytes)) → IsHeader h → length h ≤ 2
-header_length [] heads = omega arith
-header_length (v ∷ []) heads = absurd heads
-header_length (v ∷ c ∷ []) heads = omega arith
-header_length (v ∷ c ∷ x ∷ xs) heads = absurd heads
 
 pub body_spelled : (m : Data) (bytes new : Bytes) (j : ℕ) (a : Assignment) → TakesHeader bytes new (Some j) → is_in_domain m a ≡ true → new ≡ text (body m a) → Spells m bytes a
 body_spelled m bytes new j a head domain same = record {

@@ -1,18 +1,18 @@
 -- Which line is refused.
 use Rattle.std.proofs.Common.{◌≡◌, ◌⊎◌, inl, inr, ℕ, ◌+◌, ◌≤◌, true, List, [], ◌∷◌, ◌++◌, length, sym, ◌∙◌, ap, refl, arith, append_assoc}
 use Rattle.std.specs.List.{list_all}
-use Rattle.std.proofs.lemmas.Bool.{and_parts, and_from}
+use Rattle.std.proofs.lemmas.Bool.{and_from}
 use Rattle.base_laws.specs.laws.Items.{all_append}
 use Rattle.sched_model.specs.declared.types.Assignment.{Assignment}
 use Rattle.sched_model.specs.Data.{Data}
 use Rattle.sched_model.specs.Domain.{is_in_domain}
 use Rattle.sched_model.specs.Valid.{IsValid}
-use Rattle.textline.specs.Lines.{Bytes, line}
+use Rattle.textline.specs.Lines.{Bytes}
 use Rattle.read_schedule.specs.Schedules.{IsHeader, GoesOn, IsRefused, schedule_text, is_line, text}
 use Rattle.read_schedule.specs.code.Rows.{body}
 use Rattle.read_schedule.specs.code.Reads.{Unlike}
 use Rattle.read_schedule.proofs.spelling.Rows.{text_append}
-use Rattle.read_schedule.proofs.spelling.Texts.{cut, one_more, first_lines, lines_told, some_line}
+use Rattle.read_schedule.proofs.spelling.Texts.{cut, one_more, first_lines}
 use Rattle.read_schedule.proofs.whole.Heads.{verdict_is_line, count_is_line}
 use Rattle.read_schedule.proofs.whole.Body.{body_text, body_lines}
 
@@ -42,15 +42,6 @@ SomeGoesOn m front = (h : List (List Bytes)) × (a : Assignment) × (us : List (
 unlike_itself : (us : List (List Bytes)) (rest : Bytes) → rest ≡ text us → Unlike us rest → ⊥
 unlike_itself [] rest same unlike = unlike same
 unlike_itself (u ∷ us) rest same unlike = unlike (text us, same)
-
--- nor are bytes with the same first line
-unlike_line : (us : List (List Bytes)) (l : List Bytes) (rest x y : Bytes) → list_all is_line us ≡ true → is_line l ≡ true → text us ≡ line l ++ x → rest ≡ line l ++ y → Unlike us rest → ⊥
-unlike_line [] l rest x y lines one same here unlike = some l x (sym same)
-  where
-    some : (ws : List Bytes) (x : Bytes) → line ws ++ x ≡ [] → ⊥
-    some ws x e = some_line ws x e
-unlike_line (u ∷ us) l rest x y lines one same here unlike =
-    let told = lines_told u l (text us) x (and_parts (is_line u) (list_all is_line us) lines).0 one same in unlike (y, here ∙ ap (λ (w : List Bytes). line w ++ y) (sym told.0))
 
 pub refuses : (m : Data) → IsValid m → (bytes : Bytes) (front : List (List Bytes)) (rest : Bytes) (k : ℕ) → list_all is_line front ≡ true → bytes ≡ text front ++ rest → k ≡ length front + 1 → (front ≡ []) ⊎ SomeGoesOn m front → AllUnlike m front rest → IsRefused m bytes k
 refuses m valid bytes front rest k each same count some unlike = record {

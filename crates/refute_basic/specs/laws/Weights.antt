@@ -1,5 +1,5 @@
 -- Why a sum of weights fits a number of 128 bits: each is of magnitude at most 2^62, and a walk has at most 4,000 arcs.
-use Rattle.std.specs.Prelude.{◌≡◌, ℕ, suc, ◌*◌, ◌^◌, ◌<◌, ◌≤◌, ℤ, pos, neg_ℤ, ◌+ℤ◌, ◌-ℤ◌, ◌≤ℤ◌, Bool, true, false, ◌&&◌, List, [], ◌∷◌, length, Option, Some, None, option_and_then, slice_get, nat_eq, int_le, if◌then◌else◌}
+use Rattle.std.specs.Prelude.{◌≡◌, ℕ, ◌*◌, ◌^◌, ◌<◌, ◌≤◌, ℤ, pos, neg_ℤ, ◌-ℤ◌, ◌≤ℤ◌, Bool, true, false, ◌&&◌, List, [], ◌∷◌, length, Option, Some, None, option_and_then, slice_get, nat_eq, int_le, if◌then◌else◌}
 use Rattle.std.proofs.Common.{refl, sym, subst, arith, get_or}
 use Rattle.std.proofs.lemmas.Int.{ints}
 use Rattle.std.proofs.lemmas.Option.{slice_get-get_or}
@@ -9,7 +9,6 @@ use Rattle.sched_model.specs.declared.types.End.TheVariants.{Start, Finish}
 use Rattle.sched_model.specs.declared.types.IntervalDef.{IntervalDef}
 use Rattle.sched_model.specs.declared.types.Constraint.{Constraint}
 use Rattle.sched_model.specs.declared.types.Constraint.TheVariants.{Temporal, NoOverlap}
-use Rattle.sched_model.specs.Words.{total}
 use Rattle.sched_model.specs.Data.{Data, gap}
 use Rattle.sched_model.specs.Valid.{IsValid, is_constraint, is_itv, is_small, is_span_of_moments, is_interval_def}
 use Rattle.region.specs.Cells.{Region, bounds_of, unknown, is_there}
@@ -117,20 +116,3 @@ one_small m r i valid of = by_case (edge_of m r i) refl
 record IsWithin (n : ℕ) (z : ℤ) : Type 0 where
   low : neg_ℤ (pos (2 ^ 62 * n)) ≤ℤ z
   high : z ≤ℤ pos (2 ^ 62 * n)
-
-sum_within : (m : Data) (r : Region) (is : List ArcName) → IsValid m → IsRegionOf m r → IsWithin (length is) (total (weights_of m r is))
-sum_within m r [] valid of = record { low = omega (arith, ints); high = omega (arith, ints) }
-sum_within m r (i ∷ is) valid of =
-    let rest = sum_within m r is valid of in
-    let first = one_small m r i valid of in
-    record { low = low (length is) _ _ first rest.low; high = high (length is) _ _ first rest.high }
-  where
-    low : (n : ℕ) (w z : ℤ) → is_small w ≡ true → neg_ℤ (pos (2 ^ 62 * n)) ≤ℤ z → neg_ℤ (pos (2 ^ 62 * suc n)) ≤ℤ (w +ℤ z)
-    low n w z small h = let least : neg_ℤ (pos (2 ^ 62)) ≤ℤ w = grind (arith, ints) in omega (arith, ints, least, h)
-
-    high : (n : ℕ) (w z : ℤ) → is_small w ≡ true → z ≤ℤ pos (2 ^ 62 * n) → (w +ℤ z) ≤ℤ pos (2 ^ 62 * suc n)
-    high n w z small h = let most : w ≤ℤ pos (2 ^ 62) = grind (arith, ints) in omega (arith, ints, most, h)
-
--- so the sum over a walk that CYCLE takes is of magnitude at most 2^74
-pub sums_fit : (m : Data) (r : Region) (is : List ArcName) → IsValid m → IsRegionOf m r → length is ≤ 4000 → (neg_ℤ (pos (2 ^ 74)) ≤ℤ total (weights_of m r is)) × (total (weights_of m r is) ≤ℤ pos (2 ^ 74))
-sums_fit m r is valid of few = let within = sum_within m r is valid of in (omega (arith, ints, within.low, few), omega (arith, ints, within.high, few))

@@ -1,5 +1,5 @@
 -- The row reads no more than the bounds and the presence of the intervals of a function and of a window.
-use Rattle.std.specs.Prelude.{◌≡◌, ℕ, ℤ, pos, neg_ℤ, ◌+ℤ◌, Bool, true, false, ◌&&◌, ◌||◌, if◌then◌else◌, List, [], ◌∷◌, ◌++◌, map, Option, Some, None, slice_get, nat_eq, int_le, int_lt}
+use Rattle.std.specs.Prelude.{◌≡◌, ℕ, ℤ, pos, neg_ℤ, ◌+ℤ◌, true, false, ◌&&◌, ◌||◌, if◌then◌else◌, List, [], ◌∷◌, ◌++◌, map, Option, Some, None, slice_get, nat_eq, int_le, int_lt}
 use Rattle.std.specs.List.{flat_map}
 use Rattle.std.proofs.Common.{refl, ap, ◌∙◌}
 use Rattle.std.proofs.lemmas.Bool.{or_left, or_right}
@@ -26,10 +26,6 @@ use Rattle.sched_model.specs.laws.Names.{has_left, has_right}
 -- the same is known of each of these intervals in two regions
 abbrev pub SameEach : Region → Region → List Itv → Type 0
 SameEach r q xs = (x : Itv) → has xs x ≡ true → bounds_of r x ≡ bounds_of q x
-
-or_more : (p q r : Bool) → (p || q) ≡ true → (q ≡ true → r ≡ true) → (p || r) ≡ true
-or_more true q r h more = refl
-or_more false q r h more = more h
 
 pub left_same : (r q : Region) (xs ys : List Itv) → SameEach r q (xs ++ ys) → SameEach r q xs
 left_same r q xs ys each x here = each x (has_left xs ys x here)

@@ -21,7 +21,6 @@ use Rattle.refute_hier.specs.SeqRel.{seqrel_of}
 use Rattle.refute_hier.specs.Hier.{refutes, row_of}
 use Rattle.refute_hier.specs.code.Rows.{as_constraint, is_family, some_refutes, IsWitness}
 use Rattle.refute_hier.specs.laws.Rows.{row_is, some_if_row}
-use Rattle.base_laws.specs.laws.Truth.{never_both}
 
 -- where no row refutes, no witness does
 pub none_refutes : (m : Data) (l : Seen) (kind : Kind) (a : Itv) (bs : List Itv) (c : ℕ) (w : HierWitness) → slice_get m.constraints c ≡ Some (as_constraint kind a bs) → constraint_of w ≡ c
@@ -61,7 +60,3 @@ no_row m l d (witness.Span n k i) is none nobody = ap (passes (span_of l.region 
 no_row m l d (witness.Alt n k i j) is none nobody = ap (passes (alt_of l.region k i j)) is ∙ no_alt l.region k i j d none
 no_row m l d (witness.Sync n i) is none nobody = ap (passes (sync_of l.region i)) is ∙ no_sync l.region i d none
 no_row m l d (witness.SeqRel n x) is none nobody = ap (passes (seqrel_of l.region (record { 0 = x }))) is ∙ nobody (record { 0 = x })
-
--- nor has it one where no member stands where it has nobody
-pub other_refutes : (m : Data) (l : Seen) (d : Constraint) (w : HierWitness) → slice_get m.constraints (constraint_of w) ≡ Some d → is_family d ≡ false → ((x : Itv) → seqrel_of l.region x d ≡ false) → refutes m l w ≡ false
-other_refutes m l d w is none nobody = never_both (is_valid w) (row_of m l w) (no_row m l d w is none nobody)

@@ -264,13 +264,6 @@ unrefuted_holds m l a c d valid to none is of = elim (holds_or_refuted m l a c d
   | inr one ↦ absurd (true≢false (sym one.refutes ∙ none one.witness))
 ]
 
--- and where it doesn't, some witness refutes
-pub broken_refuted : (m : Data) (l : Seen) (a : Assignment) (c : ℕ) (d : Constraint) → IsValid m → IsSettledTo m l.region a → slice_get m.constraints c ≡ Some d → is_family d ≡ true → holds m a d ≡ false → HasRefuting m l
-broken_refuted m l a c d valid to is of broken = elim (holds_or_refuted m l a c d valid to is of) [
-  | inl here ↦ absurd (true≢false (sym here ∙ broken))
-  | inr one ↦ one
-]
-
 -- the same of all constraints: of other kinds this says nothing
 abbrev pub keeps_family : Data → Assignment → Constraint → Bool
 keeps_family m a d = is_family d implies holds m a d

@@ -1,5 +1,5 @@
 -- The level of a cumulative function as a sum of changes, and its test at their moments.
-use Rattle.std.proofs.Common.{◌≡◌, inl, inr, ℕ, zero, suc, ◌+◌, ◌<◌, ◌≤◌, ℤ, pos, ◌+ℤ◌, ◌-ℤ◌, ◌≤ℤ◌, ◌<ℤ◌, Bool, true, false, not, ◌&&◌, cond, List, [], ◌∷◌, ◌++◌, length, map, take, drop, set, get_or, refl, sym, ap, subst, ◌∙◌, arith}
+use Rattle.std.proofs.Common.{◌≡◌, inl, inr, ℕ, zero, suc, ◌+◌, ◌<◌, ◌≤◌, ℤ, pos, ◌+ℤ◌, ◌-ℤ◌, ◌≤ℤ◌, ◌<ℤ◌, Bool, true, false, not, ◌&&◌, cond, List, [], ◌∷◌, length, map, take, drop, set, get_or, refl, sym, ap, subst, ◌∙◌, arith}
 use Rattle.std.specs.Prelude.{int_le, int_lt, slice_get}
 use Rattle.std.specs.Ordering.{int_eq, int_cmp, is_lt}
 use Rattle.std.specs.List.{list_all, list_any, swap}
@@ -31,10 +31,6 @@ shape_until a minus (Step u h) t = step_until minus u h t
 shape_until a minus (PulseOf x h) t = present_until (is_present a x) minus _ _ t (pulse_until minus (start_of a x) (end_of a x) h t)
 shape_until a minus (StepAtStart x h) t = present_until (is_present a x) minus _ _ t (step_until minus (start_of a x) h t)
 shape_until a minus (StepAtEnd x h) t = present_until (is_present a x) minus _ _ t (step_until minus (end_of a x) h t)
-
-total_append : (xs ys : List ℤ) → total (xs ++ ys) ≡ total xs +ℤ total ys
-total_append [] ys = omega (arith, ints)
-total_append (x ∷ xs) ys = omega (arith, ints, total_append xs ys)
 
 pub parts_until : (a : Assignment) (is : List Part) (t : ℤ) → sum_until t (changes_in a is) ≡ total (map (λ i. signed i.minus (shape_at a i.shape t)) is)
 parts_until a [] t = refl

@@ -1,7 +1,6 @@
 -- One step of a walk over some expressions that joins their values.
-use Rattle.std.proofs.Common.{◌≡◌, ℕ, ◌+◌, ◌<◌, ℤ, ◌+ℤ◌, ◌*ℤ◌, Bool, true, false, ◌&&◌, ◌||◌, List, [], ◌∷◌, ◌++◌, length, map, drop, get_or, fold, Option, Some, None, refl, sym, ap, ◌∙◌}
+use Rattle.std.proofs.Common.{◌≡◌, ℕ, ◌+◌, ◌<◌, ℤ, ◌+ℤ◌, ◌*ℤ◌, List, [], ◌∷◌, ◌++◌, length, map, drop, get_or, fold, Option, Some, None, refl, sym, ap, ◌∙◌}
 use Rattle.std.specs.Int.{saturate_signed, w128}
-use Rattle.std.specs.List.{list_all, list_any}
 use Rattle.std.specs.Option.{option_to_list}
 use Rattle.std.proofs.lemmas.List.{at_drop_more}
 use Rattle.sched_model.specs.Words.{total, greatest, least}
@@ -47,23 +46,3 @@ pub least_turn : {X : Type 0} (f : X → ℤ) (xs : List X) (i : ℕ) (x : X) (z
 least_turn f xs i x z o q whole before within at_i is new =
     ap (λ y. least (y ∷ map f (drop (i + 1) xs))) new ∙ sym (least_more o z (map f (drop (i + 1) xs)))
     ∙ sym (next_value (λ zs. least (option_to_list o ++ zs)) f xs i x z within at_i is) ∙ before
-
-pub all_turn : {X : Type 0} (p : ℤ → Bool) (f : X → ℤ) (xs : List X) (i : ℕ) (x : X) (z : ℤ) (whole : Bool) → list_all p (map f (drop i xs)) ≡ whole
-    → i < length xs → x ≡ get_or xs i x → z ≡ f x → true ≡ p z → list_all p (map f (drop (i + 1) xs)) ≡ whole
-all_turn p f xs i x z whole before within at_i is passed =
-    sym (next_value (list_all p) f xs i x z within at_i is ∙ ap (λ b. b && list_all p (map f (drop (i + 1) xs))) (sym passed)) ∙ before
-
-pub all_stop : {X : Type 0} (p : ℤ → Bool) (f : X → ℤ) (xs : List X) (i : ℕ) (x : X) (z : ℤ) (whole : Bool) → list_all p (map f (drop i xs)) ≡ whole
-    → i < length xs → x ≡ get_or xs i x → z ≡ f x → false ≡ p z → false ≡ whole
-all_stop p f xs i x z whole before within at_i is nay =
-    ap (λ b. b && list_all p (map f (drop (i + 1) xs))) nay ∙ sym (next_value (list_all p) f xs i x z within at_i is) ∙ before
-
-pub any_turn : {X : Type 0} (p : ℤ → Bool) (f : X → ℤ) (xs : List X) (i : ℕ) (x : X) (z : ℤ) (whole : Bool) → list_any p (map f (drop i xs)) ≡ whole
-    → i < length xs → x ≡ get_or xs i x → z ≡ f x → false ≡ p z → list_any p (map f (drop (i + 1) xs)) ≡ whole
-any_turn p f xs i x z whole before within at_i is not_yet =
-    sym (next_value (list_any p) f xs i x z within at_i is ∙ ap (λ b. b || list_any p (map f (drop (i + 1) xs))) (sym not_yet)) ∙ before
-
-pub any_stop : {X : Type 0} (p : ℤ → Bool) (f : X → ℤ) (xs : List X) (i : ℕ) (x : X) (z : ℤ) (whole : Bool) → list_any p (map f (drop i xs)) ≡ whole
-    → i < length xs → x ≡ get_or xs i x → z ≡ f x → true ≡ p z → true ≡ whole
-any_stop p f xs i x z whole before within at_i is passed =
-    ap (λ b. b || list_any p (map f (drop (i + 1) xs))) passed ∙ sym (next_value (list_any p) f xs i x z within at_i is) ∙ before

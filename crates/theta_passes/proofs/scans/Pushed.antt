@@ -37,9 +37,6 @@ one_more k n false false same = grind (arith, nat_tests)
 pub more_pushed : (rows : List Row) (level : ℤ) (v : Option Top) (n set more : ℕ) (b : Bool) → ArePushed rows level v n set → ((k : ℕ) → has_place more k ≡ ((b && nat_eq k n) || has_place set k)) → b ≡ is_pushed (row_at rows n) level v → ArePushed rows level v (n + 1) more
 more_pushed rows level v n set more b before is told k = is k ∙ ap (λ t. (b && nat_eq k n) || t) (before k) ∙ one_more k n b (is_pushed (row_at rows k) level v) (λ e. ap (λ i. is_pushed (row_at rows i) level v) e ∙ sym told)
 
-pub all_pushed : (rows : List Row) (level l : ℤ) (v : Option Top) (n set : ℕ) → l ≡ level → length rows ≡ n → ArePushed rows l v n set → (k : ℕ) → has_place set k ≡ is_pushed_at rows level v k
-all_pushed rows level l v n set eq whole before k = before k ∙ ap (λ e. nat_lt k n && is_pushed (row_at rows k) e v) eq ∙ ap (λ m. nat_lt k m && is_pushed (row_at rows k) level v) (sym whole)
-
 -- those that are still to be asked about, and nobody else, may be found
 pub record IsLeft (rows : List Row) (level : ℤ) (left : ℕ) : Type 0 where
   pub within : (k : ℕ) → has_place left k ≡ true → k < length rows

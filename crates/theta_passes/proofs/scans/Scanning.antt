@@ -11,9 +11,6 @@ load_step p t k n low =
     let next : suc k ≡ k + 1 = omega arith in
     ap (λ m. load p t (up_from k m)) one ∙ ap (λ j. pick (t k) (p k) +ℤ load p t (up_from j (n - (k + 1)))) next
 
-pub keep_start : (t : ℕ → Bool) (n : ℕ) → ([] ++ keep t (up_from 0 (n - 0))) ≡ keep t (up_from 0 n)
-keep_start t n = let all : n - 0 ≡ n = omega arith in ap (λ m. keep t (up_from 0 m)) all
-
 pub keep_step : (t : ℕ → Bool) (k n : ℕ) → k < n → keep t (up_from k (n - k)) ≡ kept (t k) k (keep t (up_from (k + 1) (n - (k + 1))))
 keep_step t k n low =
     let one : n - k ≡ suc (n - (k + 1)) = omega (arith, low) in

@@ -1,9 +1,8 @@
 -- The steps of the loops of OVERLOAD.
-use Rattle.std.specs.Prelude.{Bool, List, None, Option, Some, [], false, int_le, int_lt, is_some, length, map, nat_eq, refl, slice_index_or, true, ℕ, ℤ, ◌+◌, ◌<ℤ◌, ◌<◌, ◌∷◌, ◌≡◌, ◌≢◌, ◌≤ℤ◌, ◌≤◌}
+use Rattle.std.specs.Prelude.{Bool, List, None, Option, Some, [], false, int_le, int_lt, is_some, length, map, nat_eq, refl, true, ℕ, ℤ, ◌+◌, ◌<ℤ◌, ◌<◌, ◌∷◌, ◌≡◌, ◌≢◌, ◌≤ℤ◌, ◌≤◌}
 use Rattle.std.proofs.Common.{ap, arith, inl, inr, subst, sym, ◌∙◌}
 use Rattle.std.proofs.lemmas.Bool.{and_from, and_parts, cases_eq, or_cases, or_left, or_right}
 use Rattle.std.proofs.lemmas.Int.{ints}
-use Rattle.sched_base.specs.declared.ids.TheConstants.{H}
 use Rattle.task_sets.specs.laws.Cuts.{IsBelow, no_task_set, overload_cuts, overload_is, task_set_of}
 use Rattle.task_sets.specs.laws.Ects.{ect_exists, greatest_reached, le_holds, le_true, lt_holds}
 use Rattle.task_sets.specs.laws.EdgeCuts.{once_bound, once_rises}
@@ -204,9 +203,6 @@ full_left t rows above level n falls is falling = record {
 
 pub full_is : (t : Leaves) (rows : List Row) (v level : ℤ) → v ≡ level → ((k : ℕ) → IsFull t rows v k) → (k : ℕ) → IsFull t rows level k
 full_is t rows v level same full = subst (λ w. (k : ℕ) → IsFull t rows w k) same full
-
-pub over_start : (t : Leaves) (rows : List Row) (order : List ℕ) → ((k : ℕ) → (row_at rows k).lct ≤ℤ H) → ((k : ℕ) → IsFull t rows H k) → IsOverPassed t rows order H 0
-over_start t rows order bounded full = record { at = full; met = λ n low. absurd (omega (arith, low)); falls = λ n from within. bounded (slice_index_or order n 0) }
 
 pub over_more : (t s : Leaves) (rows : List Row) (order : List ℕ) (above level : ℤ) (done : ℕ) → IsFalling rows order → IsOverPassed t rows order above done → done < length order → level ≡ lct_in rows order done
     → ((k : ℕ) → IsFull s rows level k) → NoneOver rows level → IsOverPassed s rows order level (done + 1)

@@ -3,7 +3,6 @@ use Rattle.std.specs.Prelude.{Bool, List, None, Option, Some, [], false, int_le,
 use Rattle.std.proofs.Common.{arith, inl, inr, subst, sym, ◌∙◌}
 use Rattle.std.proofs.lemmas.Bool.{cases_eq}
 use Rattle.std.proofs.lemmas.Int.{ints}
-use Rattle.sched_base.specs.declared.ids.TheConstants.{H}
 use Rattle.task_sets.specs.laws.Ects.{le_holds, lt_holds}
 use Rattle.task_sets.specs.Times.{IsEct, IsSized}
 use Rattle.thetatree.specs.code.Leaves.{GivesEct, Leaves, colour_at}
@@ -11,18 +10,10 @@ use Rattle.thetatree.specs.declared.leaves.Colour.{Colour}
 use Rattle.thetatree.specs.declared.leaves.Colour.TheVariants.{Gray, Out, White}
 use Rattle.theta_passes.proofs.trees.Between.{below_or, between_facts, not_between}
 use Rattle.theta_passes.proofs.trees.Cuts.{all_met, late_done, late_found, none_late, tree_cut}
-use Rattle.theta_passes.specs.code.Edge.{FoundOrNone, IsAt, IsDone, IsFallen, IsFound, IsLate, IsLevel, IsMember, IsOrder, IsPassed, IsStart, LateOrNone, NoOverload, NoneAt, PassOrNone, cut_of, grays}
-use Rattle.theta_passes.specs.code.Rows.{Fits, IsBounded, is_between, is_candidate, is_present, lct_in, row_at, times_at}
+use Rattle.theta_passes.specs.code.Edge.{FoundOrNone, IsAt, IsDone, IsFallen, IsFound, IsLate, IsLevel, IsMember, IsOrder, IsPassed, LateOrNone, NoOverload, NoneAt, PassOrNone, cut_of, grays}
+use Rattle.theta_passes.specs.code.Rows.{Fits, is_between, is_candidate, is_present, lct_in, row_at, times_at}
 use Rattle.theta_passes.specs.declared.rows.Row.{Row}
 use Rattle.theta_passes.specs.laws.Members.{candidate, is_below, present_below}
-
-pub start_level : (t : Leaves) (rows : List Row) (level : ℤ) → ((k : ℕ) → (row_at rows k).lct ≤ℤ level) → ((k : ℕ) → IsStart t rows k) → IsLevel t rows level
-start_level t rows level high start k = record {
-  white = λ on low. (start k).white on;
-  above = λ on late. absurd (let h = high k in omega (arith, ints, h, late));
-  whites = λ white. ((start k).whites white, high k);
-  grays = λ gray. absurd ((start k).grays gray);
-}
 
 pub done_falls : (rows : List Row) (level lower : ℤ) (k : ℕ) → lower ≤ℤ level → IsDone rows level k → IsDone rows lower k
 done_falls rows level lower k falls done end z u low found = done end z u (omega (arith, ints, falls, low)) found
@@ -156,13 +147,6 @@ late_smaller t s rows l level o k same at is late new = subst (λ cs. grays cs <
 pub late_none : (t : Leaves) (rows : List Row) (l level : ℤ) (o : Option ℕ) → IsSized (times_at rows) → NoOverload rows → Fits t rows → l ≡ level → IsLevel t rows l → o ≡ None → LateOrNone t l o → NoneAt rows level
 late_none t rows l level o valid none fits same at is late = none_late t rows level valid none fits (level_at t rows l level same at) (subst (λ v. LateOrNone t v None) same (subst (LateOrNone t l) is late))
 
-pub pass_start : (t : Leaves) (rows : List Row) (order : List ℕ) → IsBounded rows → ((k : ℕ) → IsStart t rows k) → IsPassed t rows order H 0
-pass_start t rows order bounded start = record {
-  at = start_level t rows H bounded start;
-  met = λ n low. absurd (omega (arith, low));
-  falls = λ n from within. bounded (slice_index_or order n 0);
-}
-
 pub pass_more : (t s : Leaves) (rows : List Row) (order : List ℕ) (above l level : ℤ) (done : ℕ) (o : Option ℕ) → IsOrder rows order → IsPassed t rows order above done → done < length order → l ≡ level → level ≡ lct_in rows order done
     → IsLevel s rows level → o ≡ None → FoundOrNone rows level o → IsPassed s rows order l (done + 1)
 pass_more t s rows order above l level done o ordered passed within same is at none found = subst (λ v. IsPassed s rows order v (done + 1)) (sym same) (record {
@@ -179,14 +163,8 @@ pass_end t rows order above done ordered passed all = all_met rows (λ m on.
     let n = ordered.whole m on in
     subst (λ k. NoneAt rows (row_at rows k).lct) n.2 (passed.met n.0 (omega (arith, n.1, all))))
 
-pub member_of : (rows : List Row) (order : List ℕ) (n : ℕ) (level : ℤ) → IsOrder rows order → n < length order → level ≡ lct_in rows order n → IsMember rows level
-member_of rows order n level ordered within is = record { place = slice_index_or order n 0; on = ordered.present n within; is = sym is }
-
 pub order_below : (rows : List Row) (order : List ℕ) (n : ℕ) → IsOrder rows order → n < length order → slice_index_or order n 0 < length rows
 order_below rows order n ordered within = present_below rows (slice_index_or order n 0) (ordered.present n within)
-
-pub pass_falls : (t : Leaves) (rows : List Row) (order : List ℕ) (above level : ℤ) (n : ℕ) → IsPassed t rows order above n → n < length order → level ≡ lct_in rows order n → level ≤ℤ above
-pass_falls t rows order above level n passed within is = subst (λ v. v ≤ℤ above) (sym is) (passed.falls n (omega arith) within)
 
 pub found_is : (rows : List Row) (level : ℤ) (o : Option ℕ) → (o ≡ None → ⊥) → FoundOrNone rows level o → PassOrNone rows o
 found_is rows level (Some k) some found = found

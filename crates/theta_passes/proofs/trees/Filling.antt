@@ -13,7 +13,7 @@ use Rattle.thetatree.specs.code.Leaves.{GivesEct, Leaves, colour_at}
 use Rattle.thetatree.specs.declared.leaves.Colour.TheVariants.{Out, White}
 use Rattle.theta_passes.proofs.trees.Between.{below_or}
 use Rattle.theta_passes.proofs.trees.Cuts.{tree_test}
-use Rattle.theta_passes.specs.code.Late.{GivesLate, IsFilled, IsFilling, IsLatePassed, IsLow, IsRising, LateAt, LatePass, before_key, is_above, key_in, lowest, starts_before}
+use Rattle.theta_passes.specs.code.Late.{GivesLate, IsFilled, IsFilling, IsLatePassed, IsRising, LateAt, before_key, is_above, key_in, starts_before}
 use Rattle.theta_passes.specs.code.Rows.{Fits, is_present, row_at, times_at}
 use Rattle.theta_passes.specs.declared.rows.Row.{Row}
 use Rattle.theta_passes.specs.laws.Members.{present_below}
@@ -128,13 +128,6 @@ filled_out t s rows key i is out others filled k = elim (cases_eq k i) [
   | inr other ↦ filled_same t s rows key k (others k other) (filled k)
 ]
 
-pub late_start : (t : Leaves) (rows : List Row) (order : List ℕ) → IsLow rows → ((k : ℕ) → colour_at t k ≢ White) → IsLatePassed t rows order lowest 0
-late_start t rows order low none = record {
-  at = λ k. record { white = λ on early. absurd (let h = low.lst k in omega (arith, ints, h, early)); whites = λ white. absurd (none k white) };
-  met = λ n few. absurd (omega (arith, few));
-  rises = λ n from within. low.reach (slice_index_or order n 0);
-}
-
 pub late_more : (t s : Leaves) (rows : List Row) (order : List ℕ) (key next : ℤ) (done : ℕ) (b : Bool) → IsRising rows order → IsLatePassed t rows order key done → done < length order → next ≡ key_in rows order done
     → ((k : ℕ) → IsFilled s rows next k) → b ≡ false → LateAt rows (slice_index_or order done 0) b → IsLatePassed s rows order next (done + 1)
 late_more t s rows order key next done b rising passed within is at none late = record {
@@ -145,11 +138,6 @@ late_more t s rows order key next done b rising passed within is at none late = 
   ];
   rises = λ n from low. subst (λ v. v ≤ℤ key_in rows order n) (sym is) (rising.rises done n (omega (arith, from)) low);
 }
-
-pub late_end : (t : Leaves) (rows : List Row) (order : List ℕ) (key : ℤ) (done : ℕ) → IsRising rows order → IsLatePassed t rows order key done → length order ≤ done → LatePass rows None
-late_end t rows order key done rising passed all k z one late =
-    let n = rising.whole k one in
-    subst (λ j. LateAt rows j false) n.2 (passed.met n.0 (omega (arith, n.1, all))) z late
 
 pub key_is : (t : Leaves) (rows : List Row) (v key : ℤ) → v ≡ key → ((k : ℕ) → IsFilled t rows v k) → (k : ℕ) → IsFilled t rows key k
 key_is t rows v key same filled = subst (λ w. (k : ℕ) → IsFilled t rows w k) same filled

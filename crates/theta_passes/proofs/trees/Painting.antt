@@ -18,9 +18,6 @@ use Rattle.theta_passes.specs.code.Over.{IsFull}
 
 -- the tasks
 
-pub none_made : (rows : List Row) → ([] ++ map task_of (drop 0 rows)) ≡ map task_of rows
-none_made rows = refl
-
 pub one_made : (rows : List Row) (made more : List Task) (n : ℕ) → more ≡ made ++ (task_of (row_at rows n) ∷ []) → (made ++ map task_of (drop n rows)) ≡ map task_of rows → n < length rows
     → (more ++ map task_of (drop (n + 1) rows)) ≡ map task_of rows
 one_made rows made more n is before within =

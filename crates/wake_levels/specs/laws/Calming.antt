@@ -18,12 +18,6 @@ calm_but k n quiet a b calm below kept here = record {
       (λ other. calm.others j within (fails_before (is_awake a j) (is_awake b j) (kept j other) asleep));
 }
 
-pub calm_more : (n : ℕ) (quiet : ℕ → Type 0) (a b : Waking) → IsCalm n quiet a → b.below ≡ a.below → ((j : ℕ) → IsTrue (is_awake a j) → IsTrue (is_awake b j)) → IsCalm n quiet b
-calm_more n quiet a b calm below kept = record {
-  below = below ∙ calm.below;
-  others = λ j within asleep. calm.others j within (fails_before (is_awake a j) (is_awake b j) (kept j) asleep);
-}
-
 -- one that is quiet may leave every level
 pub calm_unwoken : (k n : ℕ) (quiet : ℕ → Type 0) (a : Waking) → quiet k → IsCalm n quiet a → IsCalm n quiet (record a { levels = without_on_all k a.levels })
 calm_unwoken k n quiet a here calm = calm_but k n quiet a (record a { levels = without_on_all k a.levels }) calm refl (λ j other. kept_without k j a.levels other) (λ asleep. here)
@@ -38,11 +32,3 @@ calm_later k n level quiet a within calm = calm_but k n quiet a (record a { leve
 -- where none is awake all are quiet
 pub all_quiet : (n : ℕ) (quiet : ℕ → Type 0) (a : Waking) → first_turn a.levels ≡ None → IsCalm n quiet a → (k : ℕ) → k < n → quiet k
 all_quiet n quiet a none calm k within = calm.others k within (none_in a.levels none k)
-
--- where all are quiet it doesn't matter who is awake
-pub calm_all : (n : ℕ) (quiet : ℕ → Type 0) (a : Waking) → a.below ≡ n → ((k : ℕ) → k < n → quiet k) → IsCalm n quiet a
-calm_all n quiet a below all = record { below = below; others = λ k within asleep. all k within }
-
--- and where all are awake, what quiet is
-pub calm_awake : (n : ℕ) (quiet : ℕ → Type 0) (a : Waking) → a.below ≡ n → ((k : ℕ) → k < n → IsTrue (is_awake a k)) → IsCalm n quiet a
-calm_awake n quiet a below all = record { below = below; others = λ k within asleep. absurd (true≢false (sym (all k within) ∙ asleep)) }
