@@ -4,4 +4,3 @@ pub mod Functions
 pub mod Intervals
 pub mod Operands
 pub mod Rising
-pub mod Walks

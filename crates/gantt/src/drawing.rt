@@ -10,7 +10,12 @@ use std::alloc::Global;
 use svg_page::svg_page;
 
 /// Reads the model and the schedule that two files hold, and prints the page of the schedule.
-fn draw_file<D: Desk>(alloc: Global, desk: &mut D, name: &str, schedule: &str) -> Result<(), GivenStop>
+fn draw_file<D: Desk>(
+    alloc: Global,
+    desk: &mut D,
+    name: &str,
+    schedule: &str,
+) -> Result<(), GivenStop>
     ensures { TriesDraw name.now schedule.now result (D.state desk.old) (D.state desk.new) }
 {
     let model = read_file(alloc, desk, name)?;

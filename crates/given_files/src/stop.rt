@@ -82,7 +82,9 @@ impl From<ScheduleFault> for GivenStop {
 
     fn from(e: ScheduleFault) -> GivenStop {
         match e {
-            ScheduleFault::Refused { line } => GivenStop::ScheduleRefused(ScheduleRefusal::Line(line)),
+            ScheduleFault::Refused { line } => GivenStop::ScheduleRefused(ScheduleRefusal::Line(
+                line,
+            )),
             ScheduleFault::NoMemory => GivenStop::NoMemory,
         }
     }

@@ -164,7 +164,11 @@ fn next_slot(d: &IntervalDef, lines: &mut Lines<'_>) -> Option<Slot>
 }
 
 /// The slots, one line for each interval.
-fn read_all(alloc: Global, defs: &[IntervalDef], lines: &mut Lines<'_>) -> Result<List<Slot>, PartStop>
+fn read_all(
+    alloc: Global,
+    defs: &[IntervalDef],
+    lines: &mut Lines<'_>,
+) -> Result<List<Slot>, PartStop>
     requires defs { list_all is_interval_def defs.now ≡ true }
     requires names { list_all (λ d. is_word d.name) defs.now ≡ true }
     ensures { ReadsRows slot_row fits_def defs.now lines.old lines.new result }
@@ -180,7 +184,11 @@ fn read_all(alloc: Global, defs: &[IntervalDef], lines: &mut Lines<'_>) -> Resul
 }
 
 /// Reads the lines of the intervals.
-pub fn read_slots(alloc: Global, model: &Model, lines: &mut Lines<'_>) -> Result<List<Slot>, PartStop>
+pub fn read_slots(
+    alloc: Global,
+    model: &Model,
+    lines: &mut Lines<'_>,
+) -> Result<List<Slot>, PartStop>
     ensures { ReadsRows slot_row fits_def model.now.intervals lines.old lines.new result }
 {
     read_all(alloc, model.intervals(), lines)

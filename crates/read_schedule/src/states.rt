@@ -48,7 +48,12 @@ fn read_segments(alloc: Global, words: &mut Words<'_>) -> Result<List<Segment>, 
 }
 
 /// The segments in the words of a state function's line.
-fn read_words(alloc: Global, model: &Model, i: usize, line: &[u8]) -> Result<List<Segment>, PartStop>
+fn read_words(
+    alloc: Global,
+    model: &Model,
+    i: usize,
+    line: &[u8],
+) -> Result<List<Segment>, PartStop>
     requires { i < length model.now.states }
     ensures { TriesAll (state_row i (state_at model.now i)) are_spelled (words_of line.now) result }
 {

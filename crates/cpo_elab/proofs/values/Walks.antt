@@ -1,1 +1,0 @@
--- One step of a walk over the operands of an expression.
