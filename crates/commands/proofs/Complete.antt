@@ -31,7 +31,7 @@ use Rattle.restart_rules.specs.Restarts.{Limits, limits_of}
 use Rattle.given_files.specs.declared.stop.ScheduleRefusal.{ScheduleRefusal}
 use Rattle.given_files.specs.declared.stop.ScheduleRefusal.TheVariants.{TooLong, Line, Constraint}
 use Rattle.given_files.specs.Files.{IfFile, model_bytes}
-use Rattle.given_files.specs.Schedules.{SpellsWithin, FailsFirst, IsUnfit}
+use Rattle.given_files.specs.Schedules.{SpellsWithin, IsUnfit}
 use Rattle.log_reports.specs.Reports.{Report, check_report, bound_report, core_report}
 use Rattle.commands.specs.declared.ended.Ended.{Ended}
 use Rattle.commands.specs.declared.ended.Ended.TheVariants as end

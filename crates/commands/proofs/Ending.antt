@@ -1,6 +1,6 @@
 -- The promise of a command, by how it ended.
 use Rattle.std.specs.Prelude.{⊤}
-use Rattle.std.proofs.Common.{◌≡◌, ◌≤◌, ◌+◌, ℕ, true, false, Option, Some, None, Ok, Err, refl, sym, ap, subst, ◌∙◌, inl, inr, arith}
+use Rattle.std.proofs.Common.{◌≡◌, ◌≤◌, ◌+◌, true, false, Option, Some, None, Ok, Err, refl, sym, ap, subst, ◌∙◌, inl, inr, arith}
 use Rattle.sched_base.specs.State.{State, Place}
 use Rattle.sched_base.specs.Calls.{Rose, ReadsAtMost, AppendedFrom}
 use Rattle.sched_model.specs.declared.types.Answer.{Answer}

@@ -1,5 +1,5 @@
 -- What a search with a log has done, from what its steps did.
-use Rattle.std.proofs.Common.{◌≡◌, ◌≤◌, ℕ, true, List, [], Option, Some, None, Ok, refl, sym, ap, subst, ◌∙◌}
+use Rattle.std.proofs.Common.{◌≡◌, true, List, [], Option, Some, None, Ok, refl, sym, ap, subst, ◌∙◌}
 use Rattle.std.specs.Prelude.{option_map}
 use Rattle.sched_base.specs.State.{State, with_log}
 use Rattle.sched_base.specs.Calls.{Creates, appended}

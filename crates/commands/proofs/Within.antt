@@ -1,6 +1,5 @@
 -- However a command ends, its files are read within their bounds.
-use Rattle.std.specs.Prelude.{⊤}
-use Rattle.std.proofs.Common.{◌≡◌, Option, Some, None, Ok, Err, Result, refl, ap, ◌∙◌, inl, inr}
+use Rattle.std.proofs.Common.{◌≡◌, Option, Some, None, Ok, Err, Result, ap, inl, inr}
 use Rattle.sched_base.specs.declared.desk.Failed.{Failed}
 use Rattle.sched_base.specs.declared.desk.Port.TheVariants.{Out}
 use Rattle.sched_base.specs.State.{State}

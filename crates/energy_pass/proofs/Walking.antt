@@ -6,12 +6,12 @@ use Rattle.std.proofs.lemmas.Bool.Decides.{nat_tests}
 use Rattle.std.proofs.lemmas.Int.{ints}
 use Rattle.std.proofs.lemmas.List.{get_or-set_other, take_more}
 use Rattle.envelope.specs.code.Bars.{Bars, is_on, has, IsOnce, reach_of}
-use Rattle.task_sets.specs.laws.Sums.{has_first, same_number}
+use Rattle.task_sets.specs.laws.Sums.{same_number}
 use Rattle.energy_pass.specs.declared.rows.Row.{Row}
 use Rattle.energy_pass.specs.declared.ends.End.{End}
 use Rattle.energy_pass.specs.code.Rows.{row_at, AreRows, GivesEnd, IsMoment}
 use Rattle.energy_pass.specs.code.Ends.{end_at, is_among, IsEnd, AreEnds}
-use Rattle.energy_pass.specs.code.Trees.{bar_of, Fits, IsOff, FullAt}
+use Rattle.energy_pass.specs.code.Trees.{bar_of, Fits, FullAt}
 use Rattle.energy_pass.proofs.Ending.{any_push}
 use Rattle.refute_energy.specs.laws.Products.{rises as product_rises}
 use Rattle.energy_pass.proofs.Sets.{over_rows, reach_same, set_over, over_set}

@@ -1,5 +1,5 @@
 -- Whoever has its turn is put to sleep, or put off.
-use Rattle.std.specs.Prelude.{◌≡◌, ℕ, ◌<◌, false, List, length, Option, Some, None}
+use Rattle.std.specs.Prelude.{◌≡◌, ℕ, ◌<◌, false, length, Option, Some, None}
 use Rattle.std.proofs.Common.{refl, sym, subst, ◌∙◌, arith}
 use Rattle.wake_levels.specs.declared.levels.Turn.{Turn}
 use Rattle.wake_levels.specs.code.Waking.{Waking, is_awake, weight, first_turn, without_on_all, woken_on}

@@ -1,5 +1,5 @@
 -- Whom a change wakes.
-use Rattle.std.specs.Prelude.{◌≡◌, ℕ, ◌<◌, ℤ, true, IsTrue, Option, All}
+use Rattle.std.specs.Prelude.{◌≡◌, ℕ, ℤ, true, IsTrue, Option}
 use Rattle.std.proofs.Common.{refl, sym, ap, subst, ◌∙◌}
 use Rattle.std.proofs.lemmas.Bool.{true≢false}
 use Rattle.iqueue.specs.code.Queue.{is_in}
@@ -9,13 +9,12 @@ use Rattle.region.specs.declared.types.CellName.TheVariants.{Presence, StartMin,
 use Rattle.region.specs.Cells.{Region}
 use Rattle.region.specs.Guesses.{SameCell, turned}
 use Rattle.region.specs.Looks.{IsRegionOf}
-use Rattle.wake_levels.specs.code.Waking.{Waking, is_awake}
+use Rattle.wake_levels.specs.code.Waking.{is_awake}
 use Rattle.wake_levels.specs.code.Calm.{WakesEach}
 use Rattle.engine.specs.declared.propagator.Propagator.{Ghosts}
 use Rattle.engine.specs.code.Changes.{AreSameBut}
 use Rattle.engine.specs.code.Watching.{Watching, watchers_of}
-use Rattle.engine.specs.code.Noted.{AreBelow}
-use Rattle.engine.specs.code.Engines.{EngineValue, IsFor, IsCalm, AreAwake}
+use Rattle.engine.specs.code.Engines.{EngineValue, IsFor, IsCalm}
 use Rattle.base_laws.specs.laws.Truth.{fails_before}
 
 -- the law that quiet stays where nothing watched changes

@@ -1,13 +1,13 @@
 -- Members of a set, its first place and its least earliest start.
-use Rattle.std.proofs.Common.{◌≡◌, ◌≢◌, ℕ, ◌<◌, ◌≤◌, ℤ, pos, ◌-ℤ◌, ◌≤ℤ◌, Bool, true, false, List, [], ◌∷◌, refl, ap, sym, ◌∙◌, subst, ◌⊎◌, inl, inr, arith}
-use Rattle.std.specs.Prelude.{nat_eq, ◌||◌}
+use Rattle.std.proofs.Common.{◌≡◌, ◌≢◌, ℕ, ◌<◌, ◌≤◌, ℤ, pos, ◌-ℤ◌, ◌≤ℤ◌, true, false, List, [], ◌∷◌, refl, ap, sym, ◌∙◌, subst, inl, inr, arith}
+use Rattle.std.specs.Prelude.{nat_eq}
 use Rattle.std.specs.Int.{int_min}
-use Rattle.std.proofs.lemmas.Bool.{cases_eq, cases_lt}
+use Rattle.std.proofs.lemmas.Bool.{cases_eq}
 use Rattle.std.proofs.lemmas.Int.{ints, int_min_is}
 use Rattle.envelope.specs.code.Bars.{Bars, bar_at, has, IsOnce, least_est, energy_of}
-use Rattle.thetatree.proofs.Members.{has_cases, has_first, has_later, has_same, first_of}
+use Rattle.thetatree.proofs.Members.{has_cases, has_first, has_later}
 use Rattle.thetatree.proofs.Parts.{sum_below}
-use Rattle.thetatree.proofs.Weights.{eq_true, eq_from, replaced, replaced_same, replaced_other, replaced_low, replaced_high, rises}
+use Rattle.thetatree.proofs.Weights.{eq_from, replaced, replaced_same, replaced_other, replaced_low, replaced_high, rises}
 
 -- the least earliest start is at most that of each member, and is one
 pub least_below : (t : Bars) (k : ℕ) (ks : List ℕ) (y : ℕ) → has (k ∷ ks) y ≡ true → least_est t k ks ≤ℤ (bar_at t y).est

@@ -1,6 +1,6 @@
 -- What a node says of the bars from one place to another: the reach of those that are on from one of them
 -- on. No set is named yet.
-use Rattle.std.proofs.Common.{◌≡◌, ℕ, zero, suc, ◌<◌, ◌≤◌, ℤ, pos, ◌+ℤ◌, ◌-ℤ◌, ◌*ℤ◌, ◌≤ℤ◌, Bool, true, false, Option, None, Some, IfSome}
+use Rattle.std.proofs.Common.{◌≡◌, ℕ, ◌<◌, ◌≤◌, ℤ, pos, ◌+ℤ◌, ◌-ℤ◌, ◌*ℤ◌, ◌≤ℤ◌, Bool, true, false, Option, None, Some, IfSome}
 use Rattle.envelope.specs.declared.node.Node.{Node}
 use Rattle.envelope.specs.code.Bars.{Bars, bar_at, is_on}
 use Rattle.thetatree.proofs.Parts.{sum_below}

@@ -1,5 +1,5 @@
 -- What the nodes of an expression stand for, from what those of its parts stand for.
-use Rattle.std.proofs.Common.{◌≡◌, ℕ, zero, suc, add-one, take, drop, fold, get_or, ◌+◌, ◌<◌, ◌≤◌, ℤ, pos, negsuc, neg_ℤ, ◌-ℤ◌, Bool, true, false, ◌&&◌, ◌||◌, List, [], ◌∷◌, ◌++◌, length, map, Option, Some, None, refl, sym, ap, subst, ◌∙◌, arith}
+use Rattle.std.proofs.Common.{◌≡◌, ℕ, zero, suc, add-one, take, drop, fold, get_or, ◌+◌, ◌<◌, ℤ, pos, negsuc, neg_ℤ, ◌-ℤ◌, Bool, true, false, ◌&&◌, ◌||◌, List, [], ◌∷◌, ◌++◌, length, map, Option, Some, None, refl, sym, ap, subst, ◌∙◌, arith}
 use Rattle.std.specs.Prelude.{All, option_map, option_and_then, Result, Ok, Err, IfOk, OnOk}
 use Rattle.std.specs.Int.{saturate_signed, w128}
 use Rattle.std.specs.List.{list_all}
@@ -10,7 +10,7 @@ use Rattle.std.proofs.lemmas.Option.{option_and_then_some}
 use Rattle.sched_model.specs.declared.types.CompareOp.{CompareOp}
 use Rattle.sched_model.specs.declared.types.Expr.{Expr}
 use Rattle.sched_model.specs.declared.types.Expr.TheVariants as full
-use Rattle.sched_model.specs.declared.types.Expr.TheVariants.{rolls-Lit, rolls-StartOf, rolls-EndOf, rolls-SizeOf, rolls-LengthOf, rolls-PresenceOf, rolls-Neg, rolls-Sum, rolls-Product, rolls-Max, rolls-Min, rolls-Compare, rolls-Not, rolls-And, rolls-Or, rolls-Implies}
+use Rattle.sched_model.specs.declared.types.Expr.TheVariants.{rolls-StartOf, rolls-EndOf, rolls-SizeOf, rolls-LengthOf, rolls-PresenceOf, rolls-Neg, rolls-Sum, rolls-Product, rolls-Max, rolls-Min, rolls-Compare, rolls-Not, rolls-And, rolls-Or, rolls-Implies}
 use Rattle.sched_model.specs.declared.types.Expr.TheOpen.{Expr-F}
 use Rattle.sched_model.specs.declared.types.Expr.TheOpen.Expr-F.{StartOf, EndOf, SizeOf, LengthOf, PresenceOf, Neg, Sum, Product, Max, Min, Compare, Not, And, Or, Implies}
 use Rattle.sched_model.specs.declared.types.Expr.TheFolds.{fold-roll-Expr, map-Expr}

@@ -1,24 +1,22 @@
 -- What the lines of a log without a solution use leaves nothing.
-use Rattle.std.specs.Prelude.{◌≡◌, ℕ, ℤ, ◌<◌, ◌≤◌, Bool, true, false, ◌&&◌, IsTrue, List, [], ◌∷◌, ◌++◌, Option, Some, None, All, IfSome, Contains, flat_map, filter_map, length, slice_get, nat_lt, is_some, if◌then◌else◌}
-use Rattle.std.specs.List.{Any, cons_option}
-use Rattle.std.proofs.Common.{refl, sym, ap, subst, ◌∙◌, inl, inr, arith, get_or}
+use Rattle.std.specs.Prelude.{◌≡◌, ℕ, ℤ, Bool, true, false, List, [], ◌∷◌, ◌++◌, Option, Some, None, All, IfSome, Contains, length, nat_lt, is_some, if◌then◌else◌}
+use Rattle.std.specs.List.{Any}
+use Rattle.std.proofs.Common.{refl, sym, subst, inl, inr, arith, get_or}
 use Rattle.std.proofs.lemmas.Bool.Decides.{nat_tests}
 use Rattle.std.proofs.lemmas.List.Elements.{All-nil, All-cons, All-head, All-tail, All-contains, All-contains_itself}
 use Rattle.std.proofs.lemmas.Option.{slice_get_past}
 use Rattle.sched_base.specs.declared.ids.Con.{Con}
 use Rattle.sched_model.specs.declared.types.Assignment.{Assignment}
 use Rattle.sched_model.specs.declared.types.Constraint.{Constraint}
-use Rattle.sched_model.specs.declared.types.Constraint.TheVariants.{Temporal, Logic, Span, Alternative, Synchronize, NoOverlap, First, Last, Before, Prev, CumulIn, AlwaysEqual, AlwaysNoState}
 use Rattle.sched_model.specs.declared.types.Verdict.TheVariants.{Infeasible, Unclosed}
 use Rattle.sched_model.specs.Words.{is_empty}
 use Rattle.sched_model.specs.Data.{Data}
 use Rattle.sched_model.specs.Valid.{IsValid}
-use Rattle.sched_model.specs.Domain.{is_in_domain}
 use Rattle.sched_model.specs.Sentences.{Holds}
-use Rattle.sched_model.specs.Solution.{IsSolution, IsKept, Meets, is_solution, is_better}
+use Rattle.sched_model.specs.Solution.{IsKept, Meets, is_better}
 use Rattle.sched_model.specs.laws.Met.{meets_front, meets_back}
 use Rattle.region.specs.declared.types.Guess.{Guess}
-use Rattle.region.specs.Cells.{Region, Allows, root, is_settled, allows}
+use Rattle.region.specs.Cells.{Region, Allows, root}
 use Rattle.region.specs.Guesses.{with_guess, with_fact, admits, splits}
 use Rattle.region.specs.Looks.{Refuting, IsRegionOf, seen_at}
 use Rattle.region.specs.laws.Lists.{both_true}
@@ -29,9 +27,9 @@ use Rattle.kernel.specs.declared.types.Line.{Line}
 use Rattle.kernel.specs.declared.types.Line.TheVariants.{Derive, Fail, Split, Sol, Restart}
 use Rattle.kernel.specs.declared.types.Found.{Found}
 use Rattle.kernel.specs.declared.types.StepFault.{StepFault}
-use Rattle.kernel.specs.declared.types.StepFault.TheVariants.{NotRefuted, NotTight, NotSplitting, NotSolution}
+use Rattle.kernel.specs.declared.types.StepFault.TheVariants.{NotRefuted, NotSplitting}
 use Rattle.kernel.specs.Agenda.{first_in}
-use Rattle.kernel.specs.Steps.{LogState, Steps, done, more, opening, open_regions, best_of, is_wanted, closed_verdict, best_verdict, verdict_of, left_after}
+use Rattle.kernel.specs.Steps.{LogState, Steps, done, more, opening, open_regions, best_of, closed_verdict, best_verdict, verdict_of}
 use Rattle.kernel.specs.code.Faults.{fault_unless, fault_at, fault_in, after}
 use Rattle.kernel.specs.Used.{IsSoundBy, IsUsed, named_in, used_in}
 use Rattle.kernel.proofs.Regions.{any_here, any_later, any_cases, any_none, parts_allow}

@@ -1,29 +1,26 @@
 -- Words that begin as a witness and are none.
 use Rattle.std.proofs.Common.{◌≡◌, ℕ, ◌<◌, ℤ, pos, negsuc, Bool, true, false, IsTrue, List, [], ◌∷◌, ◌++◌, length, map, get_or, drop, slice_get, sym, ◌∙◌, ap, arith, refl, Option, Some, None, IfNone, Ok, Err}
-use Rattle.std.specs.Prelude.{codes}
 use Rattle.std.proofs.lemmas.Bool.Decides.{nat_tests}
 use Rattle.std.proofs.lemmas.List.Folds.{list_all-append}
 use Rattle.std.specs.Fmt.{decimal, signed_decimal}
 use Rattle.std.specs.List.{list_all}
 use Rattle.sched_model.specs.Valid.{is_small}
-use Rattle.refute_basic.specs.Witness.{numbers_of, is_valid}
-use Rattle.refute_hier.specs.Witness.{numbers_of as hier_numbers, is_valid as is_valid_hier}
 use Rattle.refute_seq.specs.Witness.{numbers_of as seq_numbers, is_valid as is_valid_seq}
 use Rattle.refute_cumul.specs.Witness.{numbers_of as cumul_numbers, is_valid as is_valid_cumul}
 use Rattle.refute_state.specs.Witness.{numbers_of as state_numbers, is_valid as is_valid_state}
 use Rattle.kernel.specs.declared.types.Witness.{Witness}
-use Rattle.kernel.specs.declared.types.Witness.TheVariants.{Basic, Hier, Seq, Cumul, State, Extra}
+use Rattle.kernel.specs.declared.types.Witness.TheVariants.{Seq, Cumul, State}
 use Rattle.kernel.specs.Fit.{is_count, is_fit_witness}
 use Rattle.textline.specs.Lines.{Bytes}
 use Rattle.textline.specs.laws.Lines.{both_true}
 use Rattle.logtext.specs.declared.entry.EntryFault.{EntryFault}
 use Rattle.logtext.specs.declared.entry.EntryFault.TheVariants.{Bad, NoMemory}
-use Rattle.logtext.specs.Spelling.{basic_kinds, hier_kinds, seq_kinds, cumul_kinds, state_kinds, kind_words, witness_words}
-use Rattle.logtext.specs.code.Reads.{NoneStands, ReadsWhole, ReadsNumbers, ReadsValue, FindsWord, count_words, moment_words, extra_words}
+use Rattle.logtext.specs.Spelling.{seq_kinds, cumul_kinds, state_kinds, kind_words, witness_words}
+use Rattle.logtext.specs.code.Reads.{NoneStands, ReadsWhole, ReadsNumbers, ReadsValue, count_words, moment_words, extra_words}
 use Rattle.logtext.specs.laws.Leads.{behind, head_is}
 use Rattle.logtext.specs.laws.Told.{count_told, moments_told}
 use Rattle.logtext.specs.laws.Entries.{AreTold, all_small, few_is_count}
-use Rattle.logtext.specs.laws.Kinds.{are_different, is_placed, basic_differ, basic_placed, hier_differ, hier_placed, seq_differ, seq_placed, cumul_differ, cumul_placed, state_differ, state_placed, one_place, begins, no_seq, no_cumul, no_state, no_extra}
+use Rattle.logtext.specs.laws.Kinds.{are_different, is_placed, seq_differ, seq_placed, cumul_differ, cumul_placed, state_differ, state_placed, one_place, begins, no_seq, no_cumul, no_state}
 use Rattle.logtext.proofs.Lines.{NoneWhole}
 
 -- values

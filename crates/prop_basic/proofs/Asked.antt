@@ -1,19 +1,17 @@
 -- What the tree of an expression tells of a witness.
-use Rattle.std.specs.Prelude.{◌≡◌, ℕ, zero, suc, ◌+◌, ◌-◌, ◌<◌, ◌≤◌, length, ℤ, Bool, true, ◌&&◌, not, List, [], Option, Some, None, IfSome, IfNone, slice_get}
+use Rattle.std.specs.Prelude.{◌≡◌, ℕ, zero, suc, ◌+◌, ◌-◌, ◌<◌, ◌≤◌, length, ℤ, Bool, true, ◌&&◌, List, [], Option, Some, None, IfSome, IfNone, slice_get}
 use Rattle.std.proofs.Common.{refl, sym, ap, subst, ◌∙◌, arith}
 use Rattle.sched_base.specs.declared.ids.Itv.{Itv}
 use Rattle.sched_model.specs.declared.types.Constraint.TheVariants.{Logic}
 use Rattle.sched_model.specs.declared.types.Expr.{Expr}
 use Rattle.sched_model.specs.declared.types.Objective.{Objective}
-use Rattle.sched_model.specs.Words.{passes, passes_if_any}
+use Rattle.sched_model.specs.Words.{passes}
 use Rattle.sched_model.specs.Data.{Data, has}
 use Rattle.region.specs.declared.types.Guess.{Guess}
 use Rattle.region.specs.Cells.{Region}
 use Rattle.region.specs.Guesses.{looked_at}
 use Rattle.region.specs.Looks.{IsRegionOf, seen_at}
-use Rattle.region.specs.Tight.{is_tight, weaker}
 use Rattle.look_hull.specs.LookHull.{look_hull}
-use Rattle.findings.specs.Found.{IsFound}
 use Rattle.findings.specs.code.Reads.{LooksOnlyAt, AreUnrefuted}
 use Rattle.hull_tree.specs.code.Trees.{Tree, IsTreeOf}
 use Rattle.refute_basic.specs.declared.witness.BasicWitness.{BasicWitness}

@@ -4,8 +4,7 @@ use Rattle.std.proofs.Common.{refl, sym, ap, subst, ◌∙◌, arith, get_or, in
 use Rattle.std.proofs.lemmas.Int.{ints}
 use Rattle.std.proofs.lemmas.List.{get_or_default}
 use Rattle.base_laws.specs.laws.Numbers.{below_or_last}
-use Rattle.sched_model.specs.declared.types.Shape.{Shape}
-use Rattle.sched_model.specs.declared.types.Shape.TheVariants.{Pulse, Step, PulseOf, StepAtStart, StepAtEnd}
+use Rattle.sched_model.specs.declared.types.Shape.TheVariants.{Pulse, Step}
 use Rattle.sched_model.specs.declared.types.Part.{Part}
 use Rattle.sched_model.specs.Words.{total}
 use Rattle.sched_model.specs.Cumulative.{between, signed}

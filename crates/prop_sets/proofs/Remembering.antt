@@ -9,7 +9,7 @@ use Rattle.sched_base.specs.declared.ids.Itv.{Itv}
 use Rattle.region.specs.Cells.{Region, bounds_of}
 use Rattle.prop_sets.specs.declared.known.Numbers.{Numbers}
 use Rattle.prop_sets.specs.code.Rows.{member_at, AreMoments}
-use Rattle.prop_sets.specs.code.Known.{numbers_of, AreNumbers, IfKnown, AreKnown, AreUnknown}
+use Rattle.prop_sets.specs.code.Known.{numbers_of, AreNumbers, AreUnknown}
 use Rattle.prop_sets.specs.code.Known as known
 
 pub no_numbers : (r : Region) (ms : List Itv) → AreNumbers r ms 0 []

@@ -1,13 +1,12 @@
 -- The load of some parts as a sum of changes, and the levels behind the last change of each moment.
-use Rattle.std.proofs.Common.{◌≡◌, inl, inr, ℕ, zero, suc, ◌+◌, ◌<◌, ◌≤◌, ℤ, pos, ◌+ℤ◌, ◌≤ℤ◌, ◌<ℤ◌, Bool, true, false, not, cond, List, [], ◌∷◌, ◌++◌, length, map, take, set, get_or, refl, sym, ap, subst, ◌∙◌, arith}
-use Rattle.std.specs.Prelude.{int_le, int_lt, slice_get}
-use Rattle.std.specs.Ordering.{int_eq, int_cmp, is_lt}
+use Rattle.std.proofs.Common.{◌≡◌, inl, inr, ℕ, zero, suc, ◌+◌, ◌<◌, ◌≤◌, ℤ, pos, ◌+ℤ◌, ◌≤ℤ◌, ◌<ℤ◌, Bool, true, false, cond, List, [], ◌∷◌, ◌++◌, length, map, take, set, get_or, refl, sym, ap, subst, ◌∙◌, arith}
+use Rattle.std.specs.Prelude.{int_le, slice_get}
+use Rattle.std.specs.Ordering.{int_eq}
 use Rattle.std.specs.List.{swap}
 use Rattle.std.specs.List.Sorted.{IsPermutation}
 use Rattle.std.proofs.lemmas.Int.{ints}
-use Rattle.std.proofs.lemmas.Bool.{cases_eq}
 use Rattle.std.proofs.Math.ListN.{get_or-append}
-use Rattle.std.proofs.lemmas.List.{take_more, get_or-set_same, get_or-set_other, length-set, length-append, get_or_default}
+use Rattle.std.proofs.lemmas.List.{length-set, length-append, get_or_default}
 use Rattle.base_laws.specs.laws.Numbers.{below_or_last}
 use Rattle.base_laws.specs.laws.Places.{newest}
 use Rattle.std.proofs.lemmas.List.Sorted.{IsPermutation-keeps}
@@ -15,7 +14,7 @@ use Rattle.sched_model.specs.declared.types.Shape.{Shape}
 use Rattle.sched_model.specs.declared.types.Shape.TheVariants.{Pulse, Step, PulseOf, StepAtStart, StepAtEnd}
 use Rattle.sched_model.specs.declared.types.Part.{Part}
 use Rattle.sched_model.specs.Words.{passes, total}
-use Rattle.sched_model.specs.Cumulative.{between, from_on, signed}
+use Rattle.sched_model.specs.Cumulative.{signed}
 use Rattle.region.specs.Cells.{Region}
 use Rattle.sched_model.specs.declared.changes.Change.{Change}
 use Rattle.refute_cumul.specs.declared.profile.Level.{Level}

@@ -1,4 +1,3 @@
 mod Bounding
 mod Changing
 mod Placing
-mod Summing

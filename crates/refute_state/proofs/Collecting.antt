@@ -14,7 +14,6 @@ use Rattle.sched_model.specs.declared.types.Slot.{Slot}
 use Rattle.sched_model.specs.declared.types.Constraint.{Constraint}
 use Rattle.refute_state.specs.declared.stretch.Stretch.{Stretch}
 use Rattle.refute_state.specs.code.Canonical.{stretch_of, empty_of}
-use Rattle.region.specs.laws.Lists.{both_true}
 
 none_step : {X Y : Type 0} (h : X → Option Y) (cs : List X) (k : ℕ) (d : X) (ys whole : List Y) → ys ++ filter_map h (drop k cs) ≡ whole → k < length cs → None ≡ h (get_or cs k d) → ys ++ filter_map h (drop (k + 1) cs) ≡ whole
 none_step h cs k d ys whole before within is =

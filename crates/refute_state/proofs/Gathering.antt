@@ -1,10 +1,10 @@
 -- The demands of a function, one after the other.
-use Rattle.std.specs.Prelude.{◌≡◌, ℕ, zero, suc, ◌+◌, Bool, true, false, List, [], ◌∷◌, ◌++◌, if◌then◌else◌}
+use Rattle.std.specs.Prelude.{◌≡◌, ℕ, ◌+◌, Bool, true, false, List, [], ◌∷◌, ◌++◌, if◌then◌else◌}
 use Rattle.std.specs.List.{filter, range_with_len}
 use Rattle.std.proofs.Common.{refl, sym, ap, ◌∙◌, arith}
 use Rattle.std.proofs.lemmas.List.Elements.{filter-append}
 use Rattle.sched_model.specs.Data.{Data}
-use Rattle.refute_state.specs.code.Gathered.{demands_at, demands_below, demands_of}
+use Rattle.refute_state.specs.code.Gathered.{demands_at, demands_below}
 use Rattle.base_laws.specs.laws.Lists.{range_more}
 
 filtered_one : (p : ℕ → Bool) (n : ℕ) (b : Bool) → p n ≡ b → filter p (n ∷ []) ≡ (if b then n ∷ [] else [])

@@ -1,9 +1,9 @@
 -- The digits of a number give it back, digits are those of their number, and numbers stand as their digits do.
-use Rattle.std.specs.Prelude.{◌≡◌, ℕ, zero, suc, ◌+◌, ◌*◌, ◌/◌, ◌%◌, ◌<◌, ◌≤◌, Bool, true, false, ◌&&◌, ◌||◌, List, [], ◌∷◌, nat_eq, nat_lt}
+use Rattle.std.specs.Prelude.{◌≡◌, ℕ, ◌+◌, ◌*◌, ◌/◌, ◌%◌, ◌<◌, ◌≤◌, Bool, true, false, ◌&&◌, ◌||◌, List, [], ◌∷◌, nat_eq, nat_lt}
 use Rattle.std.proofs.Common.{refl, sym, ap, ◌∙◌, arith}
 use Rattle.std.proofs.lemmas.Bool.Decides.{nat_tests}
 use Rattle.std.proofs.lemmas.Nat.{div-mul-add, mod-mul-add, mod_below}
-use Rattle.std.proofs.Math.Nat.{one-le-mul, mul-le-mul_right, add-mul, mul-add-mod_self_right}
+use Rattle.std.proofs.Math.Nat.{one-le-mul, mul-le-mul_right, add-mul}
 use Rattle.std.proofs.Math.Nat as nat
 use Rattle.std.proofs.Math.Arith.{mod-mul}
 use Rattle.base_laws.specs.Digits.{size_of, digits}

@@ -1,5 +1,5 @@
 -- A text has one list of pieces, and so one list of tokens or one bad byte; each run of tokens has one reading.
-use Rattle.std.proofs.Common.{◌≡◌, ◌⊎◌, inl, inr, ℕ, ◌+◌, ◌*◌, ◌<◌, Bool, List, [], ◌∷◌, length, drop, Option, Some, None, refl, sym, ap, ◌∙◌, arith, length-drop, append-nil}
+use Rattle.std.proofs.Common.{◌≡◌, ◌⊎◌, inl, inr, ℕ, ◌+◌, ◌*◌, ◌<◌, List, [], ◌∷◌, length, drop, Option, Some, None, refl, sym, ap, ◌∙◌, arith, length-drop, append-nil}
 use Rattle.std.proofs.lemmas.List.{drop-drop}
 use Rattle.cpo_text.specs.declared.piece.Piece.{Piece}
 use Rattle.cpo_text.specs.declared.tree.Statement.{Statement}

@@ -8,7 +8,7 @@ use Rattle.std.proofs.lemmas.Map.Steps.{length-le_from_distinct_below}
 use Rattle.refute_basic.specs.declared.edge.Arc.{Arc}
 use Rattle.cycles.specs.declared.node.Node.{Node}
 use Rattle.cycles.specs.code.Search.{Search, node_at, IsSearch}
-use Rattle.cycles.specs.code.Ways.{Reach, Reach.there, Reach.further, IsLoop, is_in, AreDistinct, IsMark, IsMarked}
+use Rattle.cycles.specs.code.Ways.{Reach, Reach.there, Reach.further, is_in, AreDistinct, IsMark, IsMarked}
 use Rattle.cycles.specs.laws.Pushed.{same_or_not}
 use Rattle.std.proofs.lemmas.Bool.{or_parts}
 

@@ -1,10 +1,10 @@
 -- Where each arc loses no height, no walk gains any.
-use Rattle.std.specs.Prelude.{◌≡◌, ℕ, ◌<◌, ℤ, pos, ◌+ℤ◌, ◌≤ℤ◌, Bool, true, false, ◌&&◌, List, [], ◌∷◌, ◌++◌, length, nat_eq, nat_lt}
+use Rattle.std.specs.Prelude.{◌≡◌, ℕ, ◌<◌, ℤ, ◌+ℤ◌, ◌≤ℤ◌, Bool, true, false, ◌&&◌, List, [], ◌∷◌, ◌++◌, length, nat_eq, nat_lt}
 use Rattle.std.proofs.Common.{refl, ap, ◌∙◌, arith}
 use Rattle.std.proofs.lemmas.Int.{ints}
 use Rattle.std.proofs.lemmas.Bool.Decides.{nat_tests}
 use Rattle.refute_basic.specs.declared.edge.Arc.{Arc}
-use Rattle.cycles.specs.code.Walks.{arc_at, picked, leads, is_closed, total, are_places}
+use Rattle.cycles.specs.code.Walks.{arc_at, picked, leads, total, are_places}
 use Rattle.std.proofs.lemmas.Bool.{and_parts}
 
 pub same_nat : (i j : ℕ) → nat_eq i j ≡ true → i ≡ j

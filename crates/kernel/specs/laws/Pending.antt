@@ -1,7 +1,6 @@
 -- What waits behind a region stays while the region is narrowed, and how much that is.
 use Rattle.std.specs.Prelude.{◌≡◌, ◌+◌, ◌<◌, List, [], ◌∷◌, ◌++◌, length, All}
 use Rattle.std.proofs.Common.{refl, sym, subst, arith}
-use Rattle.std.proofs.lemmas.List.Elements.{All-nil}
 use Rattle.region.specs.declared.types.Guess.{Guess}
 use Rattle.region.specs.Cells.{Region}
 use Rattle.region.specs.Guesses.{with_fact}

@@ -1,9 +1,7 @@
 -- Logs with witnesses of energy and logs without extra witnesses agree on lines that have none.
-use Rattle.std.specs.Prelude.{◌≡◌, Bool, true, false, not, ◌&&◌, List, [], ◌∷◌, map, Ok}
+use Rattle.std.specs.Prelude.{◌≡◌, false, not, List, [], ◌∷◌, map}
 use Rattle.std.proofs.Common.{refl, ap, ◌∙◌}
 use Rattle.sched_model.specs.Data.{Data}
-use Rattle.region.specs.declared.types.Guess.{Guess}
-use Rattle.kernel.specs.declared.types.Witness.{Witness}
 use Rattle.kernel.specs.declared.types.Witness.TheVariants.{Basic, Hier, Seq, Cumul, State, Extra}
 use Rattle.kernel.specs.declared.types.Line.{Line}
 use Rattle.kernel.specs.declared.types.Line.TheVariants.{Derive, Fail, Split, Sol, Restart}
@@ -11,7 +9,7 @@ use Rattle.kernel.specs.declared.no_extra.NoWitness.{NoWitness}
 use Rattle.kernel.specs.NoExtra.{numbers_of as no_numbers, is_valid as is_never}
 use Rattle.kernel.specs.Steps.{LogState, Node, Steps, step, step_at, step_on, is_restart, node_for, taken}
 use Rattle.kernel.specs.Steps.Steps.{done, more}
-use Rattle.kernel.specs.Fit.{is_fit, is_fit_guess}
+use Rattle.kernel.specs.Fit.{is_fit}
 use Rattle.logtext.specs.Spelling.{line_text}
 use Rattle.std.specs.Prelude.{Option, Some, None}
 use Rattle.logtext.specs.Extra.{log_numbers, log_valid}

@@ -1,16 +1,15 @@
 -- From moments to guesses, and from guesses to the propagator of a constraint.
-use Rattle.std.specs.Prelude.{◌≡◌, ℕ, zero, suc, ◌<◌, ◌≤◌, ℤ, pos, ◌+ℤ◌, ◌-ℤ◌, ◌≤ℤ◌, ◌<ℤ◌, Bool, true, false, ◌&&◌, List, [], ◌∷◌, length, Option, Some, None, cond, slice_get, nat_eq, int_le, int_lt}
+use Rattle.std.specs.Prelude.{◌≡◌, ℕ, zero, suc, ◌<◌, ◌≤◌, ℤ, pos, ◌+ℤ◌, ◌≤ℤ◌, ◌<ℤ◌, Bool, true, false, ◌&&◌, List, [], ◌∷◌, length, Option, Some, None, cond, slice_get, nat_eq, int_le, int_lt}
 use Rattle.std.specs.List.{filter}
 use Rattle.std.proofs.Common.{refl, sym, ap, subst, ◌∙◌, arith, get_or, inl, inr}
 use Rattle.std.proofs.lemmas.Int.{ints}
-use Rattle.std.proofs.lemmas.Bool.{true≢false, or_left, or_right}
+use Rattle.std.proofs.lemmas.Bool.{or_left, or_right}
 use Rattle.std.proofs.lemmas.Bool.Decides.{nat_tests}
 use Rattle.sched_base.specs.declared.ids.Itv.{Itv}
-use Rattle.base_laws.specs.laws.Truth.{never_both}
 use Rattle.sched_model.specs.declared.types.Part.{Part}
 use Rattle.sched_model.specs.declared.types.Constraint.{Constraint}
 use Rattle.sched_model.specs.declared.types.Constraint.TheVariants as constraint
-use Rattle.sched_model.specs.Words.{passes, passes_if_any}
+use Rattle.sched_model.specs.Words.{passes_if_any}
 use Rattle.sched_model.specs.Data.{Data, same, has, parts_of}
 use Rattle.sched_model.specs.Valid.{IsValid}
 use Rattle.region.specs.declared.types.Topic.{Topic}
@@ -32,8 +31,8 @@ use Rattle.findings.specs.laws.EndGuesses.{end_guesses, place, IsAnEnd}
 use Rattle.refute_cumul.specs.declared.bound.Bound.{Bound}
 use Rattle.refute_cumul.specs.declared.witness.CumulWitness.{CumulWitness}
 use Rattle.refute_cumul.specs.declared.witness.CumulWitness.TheVariants.{Point}
-use Rattle.refute_cumul.specs.Witness.{constraint_of, is_valid}
-use Rattle.refute_cumul.specs.Point.{point_of, point_row}
+use Rattle.refute_cumul.specs.Witness.{constraint_of}
+use Rattle.refute_cumul.specs.Point.{point_of}
 use Rattle.refute_cumul.specs.Levels.{is_surely_in}
 use Rattle.refute_cumul.specs.code.Loads.{load, limit_of, is_over, is_from, window_of}
 use Rattle.refute_cumul.specs.OnCumul.{refutes}

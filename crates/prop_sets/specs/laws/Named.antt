@@ -4,12 +4,12 @@ use Rattle.base_laws.specs.laws.Truth.{three_true as three}
 use Rattle.std.specs.Prelude.{◌≡◌, ℕ, ◌<◌, ◌<ℤ◌, Bool, true, false, ◌&&◌, nat_eq, List, [], ◌∷◌, map}
 use Rattle.std.proofs.Common.{refl, arith, sym, subst, inl, inr, ap, ◌∙◌}
 use Rattle.std.proofs.lemmas.Int.{ints}
-use Rattle.task_sets.specs.Times.{Times, has, IsSized, est_at, lct_at, lst_at, ect_at, size_at, least_est, greatest_lct, sum_of, ends_at, is_set, is_task_set, is_outside, is_overload, is_edge, is_detected, overload_row, edge_row, not_end_row, detect_row}
+use Rattle.task_sets.specs.Times.{Times, has, IsSized, est_at, lct_at, lst_at, ect_at, size_at, least_est, greatest_lct, sum_of, ends_at, is_set, is_task_set, is_outside, is_overload, is_edge, is_detected, overload_row, edge_row, detect_row}
 use Rattle.task_sets.specs.laws.Sums.{pick, load, has_cases, same_number, has_first, has_later, least_bound, greatest_bound, Once, sum_once}
 use Rattle.task_sets.specs.laws.Ects.{rises_all, some_list, least_reached, greatest_reached, up_from, keep, up_has, keep_has, keep_passes, keep_rises_all, lt_holds}
 use Rattle.task_sets.specs.laws.Moved.{map_has}
 use Rattle.task_sets.specs.laws.Cuts.{task_set_of, no_task_set, overload_is}
-use Rattle.task_sets.specs.laws.NotEndCuts.{not_end_detects, detect_not_ends, detect_facts, facts_detect}
+use Rattle.task_sets.specs.laws.NotEndCuts.{detect_facts, facts_detect}
 use Rattle.task_sets.specs.laws.EdgeCuts.{once_all, once_rises, edge_facts, facts_edge}
 
 -- f names those that pass t, each by another number, with the numbers that they have

@@ -29,7 +29,7 @@ use Rattle.refute_basic.specs.Standing.{precedes}
 use Rattle.refute_basic.specs.laws.Walks.{AllLose, none_closes}
 use Rattle.prop_temporal.specs.code.Heights.{AllKeep}
 use Rattle.prop_temporal.specs.laws.Walked.{AreOf, AreOf.none, AreOf.one, closes_led}
-use Rattle.prop_temporal.specs.code.Shown.{Shown, name, no_name, name_at, IsAmong, AreShown, HasTried, Tries, TriesAll, IsOfConstraint, IsOfInterval, IsOfPrecedence, IsOfOrder, IsOfOrderFrom, IsOfSide, IsOfSideOf, IsOfMember, member_name}
+use Rattle.prop_temporal.specs.code.Shown.{Shown, name, no_name, name_at, IsAmong, AreShown, HasTried, Tries, TriesAll, IsOfConstraint, IsOfInterval, IsOfPrecedence, IsOfOrder, IsOfOrderFrom, IsOfSide, IsOfSideOf, member_name}
 use Rattle.prop_temporal.specs.code.Members.{members_at, told_in}
 use Rattle.prop_temporal.specs.laws.Named.{ordered, tried_all}
 use Rattle.prop_temporal.specs.laws.Kinds.{precedence_names, interval_names, side_next, side_among, order_next, order_among}

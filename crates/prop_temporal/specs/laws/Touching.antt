@@ -1,13 +1,11 @@
 -- Constraints are added to those that name an interval, one after another.
 use Rattle.std.specs.Prelude.{◌≡◌, ◌⊎◌, ℕ, zero, suc, ◌+◌, ◌<◌, ◌≤◌, Bool, true, false, List, [], ◌∷◌, ◌++◌, length, get_or, slice_set, slice_get, None, nat_eq, nat_lt}
-use Rattle.std.proofs.Common.{inl, inr, refl, sym, ap, subst, ◌∙◌, arith, take}
+use Rattle.std.proofs.Common.{inl, inr, refl, sym, ap, subst, ◌∙◌, arith}
 use Rattle.std.proofs.lemmas.Bool.{true≢false}
 use Rattle.std.proofs.lemmas.Bool.Decides.{nat_tests}
-use Rattle.std.proofs.lemmas.List.{get_or-set_same, get_or-set_other, length-set}
 use Rattle.sched_base.specs.declared.ids.Itv.{Itv}
 use Rattle.sched_model.specs.Data.{Data, has, same}
-use Rattle.region.specs.laws.OneSequence.{same_is, has_cases}
-use Rattle.findings.specs.laws.Members.{any_more}
+use Rattle.region.specs.laws.OneSequence.{has_cases}
 use Rattle.std.proofs.lemmas.List.Folds.{list_any-append}
 use Rattle.refute_basic.specs.laws.Arc.{ends_of}
 use Rattle.prop_temporal.specs.code.Members.{members_at, touched_by}

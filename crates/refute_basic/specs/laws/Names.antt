@@ -1,8 +1,7 @@
 -- The numbers of the names of arcs: four for each, all small, and they tell the names.
-use Rattle.std.specs.Prelude.{◌≡◌, ℕ, zero, suc, ◌*◌, ℤ, pos, true, List, [], ◌∷◌, length, flat_map}
+use Rattle.std.specs.Prelude.{◌≡◌, ℕ, ◌*◌, ℤ, pos, true, List, [], ◌∷◌, length, flat_map}
 use Rattle.std.specs.List.{list_all}
 use Rattle.std.proofs.Common.{refl, arith}
-use Rattle.sched_model.specs.Valid.{is_small}
 use Rattle.region.specs.code.Spelled.{AreSmall}
 use Rattle.region.specs.laws.Lists.{both_true}
 use Rattle.refute_basic.specs.declared.arc_name.ArcName.{ArcName}

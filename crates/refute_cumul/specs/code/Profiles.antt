@@ -1,5 +1,5 @@
 -- The profile of a cumulative function: the moments at which its load changes, and the load from each of them on.
-use Rattle.std.specs.Prelude.{◌≡◌, ℕ, zero, suc, ◌+◌, ◌<◌, ◌≤◌, ℤ, pos, ◌≤ℤ◌, ◌<ℤ◌, Bool, if◌then◌else◌, List, [], ◌∷◌, length, int_le, slice_index_or}
+use Rattle.std.specs.Prelude.{◌≡◌, ℕ, zero, suc, ◌<◌, ◌≤◌, ℤ, pos, ◌≤ℤ◌, ◌<ℤ◌, Bool, if◌then◌else◌, List, [], ◌∷◌, length, int_le, slice_index_or}
 use Rattle.std.specs.List.{flat_map}
 use Rattle.sched_model.specs.declared.types.Shape.TheVariants.{Pulse, Step}
 use Rattle.sched_model.specs.declared.types.Shape.{Shape}

@@ -1,5 +1,5 @@
 -- The numbers of valid witnesses are few and small, and tell them apart.
-use Rattle.std.specs.Prelude.{◌≡◌, ◌^◌, ◌<◌, zero, suc, ℤ, pos, true, IsTrue, List, [], ◌∷◌, length}
+use Rattle.std.specs.Prelude.{◌≡◌, ◌^◌, ◌<◌, pos, IsTrue, [], ◌∷◌, length}
 use Rattle.std.proofs.Common.{refl, arith}
 use Rattle.base_laws.specs.laws.Truth.{three_true}
 use Rattle.sched_model.specs.Bounds.{is_small, is_number}

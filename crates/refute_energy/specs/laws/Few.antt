@@ -1,10 +1,9 @@
 -- A witness that refutes names no more places than a function may have parts.
-use Rattle.std.specs.Prelude.{◌≡◌, ℕ, ◌+◌, ◌<◌, ◌≤◌, ℤ, Bool, true, ◌&&◌, IsTrue, List, [], ◌∷◌, length, nat_lt, Option, Some, None, slice_get}
+use Rattle.std.specs.Prelude.{◌≡◌, ℕ, ◌+◌, ◌<◌, ◌≤◌, ℤ, true, ◌&&◌, IsTrue, List, [], ◌∷◌, length, nat_lt, Option, Some, None, slice_get}
 use Rattle.std.proofs.Common.{arith}
 use Rattle.std.proofs.lemmas.Bool.{and_parts}
 use Rattle.sched_base.specs.declared.ids.Cum.{Cum}
 use Rattle.sched_model.specs.declared.types.Part.{Part}
-use Rattle.sched_model.specs.declared.types.Window.{Window}
 use Rattle.sched_model.specs.declared.types.Window.TheVariants as window
 use Rattle.sched_model.specs.declared.types.Constraint.{Constraint}
 use Rattle.sched_model.specs.declared.types.Constraint.TheVariants as constraint
@@ -19,7 +18,7 @@ use Rattle.task_sets.specs.laws.Cuts.{task_set_of}
 use Rattle.refute_cumul.specs.laws.Sides.{few_parts, has_room}
 use Rattle.refute_energy.specs.declared.witness.EnergyWitness.{EnergyWitness}
 use Rattle.refute_energy.specs.Witness.{is_valid}
-use Rattle.refute_energy.specs.Energy.{is_bar_at, is_above, is_capacity, overflows, energy_of, energy_row}
+use Rattle.refute_energy.specs.Energy.{is_bar_at, is_capacity, overflows, energy_of, energy_row}
 use Rattle.refute_energy.specs.OnEnergy.{refutes}
 use Rattle.refute_energy.specs.laws.Bars.{bars_below}
 

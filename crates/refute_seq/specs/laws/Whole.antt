@@ -1,8 +1,8 @@
 -- A settled look of which no witness of this crate refutes leaves orders that list the present members, as the region allows,
 -- and by them what is listed as without overlap has none.
-use Rattle.std.specs.Prelude.{◌≡◌, ℕ, suc, ◌<◌, Bool, true, ◌&&◌, List, [], ◌∷◌, length, slice_get, Some, None}
+use Rattle.std.specs.Prelude.{◌≡◌, ℕ, Bool, true, ◌&&◌, List, [], slice_get, Some, None}
 use Rattle.std.specs.List.{list_all}
-use Rattle.std.proofs.Common.{refl, sym, subst, ◌∙◌, arith, get_or}
+use Rattle.std.proofs.Common.{refl, sym, subst, ◌∙◌, get_or}
 use Rattle.std.proofs.Math.ListN.{get_or-map}
 use Rattle.std.proofs.lemmas.List.{length-map}
 use Rattle.base_laws.specs.laws.Items.{all_listed}

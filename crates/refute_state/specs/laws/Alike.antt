@@ -1,23 +1,15 @@
 -- The rows read no more than the bounds and the presence of the intervals that they speak of, which are present and not empty
 -- where a row holds.
-use Rattle.std.specs.Prelude.{◌≡◌, ℕ, pos, Bool, true, not, ◌&&◌, List, [], ◌∷◌, Option, Some, None, nat_eq, nat_lt}
-use Rattle.std.proofs.Common.{refl, sym, ap, subst, ◌∙◌, inl, inr}
-use Rattle.std.proofs.lemmas.Bool.{true≢false}
+use Rattle.std.specs.Prelude.{◌≡◌, ℕ, Bool, not, ◌&&◌, Option, Some, None, nat_eq, nat_lt}
+use Rattle.std.proofs.Common.{refl, ap}
 use Rattle.sched_model.specs.Words.{passes}
 use Rattle.sched_model.specs.Data.{Data}
 use Rattle.region.specs.Cells.{Region, bounds_of}
 use Rattle.region.specs.Looks.{Seen}
-use Rattle.region.specs.laws.Lists.{both_true}
 use Rattle.refute_state.specs.declared.demand.Demand.{Demand}
-use Rattle.refute_state.specs.declared.witness.StateWitness.{StateWitness}
-use Rattle.refute_state.specs.declared.witness.StateWitness.TheVariants.{State, State3}
-use Rattle.refute_state.specs.Witness.{is_valid}
-use Rattle.refute_state.specs.Demands.{demand_at, of_demand, of_one, demand_gap}
-use Rattle.refute_state.specs.Times.{is_long, is_late}
-use Rattle.refute_state.specs.State.{cant_share, state_pair, state_row}
-use Rattle.refute_state.specs.State3.{other_between, state_triple, state3_row}
-use Rattle.refute_state.specs.OnState.{refutes, row_of}
-use Rattle.refute_state.specs.laws.Never.{six_true, seven_true}
+use Rattle.refute_state.specs.Demands.{demand_at, of_demand}
+use Rattle.refute_state.specs.State.{state_pair, state_row}
+use Rattle.refute_state.specs.State3.{state_triple, state3_row}
 
 -- two regions show the same of the interval of a demand
 abbrev pub SameTimes : Region → Region → Demand → Type 0

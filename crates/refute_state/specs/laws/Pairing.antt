@@ -4,7 +4,7 @@ use Rattle.std.specs.List.{filter_map, cons_option}
 use Rattle.std.proofs.Common.{arith, inl, inr, sym, subst, ap, ◌∙◌}
 use Rattle.std.proofs.lemmas.Int.{ints}
 use Rattle.refute_state.specs.declared.stretch.Stretch.{Stretch}
-use Rattle.refute_state.specs.laws.Lists.{Each, Pairs, compared, each_map}
+use Rattle.refute_state.specs.laws.Lists.{Each, Pairs, compared}
 use Rattle.refute_state.specs.laws.Lists as lists
 use Rattle.refute_state.specs.laws.Running.{IsDistance}
 use Rattle.refute_state.specs.laws.Settled.{In, each_in, Apart, Unrefuted}

@@ -1,5 +1,5 @@
 -- What the rows say where they hold.
-use Rattle.std.specs.Prelude.{◌≡◌, ℕ, pos, Bool, true, not, ◌&&◌, Option, Some, None, nat_eq, nat_lt}
+use Rattle.std.specs.Prelude.{◌≡◌, ℕ, pos, Bool, true, not, Option, Some, None, nat_eq, nat_lt}
 use Rattle.std.proofs.Common.{refl, sym}
 use Rattle.std.proofs.lemmas.Bool.{true≢false}
 use Rattle.sched_model.specs.Words.{passes}

@@ -7,8 +7,6 @@ use Rattle.std.proofs.Common.{refl, arith, inl, inr, sym, subst, ap, ◌∙◌, 
 use Rattle.std.proofs.lemmas.Int.{ints}
 use Rattle.std.proofs.lemmas.Bool.{true≢false, or_parts, or_right}
 use Rattle.std.proofs.lemmas.Bool.Decides.{nat_tests}
-use Rattle.std.proofs.lemmas.List.{get_or_past}
-use Rattle.std.proofs.lemmas.Option.{slice_get_within}
 use Rattle.base_laws.specs.laws.Items.{all_listed}
 use Rattle.base_laws.specs.laws.Numbers.{differs}
 use Rattle.base_laws.specs.laws.Truth.{all_three, other_fails, all_four}
@@ -23,14 +21,14 @@ use Rattle.sched_model.specs.declared.types.Slot.TheVariants.{Absent, Present}
 use Rattle.sched_model.specs.Words.{◌implies◌, is_between, passes, placewise}
 use Rattle.sched_model.specs.Bounds.{is_moment, is_amount, is_number, is_span_of_moments}
 use Rattle.sched_model.specs.Domain.{fits_def, is_row, are_segments}
-use Rattle.sched_model.specs.Valid.{IsValid, is_interval_def, is_constraint, is_itv}
+use Rattle.sched_model.specs.Valid.{IsValid, is_interval_def, is_constraint}
 use Rattle.sched_model.specs.Data.{Data, state_matrix, matrix_of, distance, horizon}
 use Rattle.sched_model.specs.Value.{is_present, is_here, start_or, end_or, start_of, end_of}
 use Rattle.sched_model.specs.States.{demands}
 use Rattle.sched_model.specs.Sentences.{holds}
-use Rattle.sched_model.specs.laws.Limits.{limits_of, constraint_number}
+use Rattle.sched_model.specs.laws.Limits.{constraint_number}
 use Rattle.region.specs.declared.types.Bounds.{Bounds}
-use Rattle.region.specs.Cells.{Region, unknown, bounds_of, says_present, says_maybe, is_fixed, is_ordered, settled_slots}
+use Rattle.region.specs.Cells.{Region, unknown, bounds_of, says_present, says_maybe, is_fixed, is_ordered}
 use Rattle.region.specs.Looks.{Seen, is_narrowed, est_in, lct_in, est_of, lct_of, lst_of, ect_of}
 use Rattle.region.specs.laws.Lists.{both_true, true_both, placewise-length, all-at}
 use Rattle.region.specs.laws.Pinned.{IsSettledTo, Pinned, pinned, present_is}

@@ -1,7 +1,6 @@
 -- Where a restart is due in a search: not before its stretch is over, and then between two nodes.
-use Rattle.std.specs.Prelude.{◌≡◌, ℕ, ◌*◌, ◌^◌, ◌<◌, ℤ, true, false, not, ◌&&◌, List, [], ◌∷◌, Option, None, is_some, nat_lt, nat_eq}
+use Rattle.std.specs.Prelude.{◌≡◌, ℕ, ◌<◌, ℤ, true, false, not, ◌&&◌, List, ◌∷◌, Option, None, is_some, nat_lt}
 use Rattle.std.proofs.Common.{refl, sym, arith}
-use Rattle.std.proofs.lemmas.Nat.{pow_pos}
 use Rattle.std.proofs.lemmas.Bool.Decides.{nat_tests}
 use Rattle.base_laws.specs.laws.Truth.{never_both}
 use Rattle.sched_model.specs.Words.{is_empty}

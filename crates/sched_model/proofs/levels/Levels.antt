@@ -1,7 +1,5 @@
 -- The test of a level at a moment, and the sum over the parts.
-use Rattle.std.proofs.Common.{◌≡◌, ℕ, ◌+◌, ◌<◌, ◌≤◌, ℤ, pos, ◌+ℤ◌, Bool, true, false, ◌&&◌, List, length, map, drop, get_or, sym, ap, ◌∙◌, arith}
-use Rattle.std.proofs.lemmas.Int.{ints}
-use Rattle.std.proofs.lemmas.List.{at_drop_more, at_drop_all}
+use Rattle.std.proofs.Common.{◌≡◌, ℤ, Bool, true, false, ◌&&◌, List, map, ap, ◌∙◌}
 use Rattle.std.specs.List.{list_all, flat_map}
 use Rattle.sched_base.specs.declared.ids.Cum.{Cum}
 use Rattle.sched_model.specs.declared.types.Part.{Part}
@@ -10,7 +8,6 @@ use Rattle.sched_model.specs.declared.types.Window.{Window}
 use Rattle.sched_model.specs.Data.{Data, parts_of}
 use Rattle.sched_model.specs.Words.{◌implies◌, is_between, total}
 use Rattle.sched_model.specs.Cumulative.{begin_of, changes_of, corners, is_in_window, is_level_at, level_at, shape_at, signed}
-use Rattle.base_laws.specs.laws.Numbers.{regroup}
 
 pub level_by : (m : Data) (a : Assignment) (f : Cum) (w : Window) (lo hi t lo' hi' t' z z' : ℤ) (is : List Part) (b : Bool) → true ≡ is_in_window a w t' → is ≡ parts_of m f
     → z ≡ total (map (λ i. signed i.minus (shape_at a i.shape t')) is) → b ≡ is_between lo' hi' z' → t' ≡ t → lo' ≡ lo → hi' ≡ hi → z' ≡ z → b ≡ is_level_at m a f w lo hi t

@@ -1,13 +1,11 @@
 -- The level of a cumulative function as a sum of changes, and its test at their moments.
-use Rattle.std.proofs.Common.{◌≡◌, inl, inr, ℕ, zero, suc, ◌+◌, ◌<◌, ◌≤◌, ℤ, pos, ◌+ℤ◌, ◌-ℤ◌, ◌≤ℤ◌, ◌<ℤ◌, Bool, true, false, not, ◌&&◌, cond, List, [], ◌∷◌, length, map, take, drop, set, get_or, refl, sym, ap, subst, ◌∙◌, arith}
-use Rattle.std.specs.Prelude.{int_le, int_lt, slice_get}
-use Rattle.std.specs.Ordering.{int_eq, int_cmp, is_lt}
-use Rattle.std.specs.List.{list_all, list_any, swap}
-use Rattle.std.specs.List.Sorted.{IsPermutation}
+use Rattle.std.proofs.Common.{◌≡◌, ℕ, suc, ◌+◌, ◌<◌, ◌≤◌, ℤ, pos, ◌+ℤ◌, ◌-ℤ◌, ◌≤ℤ◌, Bool, true, false, ◌&&◌, cond, List, [], ◌∷◌, length, map, take, drop, get_or, refl, sym, ap, ◌∙◌, arith}
+use Rattle.std.specs.Prelude.{int_le, slice_get}
+use Rattle.std.specs.Ordering.{int_eq}
+use Rattle.std.specs.List.{list_all, list_any}
 use Rattle.std.proofs.lemmas.Int.{ints}
-use Rattle.std.proofs.lemmas.Bool.{cases_eq, or_parts}
-use Rattle.std.proofs.lemmas.List.{at_drop_more, take_more, get_or-set_same, get_or-set_other, length-set}
-use Rattle.std.proofs.lemmas.List.Sorted.{IsPermutation-keeps}
+use Rattle.std.proofs.lemmas.Bool.{or_parts}
+use Rattle.std.proofs.lemmas.List.{at_drop_more}
 use Rattle.sched_model.specs.declared.types.Shape.{Shape}
 use Rattle.sched_model.specs.declared.types.Shape.TheVariants.{Pulse, Step, PulseOf, StepAtStart, StepAtEnd}
 use Rattle.sched_model.specs.declared.types.Part.{Part}
@@ -16,8 +14,8 @@ use Rattle.sched_model.specs.declared.types.Window.{Window}
 use Rattle.sched_model.specs.declared.changes.Change.{Change}
 use Rattle.sched_model.specs.Words.{passes, total}
 use Rattle.sched_model.specs.Value.{is_present, start_of, end_of}
-use Rattle.sched_model.specs.Cumulative.{between, from_on, shape_at, signed}
-use Rattle.sched_model.specs.Changes.{IsInOrder, change, changes_in, keeps, keeps_at, pulse_changes, rise, shape_changes, sum_until}
+use Rattle.sched_model.specs.Cumulative.{shape_at, signed}
+use Rattle.sched_model.specs.Changes.{IsInOrder, changes_in, keeps, keeps_at, rise, shape_changes, sum_until}
 use Rattle.sched_model.specs.laws.Sums.{pulse_until, step_until, until_append, summed, not_at, is_next, sum_more}
 
 present_until : (b minus : Bool) (cs : List Change) (z t : ℤ) → sum_until t cs ≡ signed minus z → sum_until t (cond b cs []) ≡ signed minus (cond b z (pos 0))

@@ -4,7 +4,6 @@ use Rattle.sched_model.specs.declared.types.Expr.{Expr, roll-Expr}
 use Rattle.sched_model.specs.declared.types.Expr.TheOpen.{Expr-F as expr}
 use Rattle.sched_model.specs.declared.types.Objective.{Objective}
 use Rattle.sched_model.specs.Words.{all_of, is_empty}
-use Rattle.sched_model.specs.Ranges.{Ends}
 use Rattle.sched_model.specs.Data.{Data}
 use Rattle.sched_model.specs.Hull.{hull_of}
 use Rattle.sched_model.specs.Rank.{weight}

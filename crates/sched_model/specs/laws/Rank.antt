@@ -1,13 +1,13 @@
 -- The rank of some criteria is their values in one number, which stand in the order of the first that differs.
-use Rattle.std.proofs.Common.{◌≡◌, ℕ, zero, suc, ◌+◌, ◌*◌, ◌<◌, ℤ, pos, negsuc, ◌+ℤ◌, ◌*ℤ◌, ◌≤ℤ◌, Bool, true, false, ◌&&◌, ◌||◌, List, [], ◌∷◌, length, map, refl, sym, ap, ◌∙◌, arith}
+use Rattle.std.proofs.Common.{◌≡◌, ℕ, zero, suc, ◌+◌, ◌*◌, ◌<◌, ℤ, pos, negsuc, ◌+ℤ◌, ◌*ℤ◌, ◌≤ℤ◌, Bool, ◌&&◌, ◌||◌, List, [], ◌∷◌, map, refl, sym, ap, ◌∙◌, arith}
 use Rattle.std.specs.Prelude.{int_lt, nat_lt, nat_eq}
 use Rattle.std.specs.Int.{int_gap}
 use Rattle.std.specs.Ordering.{int_eq}
 use Rattle.std.proofs.lemmas.Bool.Decides.{nat_tests}
 use Rattle.std.proofs.lemmas.Int.{ints}
-use Rattle.std.proofs.Math.IntN.{*ℤ_comm, *ℤ-one, zero-*ℤ, suc_ℤ-*ℤ}
-use Rattle.base_laws.specs.Digits.{size_of, digits}
-use Rattle.base_laws.specs.laws.Digits.{number, AreDigits, AreBases, comes_before, some, below, digits_told, are_digits, number_told, in_order}
+use Rattle.std.proofs.Math.IntN.{zero-*ℤ, suc_ℤ-*ℤ}
+use Rattle.base_laws.specs.Digits.{digits}
+use Rattle.base_laws.specs.laws.Digits.{number, AreDigits, AreBases, comes_before, digits_told, are_digits, number_told, in_order}
 use Rattle.sched_model.specs.Ranges.{Ends, lows, highs}
 use Rattle.sched_model.specs.Rank.{width, weight, comes_first, values_at}
 use Rattle.sched_model.specs.laws.Within.{Within, AllWithin}

@@ -1,6 +1,6 @@
 -- The rank of the criteria of an objective: its value, its hull, the values that it gives back, and that it is better exactly where
 -- the first criterion is that differs.
-use Rattle.std.specs.Prelude.{is_some, int_lt, unwrap_or, ◌+◌, ◌*◌, fold}
+use Rattle.std.specs.Prelude.{is_some, int_lt, unwrap_or, ◌+◌, ◌*◌}
 use Rattle.std.proofs.Common.{◌≡◌, ℕ, ℤ, pos, ◌+ℤ◌, ◌*ℤ◌, ◌≤ℤ◌, Bool, true, false, ◌&&◌, ◌||◌, List, [], ◌∷◌, length, map, Option, Some, None, option_map, option_and_then, cond, refl, sym, ap, subst, ◌∙◌, arith}
 use Rattle.std.specs.Int.{int_max, int_min, int_gap}
 use Rattle.std.specs.Ordering.{int_eq}

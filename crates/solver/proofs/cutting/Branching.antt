@@ -11,8 +11,7 @@ use Rattle.sched_model.specs.Words.{placewise}
 use Rattle.sched_model.specs.Valid.{is_moment}
 use Rattle.sched_model.specs.Data.{Data}
 use Rattle.region.specs.declared.types.Bounds.{Bounds}
-use Rattle.region.specs.declared.types.Guess.{Guess}
-use Rattle.region.specs.declared.types.Guess.TheVariants.{Present, Absent, StartLe, StartGe, EndLe, EndGe}
+use Rattle.region.specs.declared.types.Guess.TheVariants.{Present, StartLe, EndLe}
 use Rattle.region.specs.declared.types.Claim.{Claim}
 use Rattle.region.specs.declared.types.Claim.TheVariants as claim
 use Rattle.region.specs.declared.types.Topic.TheVariants.{One}
@@ -23,7 +22,7 @@ use Rattle.region.specs.Guesses.{admits_topic, is_ready}
 use Rattle.region.specs.Looks.{IsRegionOf, is_narrowed}
 use Rattle.region.specs.laws.Lists.{both_true, true_both}
 use Rattle.solver.specs.Cuts.{IsMiddle}
-use Rattle.solver.specs.code.Searching.{Cuts, CutsRegion, is_ordered}
+use Rattle.solver.specs.code.Searching.{Cuts, is_ordered}
 
 -- half, rounded down
 half_below : (z : ℤ) → (int_div_euclid z (pos 2) +ℤ int_div_euclid z (pos 2)) ≤ℤ z

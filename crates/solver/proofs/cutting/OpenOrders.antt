@@ -8,21 +8,17 @@ use Rattle.std.proofs.lemmas.Bool.{or_right}
 use Rattle.sched_base.specs.declared.ids.Itv.{Itv}
 use Rattle.sched_base.specs.declared.ids.Seq.{Seq}
 use Rattle.sched_model.specs.declared.types.SequenceDef.{SequenceDef}
-use Rattle.sched_model.specs.Words.{◌implies◌}
 use Rattle.sched_model.specs.Data.{Data, same, has}
 use Rattle.sched_model.specs.Valid.{IsValid, is_itv, are_distinct, is_sequence_def}
 use Rattle.region.specs.declared.types.Bounds.{Bounds}
-use Rattle.region.specs.declared.types.Guess.TheVariants.{Before}
 use Rattle.region.specs.declared.types.Presence.{Presence}
 use Rattle.region.specs.declared.types.Presence.TheVariants as presence
-use Rattle.region.specs.declared.types.Topic.TheVariants.{Two}
-use Rattle.region.specs.Orders.{SequenceCells, order_in, says_unknown}
-use Rattle.region.specs.Cells.{Region, unknown, no_sequence, bounds_of, cells_of, is_there, is_known_order, says_present, says_absent}
-use Rattle.region.specs.Guesses.{admits_topic, is_open_between, is_ready, may_be_there}
+use Rattle.region.specs.Orders.{SequenceCells}
+use Rattle.region.specs.Cells.{Region, unknown, no_sequence, cells_of, says_present, says_absent}
 use Rattle.region.specs.Looks.{IsRegionOf}
 use Rattle.region.specs.laws.Lists.{both_true, true_both}
 use Rattle.region.specs.laws.Narrowing.{as_many}
-use Rattle.solver.specs.code.Searching.{CutsRegion, IsLater, AreMembers, is_other}
+use Rattle.solver.specs.code.Searching.{IsLater, AreMembers, is_other}
 
 -- one that is there is an interval of the region, and may be there
 beyond : (bs : List Bounds) (n : ℕ) → says_present (get_or bs n unknown).presence ≡ true → n < length bs

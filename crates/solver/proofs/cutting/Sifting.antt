@@ -1,6 +1,6 @@
 -- Exchanging two of the first places of a list, and leaving the last of them out.
-use Rattle.std.proofs.Common.{◌≡◌, ℕ, zero, suc, ◌+◌, ◌-◌, ◌<◌, ◌≤◌, Bool, true, false, List, [], ◌∷◌, length, All, get_or, set, refl, sym, ap, subst, ◌∙◌, arith, true≢false}
-use Rattle.std.specs.Prelude.{nat_eq, slice_index_or, ◌++◌, Option, Some, None, IfNone}
+use Rattle.std.proofs.Common.{◌≡◌, ℕ, zero, suc, ◌+◌, ◌-◌, ◌<◌, ◌≤◌, Bool, true, false, List, [], ◌∷◌, length, All, get_or, set, refl, sym, ap, subst, ◌∙◌, arith}
+use Rattle.std.specs.Prelude.{nat_eq, ◌++◌, Option, Some, None, IfNone}
 use Rattle.std.specs.List.{swap, list_all, range_with_len}
 use Rattle.std.proofs.lemmas.Bool.Decides.{nat_tests}
 use Rattle.std.proofs.lemmas.List.Edits.{length-swap, swap_is, Swapped, swapped_from_swap}
@@ -9,9 +9,9 @@ use Rattle.std.proofs.lemmas.List.{length-map}
 use Rattle.std.proofs.lemmas.List.FromFn.{get_or-range_with_len, length-range_with_len}
 use Rattle.sched_model.specs.Data.{Data}
 use Rattle.region.specs.declared.types.Bounds.{Bounds}
-use Rattle.region.specs.Cells.{Region, unknown, bounds_of, is_fixed, root, root_bounds}
+use Rattle.region.specs.Cells.{Region, unknown, is_fixed, root, root_bounds}
 use Rattle.region.specs.laws.Lists.{true_both}
-use Rattle.solver.specs.code.OpenIntervals.{OpenList, IsAmong, HoldsOpen, IsOpenList, Sifts, Leaves}
+use Rattle.solver.specs.code.OpenIntervals.{OpenList, IsAmong, IsOpenList, Leaves}
 
 -- a test passes at each place
 all_at : (bs : List Bounds) → ((n : ℕ) → n < length bs → is_fixed (get_or bs n unknown) ≡ true) → list_all is_fixed bs ≡ true

@@ -1,6 +1,6 @@
 -- What the search holds where it writes no log: at another best value, with an engine that was elsewhere, and back at the
 -- first region that was saved.
-use Rattle.std.proofs.Common.{◌≡◌, ℕ, ◌+◌, ◌<◌, ◌≤◌, ℤ, false, List, [], ◌∷◌, ◌++◌, length, Option, Some, None, Result, Ok, Err, refl, sym, ap, subst, ◌∙◌, arith}
+use Rattle.std.proofs.Common.{◌≡◌, ℕ, ◌+◌, ◌<◌, ◌≤◌, ℤ, List, [], ◌∷◌, ◌++◌, length, Option, Some, None, Result, Ok, Err, refl, sym, ap, subst, ◌∙◌, arith}
 use Rattle.std.specs.Prelude.{IfSome, IfNone, OnOk}
 use Rattle.std.specs.List.{All}
 use Rattle.std.proofs.lemmas.List.{same_from_push}
@@ -20,7 +20,7 @@ use Rattle.prop_energy.specs.code.Bounds.{IsFor as AreBounds}
 use Rattle.solver.specs.declared.mark.Mark.{Mark}
 use Rattle.solver.specs.declared.state.Search.{Search}
 use Rattle.solver.specs.code.OpenIntervals.{OpenList, HoldsOpen}
-use Rattle.solver.specs.code.Marks.{IsMarked, AreMarked}
+use Rattle.solver.specs.code.Marks.{AreMarked}
 use Rattle.solver.specs.code.Searching.{IsHolding, IsReady, IsResting, IsUnmoved, HasValue}
 use Rattle.solver.proofs.cutting.Marking.{marked_pop, none_saved, Popped}
 

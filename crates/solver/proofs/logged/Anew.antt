@@ -1,12 +1,12 @@
 -- The line that begins anew, and the log with it.
-use Rattle.std.proofs.Common.{◌≡◌, ℕ, ◌<◌, true, false, List, [], ◌∷◌, Option, Result, Ok, Err, refl, subst, sym, arith}
+use Rattle.std.proofs.Common.{◌≡◌, ℕ, ◌<◌, true, List, [], ◌∷◌, Option, Result, Ok, Err, refl, subst, sym, arith}
 use Rattle.std.specs.Result.{IsErrAnd}
 use Rattle.std.proofs.lemmas.List.Elements.{All-cons, All-nil}
 use Rattle.sched_model.specs.Data.{Data}
 use Rattle.region.specs.Cells.{Region, root}
 use Rattle.kernel.specs.declared.types.Found.{Found}
 use Rattle.kernel.specs.declared.types.Line.TheVariants.{Restart}
-use Rattle.kernel.specs.Steps.{LogState, Steps, done, more}
+use Rattle.kernel.specs.Steps.{Steps, done, more}
 use Rattle.kernel.specs.laws.Derives.{waiting_at}
 use Rattle.logtext.specs.Extra.{log_numbers, log_valid}
 use Rattle.logtext.specs.Lifted.{refutes_logged}

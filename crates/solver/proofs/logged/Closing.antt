@@ -1,11 +1,10 @@
 -- The line that ends a node, what it steps to, and the log with it.
 use Rattle.std.proofs.Common.{◌≡◌, ℕ, ◌+◌, ℤ, Bool, true, not, ◌&&◌, List, [], ◌∷◌, ◌++◌, Option, Some, None, Ok, refl, sym, ap, subst, ◌∙◌, true≢false}
-use Rattle.std.specs.Prelude.{IfSome, is_some, option_map}
+use Rattle.std.specs.Prelude.{IfSome, is_some}
 use Rattle.sched_model.specs.declared.types.Assignment.{Assignment}
-use Rattle.sched_model.specs.declared.types.Objective.{Objective}
 use Rattle.sched_model.specs.Words.{passes_if_any}
 use Rattle.sched_model.specs.Data.{Data}
-use Rattle.sched_model.specs.Solution.{is_solution, is_better, objective_of}
+use Rattle.sched_model.specs.Solution.{is_solution, is_better}
 use Rattle.region.specs.declared.types.Guess.{Guess}
 use Rattle.region.specs.Cells.{Region, is_settled, allows}
 use Rattle.region.specs.Guesses.{splits, with_guess, with_fact}
@@ -13,7 +12,7 @@ use Rattle.region.specs.Looks.{Refuting, seen_at}
 use Rattle.region.specs.laws.Lists.{true_both}
 use Rattle.kernel.specs.declared.types.Witness.{Witness}
 use Rattle.kernel.specs.declared.types.Line.{Line}
-use Rattle.kernel.specs.declared.types.Line.TheVariants.{Derive, Fail, Split, Sol}
+use Rattle.kernel.specs.declared.types.Line.TheVariants.{Fail, Split, Sol}
 use Rattle.kernel.specs.declared.types.Found.{Found}
 use Rattle.kernel.specs.declared.types.StepFault.{StepFault}
 use Rattle.kernel.specs.declared.types.StepFault.TheVariants.{NotRefuted, NotSplitting, NotSolution}

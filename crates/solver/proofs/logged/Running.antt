@@ -1,7 +1,7 @@
 -- Where a search under way stops, or has ended, in whatever stretch.
-use Rattle.std.proofs.Common.{◌≡◌, ℕ, ◌<◌, ◌+◌, ◌^◌, Bool, true, Result, Ok, Err, sym, subst, arith}
+use Rattle.std.proofs.Common.{◌≡◌, ℕ, ◌<◌, ◌^◌, Bool, true, Result, Ok, Err, sym, subst}
 use Rattle.std.specs.Result.{IsErrAnd}
-use Rattle.std.specs.Prelude.{◌&&◌, nat_lt, nat_eq, ◌*◌}
+use Rattle.std.specs.Prelude.{nat_lt, nat_eq, ◌*◌}
 use Rattle.std.proofs.lemmas.Bool.{and_parts, ltb-true}
 use Rattle.sched_model.specs.Data.{Data}
 use Rattle.engine.specs.declared.lines.Lines.{Ghosts as LineGhosts}

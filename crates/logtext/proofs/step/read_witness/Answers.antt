@@ -1,11 +1,6 @@
-use Rattle.std.proofs.Common.{◌≡◌, ◌∷◌, ap, refl, rules, sym, ◌∙◌}
-use Rattle.refute_basic.specs.Witness.{numbers_of, is_valid}
-use Rattle.refute_hier.specs.Witness.{numbers_of as hier_numbers, is_valid as is_valid_hier}
-use Rattle.refute_seq.specs.Witness.{numbers_of as seq_numbers, is_valid as is_valid_seq}
-use Rattle.refute_cumul.specs.Witness.{numbers_of as cumul_numbers, is_valid as is_valid_cumul}
-use Rattle.refute_state.specs.Witness.{numbers_of as state_numbers, is_valid as is_valid_state}
-use Rattle.logtext.specs.Spelling.{basic_kinds, hier_kinds, seq_kinds, cumul_kinds, state_kinds}
-use Rattle.logtext.proofs.Witnesses.{no_word, seq_fails, cumul_fails, state_fails, never}
+use Rattle.std.proofs.Common.{◌∷◌, ap, sym, ◌∙◌}
+use Rattle.refute_basic.specs.Witness.{is_valid}
+use Rattle.logtext.proofs.Witnesses.{no_word, seq_fails}
 use Rattle.logtext.proofs.step.read_witness.Goals as goal
 
 pub returns-in_default : goal.returns-in_default

@@ -1,4 +1,4 @@
-use Rattle.std.proofs.Common.{rules, ◌≡◌, ◌∙◌, sym, ap, subst, ◌+◌, ◌<◌, Some, drop, to_z, of_z}
+use Rattle.std.proofs.Common.{rules, ◌≡◌, ◌∙◌, sym, ap, subst, ◌+◌, ◌<◌, drop, to_z, of_z}
 use Rattle.std.specs.Prelude.{nat_abs}
 use Rattle.std.specs.Int.{w64, int_gap}
 use Rattle.std.proofs.lemmas.List.{take_rest}

@@ -1,4 +1,4 @@
-use Rattle.std.proofs.Common.{◌≡◌, ◌∙◌, ◌∷◌, ◌++◌, sym, ap, length, not, Some, is_some}
+use Rattle.std.proofs.Common.{◌∙◌, sym, ap, length, not, is_some}
 use Rattle.sched_model.specs.declared.types.Expr.{roll-Expr}
 use Rattle.sched_model.specs.declared.types.Expr.TheOpen.{Expr-F as expr}
 use Rattle.sched_model.specs.code.Ranks.{weights_of, by_weights}

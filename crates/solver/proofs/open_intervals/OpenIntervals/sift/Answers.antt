@@ -1,4 +1,4 @@
-use Rattle.std.proofs.Common.{rules, ◌≡◌, true, sym, subst}
+use Rattle.std.proofs.Common.{◌≡◌, true, sym, subst}
 use Rattle.solver.specs.code.Searching.{is_ordered}
 use Rattle.solver.proofs.cutting.Branching.{ordered_at}
 use Rattle.solver.proofs.cutting.Sifting.{index_below, counts_in, counts_out, fewer_left, nearer, none_then, none_open}

@@ -1,4 +1,4 @@
-use Rattle.std.proofs.Common.{◌≡◌, Option, Some, None, subst}
+use Rattle.std.proofs.Common.{◌≡◌, Some, None, subst}
 use Rattle.region.specs.declared.types.Guess.{Guess as GuessData}
 use Rattle.kernel.specs.declared.types.Line.TheVariants as line_is
 use Rattle.kernel.specs.Steps.{best_of}

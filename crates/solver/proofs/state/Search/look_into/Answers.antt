@@ -1,6 +1,5 @@
-use Rattle.std.proofs.Common.{◌≡◌, ◌<◌, length, sym, ap, subst, ◌∙◌, arith}
+use Rattle.std.proofs.Common.{length, sym, ap, subst, ◌∙◌, arith}
 use Rattle.std.proofs.lemmas.List.{length_push}
-use Rattle.region.specs.Guesses.{turned}
 use Rattle.region.specs.code.Held.{Held}
 use Rattle.kernel.specs.Steps.{best_of}
 use Rattle.solver.specs.declared.state.Search.{Search}
