@@ -12,7 +12,7 @@ use Rattle.read_back.specs.Trees.{int_tree}
 use Rattle.read_back.specs.Says.{Says, Chunk, Chunk as chunk, chunk_bytes, chunk_words, is_sign, is_chunk}
 use Rattle.read_back.proofs.Numbers.{small_literal}
 use Rattle.read_back.proofs.Joined.{meet, says_joined, nothing, a_chunk}
-use Rattle.read_back.proofs.Edges.{Free, Signs, meets, fits_front, fits_back, begins, ends, begins_more, ends_more, seam}
+use Rattle.read_back.proofs.Edges.{Edge, Edge.{Free, Signs, Words}, meets, fits_front, fits_back, begins, ends, begins_more, ends_more, seam}
 
 -- the text says the words, and its ends may stand beside these
 pub record Joins (front back : Edge) (text : List ℕ) (words : List Word) : Type 0 where

@@ -38,7 +38,7 @@ use Rattle.read_back.specs.Says as says
 use Rattle.read_back.specs.Says.{Says, Chunk as chunk, is_chunk}
 use Rattle.read_back.proofs.expr.Folds.{Known, folded, by_levels, is_tree, is_written_tree}
 use Rattle.read_back.proofs.Spelt.{interval_told, are_told}
-use Rattle.read_back.proofs.Edges.{Free, Signs}
+use Rattle.read_back.proofs.Edges.{Edge.{Free, Signs, Words}}
 use Rattle.read_back.proofs.expr.Joined.{Joins, join, join_three, join_may, said_name, said_sign, said_int, loose_front, loose_back, AllJoin, between_join, round_join, square_join, call_join, MayJoin, none_join, some_join}
 
 -- an expression: whole and as an operand it may stand beside signs; a later operand begins with its own sign

@@ -6,7 +6,7 @@ use Rattle.cpo_text.specs.Words.{Word}
 use Rattle.read_back.specs.Says.{Says, Chunk, chunk_bytes, chunk_words, is_chunk, is_apart}
 use Rattle.read_back.specs.Says.Chunk.{sign, blank}
 use Rattle.read_back.proofs.Joined.{meet, says_joined, a_chunk}
-use Rattle.read_back.proofs.Edges.{fits_front, fits_back, free_behind, free_before}
+use Rattle.read_back.proofs.Edges.{Edge.{Free}, fits_front, fits_back, free_behind, free_before}
 
 -- it may stand between any two chunks
 pub record IsNeutral (c : Chunk) : Type 0 where
