@@ -8,6 +8,7 @@ ghost use Rattle.region.specs.Looks.{IsRegionOf, HasNoneOf, Seen};
 ghost use Rattle.region.specs.laws.Pinned.{IsSettledTo};
 ghost use Rattle.refute_state.specs.laws.Canonical.{KeepsStates};
 ghost use Rattle.refute_state.specs.laws.Making.{DemandsAreGrouped};
+ghost use Rattle.refute_state.specs.laws.Longest.{SegmentsAreLongest};
 ghost use Rattle.refute_state.specs.OnState.{refutes};
 ghost use Rattle.refute_state.specs.Named.{named};
 ghost use Rattle.refute_state.specs.code.Canonical.{settled_segments, canonical};
@@ -134,4 +135,10 @@ pub fn demands_are_grouped()
     ensures { DemandsAreGrouped }
 {
     refute_state::demands_are_grouped();
+}
+
+pub fn segments_are_longest()
+    ensures { SegmentsAreLongest }
+{
+    refute_state::segments_are_longest();
 }

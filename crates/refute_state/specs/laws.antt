@@ -4,6 +4,7 @@ pub mod Facts
 pub mod Grouping
 pub mod Running
 pub mod Making
+pub mod Longest
 pub mod Serving
 pub mod Settled
 pub mod Canonical

@@ -19,7 +19,7 @@ mod witness;
 
 pub use demand::{Demand, demand_at, demand_gap, demand_of, same_state, some_state};
 pub use gathered::demands_of;
-pub use laws::demands_are_grouped;
+pub use laws::{demands_are_grouped, segments_are_longest};
 pub use on_state::OnState;
 pub use settled::canonical;
 pub use state::state_pair;
