@@ -12,12 +12,12 @@ use Rattle.textline.specs.Lines.{Bytes}
 use Rattle.svg_page.specs.Page.{IsPage}
 use Rattle.given_files.specs.declared.stop.GivenStop.{GivenStop}
 use Rattle.given_files.specs.declared.stop.GivenStop.TheVariants as stop
-use Rattle.given_files.specs.Files.{FileDeserves}
+use Rattle.given_files.specs.Files.{FileDeserves, WithinBoth}
 use Rattle.given_files.specs.Told.{Reports, fault_line, memory_line, refusal_line, unfit_line}
 use Rattle.given_files.specs.code.Reading.{OnlyReads}
 use Rattle.given_files.specs.code.Telling.{EndsStopped}
 use Rattle.given_files.specs.code.Testing.{OnlyTests, TestsFile}
-use Rattle.given_files.specs.laws.Endings.{tells_on}
+use Rattle.given_files.specs.laws.Endings.{tells_on, OnlyEnds, out_told, err_of, ended_only, whole_only}
 use Rattle.given_files.specs.laws.Verified.{both_only, verifies}
 use Rattle.gantt.specs.declared.ended.Ended.{Ended}
 use Rattle.gantt.specs.declared.ended.Ended.TheVariants as end
@@ -65,23 +65,10 @@ page_refused (Err e) model schedule old s t refused reads kept tested = subst (�
 
 -- How a run ended.
 
-abbrev OnlyEnds : State → State → Type 0
-OnlyEnds old s = s ≡ record old { model = s.model; schedule = s.schedule; out = s.out; faults = s.faults }
-
-abbrev OnlyTold : State → State → Type 0
-OnlyTold s new = new ≡ record s { err = new.err; faults = new.faults }
-
-err_of : (old s : State) → s ≡ record old { model = s.model; schedule = s.schedule; out = s.out; faults = s.faults } → s.err ≡ old.err
-err_of old s is = ap (λ (x : State). x.err) is
-
-whole_only : (old s new : State) → OnlyEnds old s → OnlyTold s new → new ≡ record old { model = new.model; schedule = new.schedule; out = new.out; err = new.err; faults = new.faults }
-whole_only old s new first told =
-    let is : new ≡ record old { model = s.model; schedule = s.schedule; out = s.out; err = new.err; faults = new.faults } = told ∙ ap (λ (x : State). record x { err = new.err; faults = new.faults }) first in
-    subst (λ (x : State). x ≡ record old { model = x.model; schedule = x.schedule; out = x.out; err = x.err; faults = x.faults }) (sym is) refl
-
-pub drawn : (model schedule : Bytes) (u : Unit {0}) (old new : State) → TriesDraw model schedule (Ok u) old new → DrawPromise model schedule end.Done old new
-drawn model schedule u old new tries = record {
-  only = subst (λ (x : State). x ≡ record old { model = x.model; schedule = x.schedule; out = x.out; err = x.err; faults = x.faults }) (sym tries.only) refl;
+pub drawn : (model schedule : Bytes) (u : Unit {0}) (old new : State) → TriesDraw model schedule (Ok u) old new → WithinBoth model schedule old new → DrawPromise model schedule end.Done old new
+drawn model schedule u old new tries within = record {
+  only = ended_only old new tries.only;
+  within = within;
   ends = (tries.tried.0, err_of old new tries.only, tries.tried.1);
 }
 
@@ -91,21 +78,20 @@ part_same model schedule old s new out part = elim part as (λ w. DrawsPart mode
   | inr some ↦ inr (some.0, some.1, some.2, some.3, some.4, (some.5.0, some.5.1, out ∙ some.5.2))
 ]
 
-out_told : (s new : State) → OnlyTold s new → new.out ≡ s.out
-out_told s new told = ap (λ (x : State). x.out) told
-
-no_memory : (model schedule : Bytes) (old s new : State) → OnlyEnds old s → old.faults ≤ s.faults → s.out ≡ old.out → Reports memory_line s new → DrawPromise model schedule end.NoMemory old new
-no_memory model schedule old s new first later out told = record {
+no_memory : (model schedule : Bytes) (old s new : State) → WithinBoth model schedule old new → OnlyEnds old s → old.faults ≤ s.faults → s.out ≡ old.out → Reports memory_line s new → DrawPromise model schedule end.NoMemory old new
+no_memory model schedule old s new within first later out told = record {
   only = whole_only old s new first told.only;
+  within = within;
   ends = (out_told s new told.only ∙ out, tells_on memory_line old s new (err_of old s first) later told);
 }
 
 ended_as : (model schedule : Bytes) (e ended : Ended) (old new : State) → ended ≡ e → DrawPromise model schedule e old new → DrawPromise model schedule ended old new
 ended_as model schedule e ended old new is promise = subst (λ x. DrawPromise model schedule x old new) (sym is) promise
 
-pub stopped : (model schedule : Bytes) (why : GivenStop) (ended : Ended) (old s new : State) → TriesDraw model schedule (Err why) old s → EndsStopped ending_of_stop why ended s new → DrawPromise model schedule ended old new
-stopped model schedule stop.Fault ended old s new tries ends = ended_as model schedule end.Fault ended old new ends.0 (record {
+pub stopped : (model schedule : Bytes) (why : GivenStop) (ended : Ended) (old s new : State) → WithinBoth model schedule old new → TriesDraw model schedule (Err why) old s → EndsStopped ending_of_stop why ended s new → DrawPromise model schedule ended old new
+stopped model schedule stop.Fault ended old s new within tries ends = ended_as model schedule end.Fault ended old new ends.0 (record {
   only = whole_only old s new tries.only ends.1.only;
+  within = within;
   ends = (
     (let rose = tries.tried.0 in let later = ends.1.later in omega (arith, rose, later)),
     tries.tried.1,
@@ -113,18 +99,20 @@ stopped model schedule stop.Fault ended old s new tries ends = ended_as model sc
     tells_on fault_line old s new (err_of old s tries.only) tries.later ends.1,
   );
 })
-stopped model schedule stop.NoMemory ended old s new tries ends = ended_as model schedule end.NoMemory ended old new ends.0 (no_memory model schedule old s new tries.only tries.later tries.tried ends.1)
-stopped model schedule (stop.ModelRefused r) ended old s new tries ends = elim ends as (λ w. DrawPromise model schedule ended old new) [
+stopped model schedule stop.NoMemory ended old s new within tries ends = ended_as model schedule end.NoMemory ended old new ends.0 (no_memory model schedule old s new within tries.only tries.later tries.tried ends.1)
+stopped model schedule (stop.ModelRefused r) ended old s new within tries ends = elim ends as (λ w. DrawPromise model schedule ended old new) [
   | inl told ↦ ended_as model schedule end.ModelRefused ended old new told.0 (record {
     only = whole_only old s new tries.only told.1.only;
+    within = within;
     ends = (out_told s new told.1.only ∙ tries.tried.0, (r, tries.tried.1, tells_on (refusal_line r) old s new (err_of old s tries.only) tries.later told.1));
   })
-  | inr none ↦ ended_as model schedule end.NoMemory ended old new none.0 (no_memory model schedule old s new tries.only tries.later tries.tried.0 none.1)
+  | inr none ↦ ended_as model schedule end.NoMemory ended old new none.0 (no_memory model schedule old s new within tries.only tries.later tries.tried.0 none.1)
 ]
-stopped model schedule (stop.ScheduleRefused r) ended old s new tries ends = elim ends as (λ w. DrawPromise model schedule ended old new) [
+stopped model schedule (stop.ScheduleRefused r) ended old s new within tries ends = elim ends as (λ w. DrawPromise model schedule ended old new) [
   | inl told ↦ ended_as model schedule end.ScheduleRefused ended old new told.0 (record {
     only = whole_only old s new tries.only told.1.only;
+    within = within;
     ends = (out_told s new told.1.only ∙ tries.tried.0, (r, tries.tried.1, tells_on (unfit_line r) old s new (err_of old s tries.only) tries.later told.1));
   })
-  | inr none ↦ ended_as model schedule end.NoMemory ended old new none.0 (no_memory model schedule old s new tries.only tries.later tries.tried.0 none.1)
+  | inr none ↦ ended_as model schedule end.NoMemory ended old new none.0 (no_memory model schedule old s new within tries.only tries.later tries.tried.0 none.1)
 ]

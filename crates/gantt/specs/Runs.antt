@@ -9,7 +9,7 @@ use Rattle.cpo_elab.specs.Answers.Answer.{Refused}
 use Rattle.textline.specs.Lines.{Bytes}
 use Rattle.svg_page.specs.Page.{IsPage}
 use Rattle.given_files.specs.declared.stop.ScheduleRefusal.{ScheduleRefusal}
-use Rattle.given_files.specs.Files.{HasFile, FileDeserves}
+use Rattle.given_files.specs.Files.{HasFile, FileDeserves, WithinBoth}
 use Rattle.given_files.specs.Schedules.{IsVerified, RefusalDue}
 use Rattle.given_files.specs.Told.{Tells, Reports, fault_line, memory_line, refusal_line, unfit_line}
 use Rattle.gantt.specs.declared.ended.Ended.{Ended}
@@ -42,6 +42,8 @@ DrawEnds model schedule end.Usage old new = ⊥
 pub record DrawPromise (model schedule : Bytes) (result : Ended) (old new : State) : Type 0 where
   -- nothing but these has changed; no log is opened or created
   pub only : new ≡ record old { model = new.model; schedule = new.schedule; out = new.out; err = new.err; faults = new.faults }
+  -- however the run ends
+  pub within : WithinBoth model schedule old new
   pub ends : DrawEnds model schedule result old new
 
 -- words that aren't two only get their line

@@ -1,4 +1,5 @@
 ghost use Rattle.std.specs.Prelude.{◌≡◌};
+ghost use Rattle.given_files.specs.Files.{WithinModel, WithinSchedule};
 ghost use Rattle.gantt.specs.code.Tries.{TriesDraw};
 ghost use Rattle.gantt.specs.Runs.{DrawPromise};
 
@@ -16,7 +17,9 @@ fn draw_file<D: Desk>(
     name: &str,
     schedule: &str,
 ) -> Result<(), GivenStop>
-    ensures { TriesDraw name.now schedule.now result (D.state desk.old) (D.state desk.new) }
+    ensures model { WithinModel name.now (D.state desk.old) (D.state desk.new) }
+    ensures schedule { WithinSchedule schedule.now (D.state desk.old) (D.state desk.new) }
+    ensures tries { TriesDraw name.now schedule.now result (D.state desk.old) (D.state desk.new) }
 {
     let model = read_file(alloc, desk, name)?;
     let a = test_file(alloc, desk, &model, schedule)?;

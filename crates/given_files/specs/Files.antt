@@ -45,3 +45,7 @@ WithinModel name old new = (new.model ≡ old.model) ⊎ ReadsModel name old new
 
 abbrev pub WithinSchedule : Bytes → State → State → Type 0
 WithinSchedule name old new = (new.schedule ≡ old.schedule) ⊎ ReadsSchedule name old new
+
+-- neither of both files was read beyond its bound
+abbrev pub WithinBoth : Bytes → Bytes → State → State → Type 0
+WithinBoth model schedule old new = WithinModel model old new × WithinSchedule schedule old new

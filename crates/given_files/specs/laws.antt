@@ -1,3 +1,4 @@
 pub mod Endings
+pub mod Opened
 pub mod Verified
 pub mod Within

@@ -11,7 +11,7 @@ use std::alloc::Global;
 const MODEL_BYTES: usize = 16_777_217;
 
 /// The bytes of the model's file, at most `MODEL_BYTES` of them.
-#[tactic(auto, using(crate::proofs::Within::model_unopened, crate::proofs::Within::model_within))]
+#[tactic(auto, using(crate::specs::laws::Opened::model_unopened, crate::specs::laws::Opened::model_within))]
 fn fetch<D: Desk>(alloc: Global, desk: &mut D, name: &str) -> Result<List<u8>, GivenStop>
     ensures only { OnlyReads (D.state desk.old) (D.state desk.new) }
     ensures within { WithinModel name.now (D.state desk.old) (D.state desk.new) }

@@ -13,7 +13,7 @@ use std::alloc::Global;
 const MOST_BYTES: usize = 67_108_864;
 
 /// The bytes of the schedule's file, one more than it may have at most.
-#[tactic(auto, using(crate::proofs::Within::schedule_unopened, crate::proofs::Within::schedule_within))]
+#[tactic(auto, using(crate::specs::laws::Opened::schedule_unopened, crate::specs::laws::Opened::schedule_within))]
 fn fetch<D: Desk>(alloc: Global, desk: &mut D, name: &str) -> Result<List<u8>, GivenStop>
     ensures only { OnlyTests (D.state desk.old) (D.state desk.new) }
     ensures within { WithinSchedule name.now (D.state desk.old) (D.state desk.new) }

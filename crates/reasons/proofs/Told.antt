@@ -22,14 +22,15 @@ use Rattle.given_files.specs.Told.{fault_line, memory_line}
 use Rattle.given_files.specs.code.Reading.{OnlyReads}
 use Rattle.given_files.specs.code.Telling.{EndsStopped}
 use Rattle.given_files.specs.code.Testing.{TestsFile}
-use Rattle.given_files.specs.laws.Endings.{tells_on}
+use Rattle.given_files.specs.laws.Endings.{tells_on, err_of, ended_only, whole_only}
+use Rattle.given_files.specs.laws.Within.{SameSlots, written_slots, model_on, schedule_on, told_slots}
 use Rattle.reasons.specs.declared.ended.Ended.{Ended}
 use Rattle.reasons.specs.declared.ended.Ended.TheVariants as end
 use Rattle.reasons.specs.declared.explaining.Explained.{Explained}
-use Rattle.reasons.specs.Runs.{HoldsText, Explains, WhyEnds, WhyPromise, TellsPart}
+use Rattle.reasons.specs.Runs.{HoldsText, Explains, WhyEnds, WhyPromise, WithinFiles, TellsPart}
 use Rattle.reasons.specs.Texts.{right_text}
 use Rattle.reasons.specs.code.Ended.{ending_of_stop}
-use Rattle.reasons.specs.code.Tries.{ExplainTried, FetchesText, FindsOf, OfModel, OfRight, OfSchedule, OfStop, OnlyLooks, Tested, TriesWhy, WhyTried}
+use Rattle.reasons.specs.code.Tries.{ExplainTried, FetchesText, FindsOf, OfModel, OfRight, OfSchedule, OfStop, OnlyLooks, PrintsIt, Tested, TriesWhy, WhyTried}
 
 -- What a file's bytes are, and what follows of them.
 
@@ -162,21 +163,33 @@ module _ (model : Bytes) (schedule : Option Bytes) (old t : State) (looks : Only
   not_told (stop.ModelRefused r) tried = absurd tried
   not_told (stop.ScheduleRefused r) tried = absurd tried
 
+  pub print_told : (x : Explained) (r : Result Ended GivenStop) (w : State) → ExplainTried model schedule (Ok x) old t → PrintsIt x r t w → TriesWhy model schedule r old w
+  print_told x (Ok e) w tried prints = printed x e prints.1.0 w tried prints.0 prints.1.1
+  print_told x (Err stop.Fault) w tried prints = half_printed x prints.0 w tried prints.1
+  print_told x (Err stop.NoMemory) w tried prints = absurd prints
+  print_told x (Err (stop.ModelRefused r)) w tried prints = absurd prints
+  print_told x (Err (stop.ScheduleRefused r)) w tried prints = absurd prints
+
+-- What was read stays within its bounds.
+
+print_slots : (x : Explained) (r : Result Ended GivenStop) (t w : State) → PrintsIt x r t w → SameSlots t w
+print_slots x (Ok e) t w prints = written_slots x.text (Ok prints.1.0) t w prints.1.1
+print_slots x (Err stop.Fault) t w prints = written_slots x.text (Err prints.0) t w prints.1
+print_slots x (Err stop.NoMemory) t w prints = absurd prints
+print_slots x (Err (stop.ModelRefused r)) t w prints = absurd prints
+print_slots x (Err (stop.ScheduleRefused r)) t w prints = absurd prints
+
+within_on : (model : Bytes) (schedule : Option Bytes) (old t w : State) → SameSlots t w → WithinFiles model schedule old t → WithinFiles model schedule old w
+within_on model None old t w same within = model_on model old t w same.model within
+within_on model (Some schedule) old t w same within = (model_on model old t w same.model within.0, schedule_on schedule old t w same.schedule within.1)
+
+pub within_printed : (model : Bytes) (schedule : Option Bytes) (x : Explained) (r : Result Ended GivenStop) (old t w : State) → WithinFiles model schedule old t → PrintsIt x r t w → WithinFiles model schedule old w
+within_printed model schedule x r old t w within prints = within_on model schedule old t w (print_slots x r t w prints) within
+
+pub within_told : (model : Bytes) (schedule : Option Bytes) (why : GivenStop) (ended : Ended) (old s new : State) → WithinFiles model schedule old s → EndsStopped ending_of_stop why ended s new → WithinFiles model schedule old new
+within_told model schedule why ended old s new within ends = within_on model schedule old s new (told_slots ending_of_stop why ended s new ends) within
+
 -- How a run ended.
-
-abbrev OnlyEnds : State → State → Type 0
-OnlyEnds old s = s ≡ record old { model = s.model; schedule = s.schedule; out = s.out; faults = s.faults }
-
-abbrev OnlyTold : State → State → Type 0
-OnlyTold s new = new ≡ record s { err = new.err; faults = new.faults }
-
-err_same : (old s : State) → OnlyEnds old s → s.err ≡ old.err
-err_same old s is = ap (λ (x : State). x.err) is
-
-all_only : (old s new : State) → OnlyEnds old s → OnlyTold s new → new ≡ record old { model = new.model; schedule = new.schedule; out = new.out; err = new.err; faults = new.faults }
-all_only old s new first told =
-    let is : new ≡ record old { model = s.model; schedule = s.schedule; out = s.out; err = new.err; faults = new.faults } = told ∙ ap (λ (x : State). record x { err = new.err; faults = new.faults }) first in
-    subst (λ (x : State). x ≡ record old { model = x.model; schedule = x.schedule; out = x.out; err = x.err; faults = x.faults }) (sym is) refl
 
 module _ (model : Bytes) (schedule : Option Bytes) where
   by_ending : (e : Ended) (old new : State) → new.err ≡ old.err → WhyTried model schedule (Ok e) old new → WhyEnds model schedule e old new
@@ -187,10 +200,11 @@ module _ (model : Bytes) (schedule : Option Bytes) where
   by_ending end.Fault old new err tried = absurd tried.1.1
   by_ending end.NoMemory old new err tried = absurd tried.1.1
 
-  pub told : (e : Ended) (old new : State) → TriesWhy model schedule (Ok e) old new → WhyPromise model schedule e old new
-  told e old new tries = record {
-    only = subst (λ (x : State). x ≡ record old { model = x.model; schedule = x.schedule; out = x.out; err = x.err; faults = x.faults }) (sym tries.only) refl;
-    ends = by_ending e old new (err_same old new tries.only) tries.tried;
+  pub told : (e : Ended) (old new : State) → TriesWhy model schedule (Ok e) old new → WithinFiles model schedule old new → WhyPromise model schedule e old new
+  told e old new tries within = record {
+    only = ended_only old new tries.only;
+    within = within;
+    ends = by_ending e old new (err_of old new tries.only) tries.tried;
   }
 
   part_kept : (old s new : State) → new.out ≡ s.out → TellsPart model schedule old s → TellsPart model schedule old new
@@ -202,19 +216,21 @@ module _ (model : Bytes) (schedule : Option Bytes) where
   as_told : (e ended : Ended) (old new : State) → ended ≡ e → WhyPromise model schedule e old new → WhyPromise model schedule ended old new
   as_told e ended old new is promise = subst (λ x. WhyPromise model schedule x old new) (sym is) promise
 
-  pub stopped : (why : GivenStop) (ended : Ended) (old s new : State) → TriesWhy model schedule (Err why) old s → EndsStopped ending_of_stop why ended s new → WhyPromise model schedule ended old new
-  stopped stop.Fault ended old s new tries ends = as_told end.Fault ended old new ends.0 (record {
-    only = all_only old s new tries.only ends.1.only;
+  pub stopped : (why : GivenStop) (ended : Ended) (old s new : State) → WithinFiles model schedule old new → TriesWhy model schedule (Err why) old s → EndsStopped ending_of_stop why ended s new → WhyPromise model schedule ended old new
+  stopped stop.Fault ended old s new within tries ends = as_told end.Fault ended old new ends.0 (record {
+    only = whole_only old s new tries.only ends.1.only;
+    within = within;
     ends = (
       (let rose = tries.tried.0 in let later = ends.1.later in omega (arith, rose, later)),
       tries.tried.1,
       part_kept old s new (ap (λ (x : State). x.out) ends.1.only) tries.tried.2,
-      tells_on fault_line old s new (err_same old s tries.only) tries.later ends.1,
+      tells_on fault_line old s new (err_of old s tries.only) tries.later ends.1,
     );
   })
-  stopped stop.NoMemory ended old s new tries ends = as_told end.NoMemory ended old new ends.0 (record {
-    only = all_only old s new tries.only ends.1.only;
-    ends = (ap (λ (x : State). x.out) ends.1.only ∙ tries.tried, tells_on memory_line old s new (err_same old s tries.only) tries.later ends.1);
+  stopped stop.NoMemory ended old s new within tries ends = as_told end.NoMemory ended old new ends.0 (record {
+    only = whole_only old s new tries.only ends.1.only;
+    within = within;
+    ends = (ap (λ (x : State). x.out) ends.1.only ∙ tries.tried, tells_on memory_line old s new (err_of old s tries.only) tries.later ends.1);
   })
-  stopped (stop.ModelRefused r) ended old s new tries ends = absurd tries.tried
-  stopped (stop.ScheduleRefused r) ended old s new tries ends = absurd tries.tried
+  stopped (stop.ModelRefused r) ended old s new within tries ends = absurd tries.tried
+  stopped (stop.ScheduleRefused r) ended old s new within tries ends = absurd tries.tried

@@ -1,5 +1,5 @@
 -- Where something stands in a text, and what is told of a statement there.
-use Rattle.std.specs.Prelude.{◌≡◌, ◌==◌, ℕ, ◌+◌, ◌≤◌, ◌<◌, Bool, true, false, if◌then◌else◌, List, [], ◌∷◌, ◌++◌, length, take, Option, Some, None, position}
+use Rattle.std.specs.Prelude.{◌≡◌, ◌==◌, ℕ, ◌+◌, ◌≤◌, ◌<◌, Bool, true, false, ◌||◌, if◌then◌else◌, List, [], ◌∷◌, ◌++◌, length, take}
 use Rattle.sched_model.specs.Data.{Data}
 use Rattle.cpo_text.specs.declared.text.Form.{Form}
 use Rattle.cpo_text.specs.declared.text.Form.TheVariants.{Tree as Parsed, Number}
@@ -9,6 +9,8 @@ use Rattle.cpo_text.specs.Reads.{IsRead}
 use Rattle.cpo_elab.specs.Answers.Answer.{Accepted}
 use Rattle.cpo_elab.specs.Deserves.{Deserves}
 use Rattle.textline.specs.Lines.{Bytes}
+use Rattle.reasons.specs.declared.places.Spot.{Spot}
+use Rattle.reasons.specs.declared.places.Spot.TheVariants.{Words, Slash, Line, Block, Star, Quoted}
 use Rattle.reasons.specs.declared.words.Word.{Word}
 use Rattle.reasons.specs.declared.sought.Part.{Part}
 
@@ -34,13 +36,35 @@ line_of text at = line_from 1 (take at text)
 abbrev pub column_of : Bytes → ℕ → ℕ
 column_of text at = column_from 1 (take at text)
 
--- up to the first semicolon and with it
-abbrev pub up_to : Option ℕ → Bytes → Bytes
-up_to None text = text
-up_to (Some k) text = take (k + 1) text
+-- where the byte behind one stands: among words, in a comment, or in a quotation, which ends with its line at the latest
+abbrev pub among : ℕ → Spot
+among b = if b == 47 then Slash else if b == 34 then Quoted else Words
 
+abbrev pub next : Spot → ℕ → Spot
+next Words b = among b
+next Slash b = if b == 47 then Line else if b == 42 then Block else among b
+next Line b = if b == 10 then Words else Line
+next Block b = if b == 42 then Star else Block
+next Star b = if b == 47 then Words else if b == 42 then Star else Block
+next Quoted b = if b == 34 || b == 10 then Words else Quoted
+
+-- a semicolon ends a statement where it stands among words
+abbrev pub ends : Spot → ℕ → Bool
+ends Words b = b == 59
+ends Slash b = b == 59
+ends _ b = false
+
+-- how many bytes there are up to the first that ends the statement, and with it, where so many stand before them
+abbrev pub length_from : Spot → ℕ → Bytes → ℕ
+length_from s n [] = n
+length_from s n (b ∷ bs) = if ends s b then n + 1 else length_from (next s b) (n + 1) bs
+
+abbrev pub statement_len : Bytes → ℕ
+statement_len text = length_from Words 0 text
+
+-- the statement with which a text begins, as it stands
 abbrev pub statement_text : Bytes → Bytes
-statement_text text = up_to (position (λ b. b == 59) text) text
+statement_text text = take (statement_len text) text
 
 -- one statement, and it is in the grammar
 abbrev pub is_one : List Reading → Bool

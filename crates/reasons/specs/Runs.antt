@@ -9,7 +9,7 @@ use Rattle.cpo_elab.specs.Answers.Answer.{Accepted, Refused}
 use Rattle.textline.specs.Lines.{Bytes}
 use Rattle.given_files.specs.declared.stop.ScheduleRefusal.{ScheduleRefusal}
 use Rattle.given_files.specs.declared.stop.ScheduleRefusal.TheVariants.{TooLong, Line, Constraint}
-use Rattle.given_files.specs.Files.{IfFile, HasFile, FileDeserves, model_bytes}
+use Rattle.given_files.specs.Files.{IfFile, HasFile, FileDeserves, WithinModel, WithinBoth, model_bytes}
 use Rattle.given_files.specs.Schedules.{IsVerified, RefusalDue}
 use Rattle.given_files.specs.Told.{Tells, Reports, fault_line, memory_line}
 use Rattle.reasons.specs.declared.ended.Ended.{Ended}
@@ -87,9 +87,15 @@ WhyEnds model schedule end.Fault old new = Rose old.faults new.faults × (old.ca
 WhyEnds model schedule end.NoMemory old new = (new.out ≡ old.out) × Tells memory_line old new
 WhyEnds model schedule end.Usage old new = ⊥
 
+-- however a run ends, no file was read beyond its bound, and without a schedule none but the model's
+abbrev pub WithinFiles : Bytes → Option Bytes → State → State → Type 0
+WithinFiles model None old new = WithinModel model old new
+WithinFiles model (Some schedule) old new = WithinBoth model schedule old new
+
 pub record WhyPromise (model : Bytes) (schedule : Option Bytes) (result : Ended) (old new : State) : Type 0 where
   -- nothing but these has changed; no log is opened or created
   pub only : new ≡ record old { model = new.model; schedule = new.schedule; out = new.out; err = new.err; faults = new.faults }
+  pub within : WithinFiles model schedule old new
   pub ends : WhyEnds model schedule result old new
 
 -- words that are neither one nor two only get their line

@@ -1,8 +1,9 @@
 ghost use Rattle.std.specs.Prelude.{◌≡◌, IfOk, IfSome, None, Some};
+ghost use Rattle.given_files.specs.Files.{WithinModel, WithinSchedule};
 ghost use Rattle.given_files.specs.code.Reading.{OnlyReads};
 ghost use Rattle.given_files.specs.code.Testing.{OnlyTests};
 ghost use Rattle.reasons.specs.Explained.{IsStuckAt};
-ghost use Rattle.reasons.specs.Runs.{WhyPromise};
+ghost use Rattle.reasons.specs.Runs.{WhyPromise, WithinFiles};
 ghost use Rattle.reasons.specs.Texts.{right_text};
 ghost use Rattle.reasons.specs.code.Tries.{ExplainTried, FetchesText, OfModel, OfRight, OfSchedule, OfStop, OnlyLooks, PrintsIt, Tested, TriesWhy};
 ghost use Rattle.reasons.specs.declared.ended.Ended.TheVariants as end;
@@ -35,8 +36,10 @@ pub struct Explained {
 }
 
 /// The bytes of the model's file, at most `MODEL_BYTES` of them.
+#[tactic(auto, using(given_files::specs::laws::Opened::model_unopened, given_files::specs::laws::Opened::model_within))]
 fn fetch<D: Desk>(alloc: Global, desk: &mut D, name: &str) -> Result<List<u8>, GivenStop>
     ensures only { OnlyReads (D.state desk.old) (D.state desk.new) }
+    ensures within { WithinModel name.now (D.state desk.old) (D.state desk.new) }
     ensures fetches { FetchesText name.now result (D.state desk.old) (D.state desk.new) }
 {
     desk.open_in(Inlet::Model, name)?;
@@ -123,6 +126,7 @@ fn tested<D: Desk>(
     schedule: &str,
 ) -> Result<Explained, GivenStop>
     ensures only { OnlyTests (D.state desk.old) (D.state desk.new) }
+    ensures within { WithinSchedule schedule.now (D.state desk.old) (D.state desk.new) }
     ensures tested { Tested model.now text.now schedule.now result (D.state desk.old) (D.state desk.new) }
 {
     match test_file(alloc, desk, model, schedule) {
@@ -137,6 +141,7 @@ fn tested<D: Desk>(
 /// What is told of a model.
 fn explained_alone<D: Desk>(alloc: Global, desk: &mut D, name: &str) -> Result<Explained, GivenStop>
     ensures only { OnlyLooks (D.state desk.old) (D.state desk.new) }
+    ensures within { WithinModel name.now (D.state desk.old) (D.state desk.new) }
     ensures tried { ExplainTried name.now None result (D.state desk.old) (D.state desk.new) }
 {
     let bytes = match fetch(alloc, desk, name) {
@@ -161,6 +166,8 @@ fn explained_with<D: Desk>(
     schedule: &str,
 ) -> Result<Explained, GivenStop>
     ensures only { OnlyLooks (D.state desk.old) (D.state desk.new) }
+    ensures model { WithinModel name.now (D.state desk.old) (D.state desk.new) }
+    ensures schedule { WithinSchedule schedule.now (D.state desk.old) (D.state desk.new) }
     ensures tried { ExplainTried name.now (Some schedule.now) result (D.state desk.old) (D.state desk.new) }
 {
     let bytes = match fetch(alloc, desk, name) {
@@ -188,10 +195,13 @@ fn print<D: Desk>(desk: &mut D, told: &Explained) -> Result<Ended, GivenStop>
 }
 
 fn explain_alone<D: Desk>(alloc: Global, desk: &mut D, name: &str) -> Result<Ended, GivenStop>
-    ensures { TriesWhy name.now None result (D.state desk.old) (D.state desk.new) }
+    ensures within { WithinFiles name.now None (D.state desk.old) (D.state desk.new) }
+    ensures tries { TriesWhy name.now None result (D.state desk.old) (D.state desk.new) }
 {
-    let told = explained_alone(alloc, desk, name)?;
-    print(desk, &told)
+    match explained_alone(alloc, desk, name) {
+        Ok(told) => print(desk, &told),
+        Err(stop) => Err(stop),
+    }
 }
 
 fn explain_with<D: Desk>(
@@ -200,10 +210,13 @@ fn explain_with<D: Desk>(
     name: &str,
     schedule: &str,
 ) -> Result<Ended, GivenStop>
-    ensures { TriesWhy name.now (Some schedule.now) result (D.state desk.old) (D.state desk.new) }
+    ensures within { WithinFiles name.now (Some schedule.now) (D.state desk.old) (D.state desk.new) }
+    ensures tries { TriesWhy name.now (Some schedule.now) result (D.state desk.old) (D.state desk.new) }
 {
-    let told = explained_with(alloc, desk, name, schedule)?;
-    print(desk, &told)
+    match explained_with(alloc, desk, name, schedule) {
+        Ok(told) => print(desk, &told),
+        Err(stop) => Err(stop),
+    }
 }
 
 /// Tells why a model is refused.

@@ -1,6 +1,6 @@
 //! Places in a text.
-ghost use Rattle.std.specs.Prelude.{◌≡◌, ◌<◌, ◌+◌, ◌^◌, ◌==◌, length, take, drop, position, IfSome};
-ghost use Rattle.reasons.specs.Explained.{next_line, next_column, line_from, column_from, line_of, column_of, statement_text};
+ghost use Rattle.std.specs.Prelude.{◌≡◌, ◌<◌, ◌+◌, ◌^◌, take, drop};
+ghost use Rattle.reasons.specs.Explained.{next_line, next_column, line_from, column_from, line_of, column_of, among, next, ends, statement_len, statement_text};
 
 /// So many bytes of a text, or all of it.
 pub fn front(text: &[u8], n: usize) -> &[u8]
@@ -70,20 +70,90 @@ pub fn column_of(text: &[u8], at: usize) -> u64
     column_behind(front(text, at))
 }
 
-/// Where the first semicolon stands.
-fn semicolon(text: &[u8]) -> Option<usize>
-    ensures place { result ≡ position (λ b. b == 59) text.now }
-    ensures within { IfSome result (λ k. k < length text.now) }
-{
-    text.iter().position(|b| *b == b';')
+/// Where a byte of a text stands.
+#[derive(Clone, Copy, Debug)]
+pub enum Spot {
+    /// Among words.
+    Words,
+    /// Among words, behind a slash, with which a comment may begin.
+    Slash,
+    /// In a comment that ends with its line.
+    Line,
+    /// In a comment that ends with a star and a slash.
+    Block,
+    /// In such a comment, behind a star.
+    Star,
+    /// In a quotation.
+    Quoted,
 }
 
-/// The text up to its first semicolon, and with it.
+fn among(b: u8) -> Spot
+    ensures { result ≡ among b }
+{
+    match b {
+        b'/' => Spot::Slash,
+        b'"' => Spot::Quoted,
+        _ => Spot::Words,
+    }
+}
+
+/// Where the byte behind this one stands.
+fn next(spot: Spot, b: u8) -> Spot
+    ensures { result ≡ next spot b }
+{
+    match spot {
+        Spot::Words => among(b),
+        Spot::Slash => match b {
+            b'/' => Spot::Line,
+            b'*' => Spot::Block,
+            _ => among(b),
+        },
+        Spot::Line => match b {
+            b'\n' => Spot::Words,
+            _ => Spot::Line,
+        },
+        Spot::Block => match b {
+            b'*' => Spot::Star,
+            _ => Spot::Block,
+        },
+        Spot::Star => match b {
+            b'/' => Spot::Words,
+            b'*' => Spot::Star,
+            _ => Spot::Block,
+        },
+        Spot::Quoted => match b {
+            b'"' | b'\n' => Spot::Words,
+            _ => Spot::Quoted,
+        },
+    }
+}
+
+fn ends(spot: Spot, b: u8) -> bool
+    ensures { result ≡ ends spot b }
+{
+    match spot {
+        Spot::Words | Spot::Slash => b == b';',
+        _ => false,
+    }
+}
+
+/// How many bytes the statement has with which a text begins.
+fn statement_len(text: &[u8]) -> usize
+    ensures { result ≡ statement_len text.now }
+{
+    let mut spot = Spot::Words;
+    for k in 0..text.len() {
+        if ends(spot, text[k]) {
+            return k + 1;
+        }
+        spot = next(spot, text[k]);
+    }
+    text.len()
+}
+
+/// The text up to the first semicolon that stands in no comment and no quotation, and with it.
 pub fn statement_text(text: &[u8]) -> &[u8]
     ensures { result.now ≡ statement_text text.now }
 {
-    match semicolon(text) {
-        Some(k) => front(text, k + 1),
-        None => text,
-    }
+    front(text, statement_len(text))
 }

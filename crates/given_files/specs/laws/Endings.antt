@@ -1,5 +1,5 @@
 -- A line that is told behind other steps, and the ending of a stop that was told.
-use Rattle.std.proofs.Common.{◌≡◌, ◌≤◌, ap, subst, inl, inr, arith}
+use Rattle.std.proofs.Common.{◌≡◌, ◌≤◌, refl, sym, ap, subst, ◌∙◌, inl, inr, arith}
 use Rattle.sched_base.specs.State.{State}
 use Rattle.sched_base.specs.Calls.{appended, AppendedFrom}
 use Rattle.textline.specs.Lines.{Bytes}
@@ -26,3 +26,25 @@ told_ends ending (stop.ModelRefused r) told old new (inl is) = inl (ap ending is
 told_ends ending (stop.ModelRefused r) told old new (inr is) = inr (ap ending is.0, is.1)
 told_ends ending (stop.ScheduleRefused r) told old new (inl is) = inl (ap ending is.0, is.1)
 told_ends ending (stop.ScheduleRefused r) told old new (inr is) = inr (ap ending is.0, is.1)
+
+-- Where only files were read and something was printed, and then a line was told.
+
+abbrev pub OnlyEnds : State → State → Type 0
+OnlyEnds old s = s ≡ record old { model = s.model; schedule = s.schedule; out = s.out; faults = s.faults }
+
+abbrev pub OnlyTold : State → State → Type 0
+OnlyTold s new = new ≡ record s { err = new.err; faults = new.faults }
+
+pub out_told : (s new : State) → OnlyTold s new → new.out ≡ s.out
+out_told s new told = ap (λ (x : State). x.out) told
+
+pub err_of : (old s : State) → OnlyEnds old s → s.err ≡ old.err
+err_of old s is = ap (λ (x : State). x.err) is
+
+pub ended_only : (old s : State) → OnlyEnds old s → s ≡ record old { model = s.model; schedule = s.schedule; out = s.out; err = s.err; faults = s.faults }
+ended_only old s is = subst (λ (x : State). x ≡ record old { model = x.model; schedule = x.schedule; out = x.out; err = x.err; faults = x.faults }) (sym is) refl
+
+pub whole_only : (old s new : State) → OnlyEnds old s → OnlyTold s new → new ≡ record old { model = new.model; schedule = new.schedule; out = new.out; err = new.err; faults = new.faults }
+whole_only old s new first told =
+    let is : new ≡ record old { model = s.model; schedule = s.schedule; out = s.out; err = new.err; faults = new.faults } = told ∙ ap (λ (x : State). record x { err = new.err; faults = new.faults }) first in
+    subst (λ (x : State). x ≡ record old { model = x.model; schedule = x.schedule; out = x.out; err = x.err; faults = x.faults }) (sym is) refl
