@@ -1,29 +1,21 @@
 -- However a command ends, its files are read within their bounds.
 use Rattle.std.proofs.Common.{◌≡◌, Option, Some, None, Ok, Err, Result, ap, inl, inr}
-use Rattle.sched_base.specs.declared.desk.Failed.{Failed}
-use Rattle.sched_base.specs.declared.desk.Port.TheVariants.{Out}
 use Rattle.sched_base.specs.State.{State}
-use Rattle.sched_base.specs.Calls.{Writes}
 use Rattle.sched_model.specs.declared.types.Solved.{Solved}
 use Rattle.sched_model.specs.Data.{Data}
 use Rattle.textline.specs.Lines.{Bytes}
 use Rattle.command_line.specs.Commands.{Command, Solve, Check, Verify, Show, Gen, Trial, Bound, Core}
 use Rattle.restart_rules.specs.Restarts.{Limits}
 use Rattle.given_files.specs.declared.stop.GivenStop.TheVariants as given
-use Rattle.given_files.specs.Files.{WithinModel, WithinSchedule}
+use Rattle.given_files.specs.Files.{WithinModel}
 use Rattle.given_files.specs.Told.{Reports}
-use Rattle.given_files.specs.code.Reading.{OnlyReads}
-use Rattle.given_files.specs.code.Testing.{OnlyTests}
-use Rattle.given_files.specs.laws.Within.{SameSlots, written_slots, model_on, schedule_on, schedule_behind}
+use Rattle.given_files.specs.laws.Within.{SameSlots, reported_slots, model_on, schedule_on}
 use Rattle.log_reports.specs.laws.Within.{log_on}
 use Rattle.commands.specs.declared.ended.Ended.{Ended}
 use Rattle.commands.specs.declared.stop.RunStop.{RunStop}
 use Rattle.commands.specs.declared.stop.RunStop.TheVariants as stop
 use Rattle.commands.specs.Runs.{WithinFiles}
 use Rattle.commands.specs.code.Tries.{BeginsSearch, Searches, EndsStopped}
-
-reported_slots : (text : Bytes) (old new : State) → Reports text old new → SameSlots old new
-reported_slots text old new reports = record { model = ap (λ (s : State). s.model) reports.only; log = ap (λ (s : State). s.log) reports.only; schedule = ap (λ (s : State). s.schedule) reports.only }
 
 -- to tell why a command stopped reads nothing
 stopped_slots : (e : RunStop) (ended : Ended) (old new : State) → EndsStopped e ended old new → SameSlots old new
@@ -64,9 +56,6 @@ unopened_within (Some (Core model log)) text old new reports = let same = report
 
 -- What reads none of the model's file, and what reads none of the schedule's.
 
-pub model_written : (name text : Bytes) (r : Result (Unit {0}) Failed) (old s t : State) → WithinModel name old s → Writes Out text r s t → WithinModel name old t
-model_written name text r old s t within writes = model_on name old s t (written_slots text r s t writes).model within
-
 begun_model : (m : Data) (log : Bytes) (limits : Limits) (s t : State) → BeginsSearch m log limits s t → t.model ≡ s.model
 begun_model m log limits s t (inl same) = ap (λ (x : State). x.model) same
 begun_model m log limits s t (inr begun) = ap (λ (x : State). x.model) begun.1
@@ -82,12 +71,3 @@ searched_model m log limits (Err stop.LogTooLong) s t says = absurd says
 
 pub model_searched : (m : Data) (name log : Bytes) (limits : Limits) (r : Result Solved RunStop) (old s t : State) → WithinModel name old s → Searches m log limits r s t → WithinModel name old t
 model_searched m name log limits r old s t within says = model_on name old s t (searched_model m log limits r s t says) within
-
-pub model_tested : (name : Bytes) (old s t : State) → WithinModel name old s → OnlyTests s t → WithinModel name old t
-model_tested name old s t within tested = model_on name old s t (ap (λ (x : State). x.model) tested.only) within
-
-pub schedule_tested : (name : Bytes) (old s t : State) → OnlyReads old s → WithinSchedule name s t → WithinSchedule name old t
-schedule_tested name old s t reads within = schedule_behind name old s t (ap (λ (x : State). x.files) reads.only) (ap (λ (x : State). x.schedule) reads.only) within
-
-pub schedule_written : (name text : Bytes) (r : Result (Unit {0}) Failed) (old s t : State) → WithinSchedule name old s → Writes Out text r s t → WithinSchedule name old t
-schedule_written name text r old s t within writes = schedule_on name old s t (written_slots text r s t writes).schedule within

@@ -6,7 +6,8 @@ use Rattle.restart_rules.specs.Restarts.{limits_of}
 use Rattle.commands.specs.Runs.Source.{file}
 use Rattle.commands.proofs.Solved.{stopped, printed, half_printed}
 use Rattle.commands.proofs.solving.solve_file.Goals as goal
-use Rattle.commands.proofs.Within.{model_searched, model_written}
+use Rattle.given_files.specs.laws.Within.{model_written}
+use Rattle.commands.proofs.Within.{model_searched}
 
 pub returns-in-Err-clause-tries : goal.returns-in-Err-clause-tries
 returns-in-Err-clause-tries g c =

@@ -3,7 +3,7 @@ use Rattle.commands.specs.VerifyText.{valid_text}
 use Rattle.commands.proofs.Valued.{values_are}
 use Rattle.commands.proofs.Verified.{verify_printed, verify_half_printed}
 use Rattle.commands.proofs.verifying.verify_file.Goals as goal
-use Rattle.commands.proofs.Within.{model_tested, model_written, schedule_tested, schedule_written}
+use Rattle.given_files.specs.laws.Within.{model_tested, model_written, schedule_tested, schedule_written}
 
 pub returns-in-Ok-write-clause-tries : goal.returns-in-Ok-write-clause-tries
 returns-in-Ok-write-clause-tries g c =
