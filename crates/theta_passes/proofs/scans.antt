@@ -2,6 +2,7 @@ pub mod Bound
 pub mod CutScans
 pub mod Lowest
 pub mod OneMore
+pub mod Overs
 pub mod Pushed
 pub mod Reached
 pub mod Scanned

@@ -11,6 +11,8 @@ use std::alloc::Global;
 /// Some of the members, by a test of their rows.
 #[derive(Clone, Copy, Debug)]
 pub enum Part {
+    /// All that are present.
+    Whole,
     /// Those present, and one more where one is given, that must end by a moment.
     Cut(Option<u32>, i64),
     /// Those present that must end by a moment, and one more whenever it ends.
@@ -80,6 +82,7 @@ fn has(rows: &[Row], part: Part, k: usize) -> bool
 {
     let row = rows[k];
     match part {
+        Part::Whole => is_present(row),
         Part::Cut(with, end) => is_with(row, with, end, k),
         Part::CutAnd(end, one) => is_one(one, k) | is_in_cut(row, end),
         Part::Before(i, key) => is_before(row, i, key, k),

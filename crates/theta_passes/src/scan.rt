@@ -2,10 +2,10 @@ ghost use Rattle.std.specs.Prelude.{◌≡◌, ℕ, ◌<◌, ◌≤◌, ◌+ℤ�
 ghost use Rattle.std.specs.Int.{int_max};
 ghost use Rattle.theta_passes.specs.code.Rows.{row_at, is_candidate, is_present, IsNearRow, IsByEst};
 ghost use Rattle.theta_passes.specs.code.Parts.{part_has, GivesTop};
-ghost use Rattle.theta_passes.specs.code.Late.{LateAt, LateCandidate, LatePass, late_by, with_row, is_free, AreLows, AreLeft};
-ghost use Rattle.theta_passes.specs.declared.parts.Part.TheVariants.{Before, Cut};
+ghost use Rattle.theta_passes.specs.code.Late.{LateAt, LateCandidate, LatePass, late_by, with_row, is_free, is_idle, AreLows, AreLeft};
+ghost use Rattle.theta_passes.specs.declared.parts.Part.TheVariants.{Before, Cut, Whole};
 ghost use Rattle.theta_passes.specs.code.Places.{has_place};
-ghost use Rattle.theta_passes.specs.code.Edge.{is_pushed, is_pushed_at, is_over_with, FoundBy, FoundOrNone, ByMember, IsMember, PassOrNone};
+ghost use Rattle.theta_passes.specs.code.Edge.{end_with, AreOver, is_pushed, is_pushed_at, is_over_with, FoundBy, FoundOrNone, ByMember, IsMember, PassOrNone};
 
 use crate::parts::{Part, Top, top_of};
 use crate::places::{ROOM, first_of, with, without};
@@ -117,15 +117,26 @@ fn is_free(lows: Lows, row: Row, k: usize) -> bool
     row.reach <= lows.first
 }
 
-/// The places of those before whom another must start.
-fn bound_of(rows: &[Row], lows: Lows) -> u64
+/// Whether a member surely isn't late: nobody else must start before it can end, or all that are present
+/// complete by its bar.
+fn is_idle(lows: Lows, whole: Option<Top>, row: Row, k: usize) -> bool
+    ensures { result ≡ is_idle lows whole row k }
+{
+    is_free(lows, row, k) | !is_late_by(row.bar, whole)
+}
+
+/// The places of those who may be late.
+fn bound_of(rows: &[Row], lows: Lows, whole: Option<Top>) -> u64
     requires few { length rows.now ≤ 64 }
+    requires near { (k : ℕ) → IsNearRow (row_at rows.now k) }
+    requires sorted { IsByEst rows.now }
     requires lows { AreLows rows.now (length rows.now) lows }
+    requires whole { GivesTop rows.now (part_has rows.now Whole) 0 whole }
     ensures { AreLeft rows.now result }
 {
     let mut bound = 0;
     for k in 0..rows.len() {
-        bound = with(bound, k, !is_free(lows, rows[k], k));
+        bound = with(bound, k, !is_idle(lows, whole, rows[k], k));
     }
     bound
 }
@@ -151,15 +162,16 @@ fn late_of(rows: &[Row], places: u64) -> Option<u32>
 
 /// The first that is late, where there are too many for a set of places.
 #[tactic(auto, using(crate::proofs::scans::Scanned::none_scanned, crate::proofs::scans::Scanned::more_scanned, crate::proofs::scans::Scanned::all_scanned, crate::proofs::scans::Scanned::scan_found))]
-fn late_of_many(rows: &[Row], lows: Lows) -> Option<u32>
+fn late_of_many(rows: &[Row], lows: Lows, whole: Option<Top>) -> Option<u32>
     requires few { length rows.now ≤ 500 }
     requires near { (k : ℕ) → IsNearRow (row_at rows.now k) }
     requires sorted { IsByEst rows.now }
     requires lows { AreLows rows.now (length rows.now) lows }
+    requires whole { GivesTop rows.now (part_has rows.now Whole) 0 whole }
     ensures { LatePass rows.now result }
 {
     for k in 0..rows.len() {
-        if is_free(lows, rows[k], k) {
+        if is_idle(lows, whole, rows[k], k) {
             continue;
         }
         let i = k as u32;
@@ -170,8 +182,8 @@ fn late_of_many(rows: &[Row], lows: Lows) -> Option<u32>
     None
 }
 
-/// What `late_pass` finds, without a tree: of few members it is the sooner one. Before whom another must
-/// start is told for all first, without a branch.
+/// What `late_pass` finds, without a tree: of few members it is the sooner one. Who may be late is told for
+/// all first, without a branch.
 pub fn late_scan(rows: &[Row]) -> Option<u32>
     requires few { length rows.now ≤ 500 }
     requires near { (k : ℕ) → IsNearRow (row_at rows.now k) }
@@ -179,10 +191,11 @@ pub fn late_scan(rows: &[Row]) -> Option<u32>
     ensures { LatePass rows.now result }
 {
     let lows = lows_of(rows);
+    let whole = top_of(rows, Part::Whole);
     if rows.len() > ROOM {
-        return late_of_many(rows, lows);
+        return late_of_many(rows, lows, whole);
     }
-    late_of(rows, bound_of(rows, lows))
+    late_of(rows, bound_of(rows, lows, whole))
 }
 
 /// Whether a cut starts a member too late that may end after its moment.
@@ -336,19 +349,76 @@ fn found_by(rows: &[Row], k: usize) -> Option<u32>
     found_at(rows, rows[k].lct)
 }
 
-/// What `edge_pass` finds, without a tree: of few members it is the sooner one.
+/// A moment by which each cut is over with a member in it, where this is when all that are present
+/// complete: an optional one adds its size at the most.
+fn end_with(row: Row, whole: i64) -> i128
+    ensures { result ≡ end_with row.presence row whole }
+{
+    match row.presence {
+        Presence::Maybe => i128::from(later(row.est, whole)) + i128::from(row.p),
+        _ => i128::from(whole),
+    }
+}
+
+fn latest(a: i128, b: i128) -> i128
+    ensures { result ≡ int_max a b }
+{
+    if a < b { b } else { a }
+}
+
+/// The same for any member.
+#[tactic(auto, using(crate::proofs::scans::Overs::none_over, crate::proofs::scans::Overs::all_over))]
+fn last_end(rows: &[Row], whole: Top) -> i128
+    requires near { (k : ℕ) → IsNearRow (row_at rows.now k) }
+    requires sorted { IsByEst rows.now }
+    requires whole { GivesTop rows.now (part_has rows.now Whole) 0 (Some whole) }
+    ensures { AreOver rows.now (length rows.now) result }
+{
+    let mut last = i128::from(whole.value);
+    for k in 0..rows.len() {
+        last = latest(last, end_with(rows[k], whole.value));
+    }
+    last
+}
+
+fn is_over_by(last: i128, lct: i64) -> bool
+    ensures { result ≡ int_le last lct }
+{
+    last <= i128::from(lct)
+}
+
+/// What the cuts find that aren't over by their moments whoever is put into them.
 #[tactic(auto, using(crate::proofs::scans::CutScans::no_cut, crate::proofs::scans::CutScans::cut_passed))]
-pub fn edge_scan(rows: &[Row]) -> Option<u32>
+fn edge_before(rows: &[Row], last: i128) -> Option<u32>
     requires few { length rows.now ≤ 500 }
     requires near { (k : ℕ) → IsNearRow (row_at rows.now k) }
     requires sorted { IsByEst rows.now }
+    requires over { AreOver rows.now (length rows.now) last }
     ensures { PassOrNone rows.now result }
 {
     for k in 0..rows.len() {
+        if is_over_by(last, rows[k].lct) {
+            continue;
+        }
         let found = found_by(rows, k);
         if found.is_some() {
             return found;
         }
     }
     None
+}
+
+/// What `edge_pass` finds, without a tree: of few members it is the sooner one. When all that are present
+/// complete tells of most cuts that they find nothing, while the latest completions are far.
+#[tactic(auto, using(crate::proofs::scans::Overs::nobody))]
+pub fn edge_scan(rows: &[Row]) -> Option<u32>
+    requires few { length rows.now ≤ 500 }
+    requires near { (k : ℕ) → IsNearRow (row_at rows.now k) }
+    requires sorted { IsByEst rows.now }
+    ensures { PassOrNone rows.now result }
+{
+    match top_of(rows, Part::Whole) {
+        None => None,
+        Some(whole) => edge_before(rows, last_end(rows, whole)),
+    }
 }

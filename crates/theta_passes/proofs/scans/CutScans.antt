@@ -125,7 +125,8 @@ pub none_over : (rows : List Row) (level : ℤ) (i : ℕ) (v : Option Top) (b : 
 none_over rows level i None b near sorted on is gives z u one found = absurd (true≢false (sym on ∙ is))
 none_over rows level i (Some v) b near sorted on is top z u one found =
     let d = times_at rows in
-    let most = one_more d (cut_of rows level) i z v.value (near_sized rows near) found.with_i (cut_ect rows level v near sorted top) in
+    let set = found.with_i.reached in
+    let most = one_more d (cut_of rows level) i set.0 set.1 z v.value (near_sized rows near) set.2 set.3 (cut_ect rows level v near sorted top) in
     let over = le_holds (int_max (est_at d i) v.value +ℤ size_at d i) level (sym is ∙ on) in
     let full = found.full in
     omega (arith, ints, most, over, full)

@@ -9,24 +9,12 @@ use Rattle.task_sets.specs.laws.Sums.{same_number, least_bound}
 use Rattle.task_sets.specs.laws.Ects.{keep, keep_passes, rises_all, least_reached}
 use Rattle.task_sets.specs.laws.EdgeCuts.{but, but_sum, once_rises, keep_rises_list, keep_within}
 
-both_max : (a b : ℤ) → (a ≤ℤ int_max a b) × (b ≤ℤ int_max a b)
+pub both_max : (a b : ℤ) → (a ≤ℤ int_max a b) × (b ≤ℤ int_max a b)
 both_max a b = (grind (arith, ints), grind (arith, ints))
 
-pub one_more : (d : ℕ → Times) (t : ℕ → Bool) (i : ℕ) (z u : ℤ) → IsSized d → IsEct d (with_one i t) z → IsEct d t u → z ≤ℤ (int_max (est_at d i) u +ℤ size_at d i)
-one_more d t i z u sized with_i ect = by_case (has (x ∷ xs) i) refl
+pub one_more : (d : ℕ → Times) (t : ℕ → Bool) (i x : ℕ) (xs : List ℕ) (z u : ℤ) → IsSized d → IsWithin (with_one i t) x xs → z ≡ ends_at d x xs → IsEct d t u → z ≤ℤ (int_max (est_at d i) u +ℤ size_at d i)
+one_more d t i x xs z u sized set is ect = by_case (has (x ∷ xs) i) refl
   where
-    x : ℕ
-    x = with_i.reached.0
-
-    xs : List ℕ
-    xs = with_i.reached.1
-
-    set : IsWithin (with_one i t) x xs
-    set = with_i.reached.2
-
-    is : z ≡ ends_at d x xs
-    is = with_i.reached.3
-
     other : (y : ℕ) → nat_eq y i ≡ false → with_one i t y ≡ true → t y ≡ true
     other y off on = elim (or_cases (nat_eq y i) (t y) on) [
       | inl same ↦ absurd (both_ways (nat_eq y i) off same)

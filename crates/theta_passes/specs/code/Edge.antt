@@ -1,12 +1,14 @@
 -- The pass of EDGE: the cuts of the present members, and the candidates that a cut finds.
 use Rattle.std.specs.Prelude.{Bool, List, None, Option, Some, [], false, int_le, int_lt, length, nat_lt, slice_index_or, suc, true, ◌&&◌, ℕ, ℤ, ◌+ℤ◌, ◌<ℤ◌, ◌<◌, ◌∷◌, ◌≡◌, ◌≢◌, ◌≤ℤ◌, ◌≤◌, ◌⊎◌}
 use Rattle.std.specs.Int.{int_max}
-use Rattle.task_sets.specs.Times.{IsEdgeCut, in_cut, overload_row}
+use Rattle.task_sets.specs.Times.{IsEct, IsEdgeCut, in_cut, overload_row, with_one}
 use Rattle.thetatree.specs.code.Leaves.{Leaves, colour_at}
 use Rattle.thetatree.specs.declared.leaves.Colour.{Colour}
 use Rattle.thetatree.specs.declared.leaves.Colour.TheVariants.{Gray, Out, White}
 use Rattle.theta_passes.specs.code.Rows.{is_candidate, is_present, lct_in, row_at, times_at}
 use Rattle.theta_passes.specs.declared.parts.Top.{Top}
+use Rattle.theta_passes.specs.declared.rows.Presence.{Presence}
+use Rattle.theta_passes.specs.declared.rows.Presence.TheVariants as is
 use Rattle.theta_passes.specs.declared.rows.Row.{Row}
 use Rattle.thetatree.specs.code.Leaves as leaves
 
@@ -32,6 +34,15 @@ is_pushed_at rows level pushing k = nat_lt k (length rows) && is_pushed (row_at 
 abbrev pub is_over_with : Row → ℤ → Option Top → Bool
 is_over_with r level None = false
 is_over_with r level (Some v) = int_le (int_max r.est v.value +ℤ r.p) level
+
+-- a moment by which each cut is over with a member in it, where this is when all that are present complete
+abbrev pub end_with : Presence → Row → ℤ → ℤ
+end_with is.Maybe r whole = int_max r.est whole +ℤ r.p
+end_with _ r whole = whole
+
+-- each cut is over by a moment with any of the first members in it
+abbrev pub AreOver : List Row → ℕ → ℤ → Type 0
+AreOver rows n last = (k : ℕ) (level z : ℤ) → k < n → is_candidate rows k ≡ true → IsEct (times_at rows) (with_one k (cut_of rows level)) z → z ≤ℤ last
 
 -- whether the cut at a moment finds a member
 abbrev pub FoundBy : List Row → ℤ → ℕ → Bool → Type 0

@@ -1,5 +1,5 @@
 -- The pass of NOTEND and DETECT: the members that must start before one can end.
-use Rattle.std.specs.Prelude.{Bool, List, None, Option, Some, cond, false, int_le, int_lt, length, nat_eq, neg_ℤ, not, pos, slice_index_or, true, ℕ, ℤ, ◌&&◌, ◌<ℤ◌, ◌<◌, ◌≡◌, ◌≤ℤ◌, ◌≤◌}
+use Rattle.std.specs.Prelude.{Bool, List, None, Option, Some, cond, false, int_le, int_lt, length, nat_eq, neg_ℤ, not, pos, slice_index_or, true, ℕ, ℤ, ◌&&◌, ◌||◌, ◌<ℤ◌, ◌<◌, ◌≡◌, ◌≤ℤ◌, ◌≤◌}
 use Rattle.task_sets.specs.Times.{IsEct}
 use Rattle.thetatree.specs.code.Leaves.{Leaves, colour_at}
 use Rattle.thetatree.specs.declared.leaves.Colour.TheVariants.{White}
@@ -61,6 +61,10 @@ pub record AreLows (rows : List Row) (n : ℕ) (l : Lows) : Type 0 where
 -- whether nobody else must start before a member can end
 abbrev pub is_free : Lows → Row → ℕ → Bool
 is_free l r k = cond (nat_eq k l.place) (int_le r.reach l.second) (int_le r.reach l.first)
+
+-- whether it surely isn't late: nobody else must start before it can end, or all that are present complete by its bar
+abbrev pub is_idle : Lows → Option Top → Row → ℕ → Bool
+is_idle l whole r k = is_free l r k || not (late_by r.bar whole)
 
 abbrev pub GivesLate : List Row → ℕ → Option ℤ → Type 0
 GivesLate rows i None = (y : ℕ) → before_key rows i y ≡ true → ⊥

@@ -4,7 +4,7 @@ use Rattle.task_sets.specs.laws.Sums.{load}
 use Rattle.task_sets.specs.laws.Ects.{up_from}
 use Rattle.theta_passes.specs.declared.rows.Row.{Row}
 use Rattle.theta_passes.specs.declared.parts.Part.{Part}
-use Rattle.theta_passes.specs.declared.parts.Part.TheVariants.{Cut, CutAnd, Before}
+use Rattle.theta_passes.specs.declared.parts.Part.TheVariants.{Whole, Cut, CutAnd, Before}
 use Rattle.theta_passes.specs.declared.parts.Top.{Top}
 use Rattle.theta_passes.specs.declared.parts.Scan.{Scan}
 use Rattle.theta_passes.specs.code.Rows.{row_at, is_present}
@@ -18,6 +18,7 @@ cut_has member row end = member && int_le row.lct end
 
 -- whether a place is in a part
 abbrev pub part_has : List Row → Part → ℕ → Bool
+part_has rows Whole k = is_present rows k
 part_has rows (Cut with end) k = cut_has (members_with (is_present rows k) with k) (row_at rows k) end
 part_has rows (CutAnd end one) k = nat_eq k one || cut_has (is_present rows k) (row_at rows k) end
 part_has rows (Before i key) k = is_present rows k && not (nat_eq k i) && int_lt (row_at rows k).lst key
