@@ -14,6 +14,24 @@ use std::alloc::Global;
 /// A preparation has at most so many nodes.
 const MOST_NODES: u64 = 20_000;
 
+/// Where sequences have more pairs of members in all, it has as many times fewer, since a node then costs
+/// as many times more.
+const FEW_PAIRS: u64 = 5_000;
+
+/// So many nodes leave the first start two for each interval, and some that are refuted.
+fn least_nodes(model: &Model) -> u64 {
+    (model.intervals().len() as u64)
+        .saturating_mul(5)
+        .saturating_div(2)
+        .saturating_add(200)
+}
+
+/// The nodes of a preparation that may have at most so many.
+fn nodes_for(model: &Model, pairs: u64, most: u64) -> u64 {
+    let share = most.saturating_mul(FEW_PAIRS) / pairs.max(FEW_PAIRS);
+    most.min(share.max(least_nodes(model)))
+}
+
 /// Looks for schedules, the first ones by simple rules.
 fn search_for<P: Propagator>(
     alloc: Global,
@@ -51,7 +69,7 @@ fn rehearse<P: Propagator>(
 }
 
 /// Searches without a log, so that the search with one knows where to look first: at most a fifth as
-/// many nodes as that one may open, and at most 20,000. It begins with schedules that simple rules
+/// many nodes as that one may open, and at most 20,000, or fewer where there are many pairs of members. It begins with schedules that simple rules
 /// find, and then takes turns between runs that look at everything and runs near the best schedule. It
 /// ends where nothing is left to look for.
 pub fn prepare(alloc: Global, model: &Model, nodes: u64) -> Result<Hints, NoMemory> {
@@ -63,5 +81,6 @@ pub fn prepare(alloc: Global, model: &Model, nodes: u64) -> Result<Hints, NoMemo
     let engine = start(alloc, model)?;
     // The model is valid by its type.
     let _ = model.intervals();
-    rehearse(alloc, model, engine, hints, most)
+    let nodes = nodes_for(model, hints.pairs, most);
+    rehearse(alloc, model, engine, hints, nodes)
 }
