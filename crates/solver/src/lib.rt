@@ -23,6 +23,7 @@ mod random;
 mod rehearsal;
 mod search;
 mod settled;
+mod shifting;
 mod silence;
 mod silent;
 mod solving;

@@ -7,6 +7,7 @@ ghost use Rattle.engine.specs.Runs.{Ends};
 ghost use Rattle.solver.specs.code.Searching.{IsHolding, IsReady};
 
 use crate::hints::Hints;
+use crate::shifting::Shifting;
 use crate::settled::settled_assignment;
 use crate::silence::Silence;
 use crate::state::Search;
@@ -50,6 +51,12 @@ pub struct Rehearsal<P: Propagator> {
     is_rooted: bool,
     /// Whether a region was given up, so that runs show nothing.
     pub gave_up: bool,
+    /// Whether one was left once its schedule had been moved to where the objective wishes it.
+    pub left_early: bool,
+    /// Whether this was done at the region.
+    is_moved: bool,
+    /// What moves schedules, where the objective wishes some intervals neither sooner nor later.
+    pub shifting: Option<Shifting>,
 }
 
 /// When a run ends.
@@ -79,6 +86,8 @@ struct Tried {
 pub enum Ending {
     /// No region is left.
     Exhausted,
+    /// The same, but some were left once their schedules had been moved.
+    Through,
     Stopped,
 }
 
@@ -100,8 +109,10 @@ impl<P: Propagator> Rehearsal<P> {
         requires awake { AreAwake P.Propagator model.now engine }
         ensures { IfOk result (λ r. IsHolding P.Propagator model.now r.search) }
     {
+        let search = Search::new(alloc, model, engine, hints)?;
         Ok(Rehearsal {
-            search: Search::new(alloc, model, engine, hints)?,
+            shifting: Shifting::new(alloc, model, &search.intervals)?,
+            search,
             failed: 0,
             guide: None,
             best: None,
@@ -113,6 +124,8 @@ impl<P: Propagator> Rehearsal<P> {
             floor: 0,
             is_rooted: false,
             gave_up: false,
+            left_early: false,
+            is_moved: false,
         })
     }
 
@@ -140,11 +153,12 @@ impl<P: Propagator> Rehearsal<P> {
         self.floor = 0;
         self.is_rooted = false;
         self.gave_up = false;
+        self.left_early = false;
         self.search.restart(alloc, model)
     }
 
     /// Whether every constraint holds. What failed last is tested first.
-    fn all_hold(&mut self, model: &Model, a: &Assignment) -> bool
+    pub fn all_hold(&mut self, model: &Model, a: &Assignment) -> bool
         requires { is_in_domain model.now a.now ≡ true }
         ensures { self.new.search ≡ self.old.search }
     {
@@ -182,10 +196,34 @@ impl<P: Propagator> Rehearsal<P> {
             return Ok(None);
         }
         let value = value(model, &assignment);
+        if self.shifting.is_some() {
+            return self.shifted_on(model, assignment, value);
+        }
         if !self.improves(model, value) || !self.all_hold(model, &assignment) {
             return Ok(None);
         }
         Ok(Some(Found { assignment, value }))
+    }
+
+    /// The same once it was moved to where the objective wishes it. Then the region is done with.
+    fn shifted_on(
+        &mut self,
+        model: &Model,
+        assignment: Assignment,
+        value: Option<i64>,
+    ) -> Result<Option<Found>, NoMemory>
+        requires { is_in_domain model.now assignment ≡ true }
+        ensures { self.new.search ≡ self.old.search }
+    {
+        if !self.all_hold(model, &assignment) {
+            return Ok(None);
+        }
+        let found = self.move_all(model, Found { assignment, value });
+        self.is_moved = true;
+        if !self.improves(model, found.value) {
+            return Ok(None);
+        }
+        Ok(Some(found))
     }
 
     /// Takes a better schedule, to look for what is better still.
@@ -340,17 +378,37 @@ impl<P: Propagator> Rehearsal<P> {
         let Some(stop) = self.derive(model)? else {
             return Ok(self.give_up(model, false));
         };
+        self.is_moved = false;
         if let Some(found) = self.better(alloc, model, &stop)? {
             self.take(alloc, model, found);
+            if self.is_moved {
+                return Ok(self.leave_early(model, true));
+            }
             return self.go_on(alloc, model, true);
         }
+        if self.is_moved {
+            return Ok(self.leave_early(model, false));
+        }
         self.end(alloc, model, stop, false)
+    }
+
+    /// Leaves a region whose schedule was moved to where the objective wishes it.
+    fn leave_early(&mut self, model: &Model, found: bool) -> Tried
+        requires { IsHolding P.Propagator model.now self.old.search }
+        ensures ready { IsTrue result.more → IsReady P.Propagator model.now self.new.search }
+        ensures kept { IsHolding P.Propagator model.now self.new.search }
+    {
+        self.left_early = true;
+        self.back(model, false, found)
     }
 
     /// What it is that no region is left. Where one was given up it says nothing.
     fn exhausted(&self) -> Ending {
         if self.gave_up {
             return Ending::Stopped;
+        }
+        if self.left_early {
+            return Ending::Through;
         }
         Ending::Exhausted
     }
@@ -426,6 +484,7 @@ impl<P: Propagator> Rehearsal<P> {
         self.spent = 0;
         self.assumed = 0;
         self.gave_up = false;
+        self.left_early = false;
         Ok(())
     }
 

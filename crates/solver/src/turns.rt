@@ -222,7 +222,7 @@ impl Turns {
         }
         let ending = rehearsal.run(alloc, model, limits_near(model, budget))?;
         if rehearsal.best == before {
-            self.neighbourhood.adapt(ending == Ending::Exhausted);
+            self.neighbourhood.adapt(ending != Ending::Stopped);
         }
         Ok(true)
     }
