@@ -7,16 +7,16 @@ ghost use Rattle.engine.specs.Runs.{Ends};
 ghost use Rattle.solver.specs.code.Searching.{IsHolding, IsReady};
 
 use crate::hints::Hints;
+use crate::settled::{all_hold, settled_assignment};
 use crate::shifting::Shifting;
-use crate::settled::settled_assignment;
 use crate::silence::Silence;
 use crate::state::Search;
 use branching::Soonest;
 use engine::{Engine, Propagator, Stop};
 use kernel::Found;
 use region::Guess;
-use sched_base::{Con, NoMemory};
-use sched_model::{Assignment, Model, beats, holds, in_domain, value};
+use sched_base::NoMemory;
+use sched_model::{Assignment, Model, beats, in_domain, value};
 use std::alloc::Global;
 
 /// So many lines for each cell may derive at a root, as many as the engine puts; elsewhere one.
@@ -91,6 +91,13 @@ pub enum Ending {
     Stopped,
 }
 
+fn is_all(shifting: &Option<Shifting>) -> bool {
+    match shifting {
+        None => false,
+        Some(shifting) => shifting.is_all,
+    }
+}
+
 fn if_followed(guide: &Option<Assignment>, follows: bool) -> Option<&Assignment> {
     if !follows {
         return None;
@@ -157,24 +164,6 @@ impl<P: Propagator> Rehearsal<P> {
         self.search.restart(alloc, model)
     }
 
-    /// Whether every constraint holds. What failed last is tested first.
-    pub fn all_hold(&mut self, model: &Model, a: &Assignment) -> bool
-        requires { is_in_domain model.now a.now ≡ true }
-        ensures { self.new.search ≡ self.old.search }
-    {
-        let n = model.constraints().len();
-        if (self.failed as usize) < n && !holds(model, Con(self.failed), a) {
-            return false;
-        }
-        for c in 0..n {
-            if !holds(model, Con(c as u32), a) {
-                self.failed = c as u32;
-                return false;
-            }
-        }
-        true
-    }
-
     /// Whether a value is better than what is to be beaten, if there is such.
     fn improves(&self, model: &Model, value: Option<i64>) -> bool {
         let (Some(objective), Some(value)) = (model.objective(), value) else {
@@ -199,13 +188,14 @@ impl<P: Propagator> Rehearsal<P> {
         if self.shifting.is_some() {
             return self.shifted_on(model, assignment, value);
         }
-        if !self.improves(model, value) || !self.all_hold(model, &assignment) {
+        if !self.improves(model, value) || !all_hold(model, &assignment, &mut self.failed) {
             return Ok(None);
         }
         Ok(Some(Found { assignment, value }))
     }
 
-    /// The same once it was moved to where the objective wishes it. Then the region is done with.
+    /// The same once it was moved to where the objective wishes it. Where nothing but orders stands in the
+    /// way, the region is done with then.
     fn shifted_on(
         &mut self,
         model: &Model,
@@ -215,15 +205,27 @@ impl<P: Propagator> Rehearsal<P> {
         requires { is_in_domain model.now assignment ≡ true }
         ensures { self.new.search ≡ self.old.search }
     {
-        if !self.all_hold(model, &assignment) {
+        if !all_hold(model, &assignment, &mut self.failed) {
             return Ok(None);
         }
-        let found = self.move_all(model, Found { assignment, value });
-        self.is_moved = true;
+        let found = self.moved(model, Found { assignment, value });
+        self.is_moved = is_all(&self.shifting);
         if !self.improves(model, found.value) {
             return Ok(None);
         }
         Ok(Some(found))
+    }
+
+    /// A schedule once it was moved to where the objective wishes it.
+    fn moved(&mut self, model: &Model, found: Found) -> Found
+        ensures { self.new.search ≡ self.old.search }
+    {
+        let Some(mut shifting) = self.shifting.take() else {
+            return found;
+        };
+        let found = shifting.move_all(model, self.search.intervals.links(), found);
+        self.shifting = Some(shifting);
+        found
     }
 
     /// Takes a better schedule, to look for what is better still.

@@ -1,5 +1,6 @@
 //! The assignment that a settled region leaves.
-ghost use Rattle.std.specs.Prelude.{◌≡◌, ◌<◌, ◌^◌, length, ◌++◌, IfOk, OnOk};
+ghost use Rattle.std.specs.Prelude.{◌≡◌, ◌<◌, ◌^◌, true, length, ◌++◌, IfOk, OnOk};
+ghost use Rattle.sched_model.specs.Domain.{is_in_domain};
 ghost use Rattle.region.specs.Cells.{settled_slots};
 ghost use Rattle.region.specs.Looks.{IsRegionOf};
 ghost use Rattle.refute_seq.specs.code.Order.{settled_orders};
@@ -9,8 +10,8 @@ use refute_basic::settled_slot;
 use refute_seq::settled_order;
 use refute_state::canonical;
 use region::Look;
-use sched_base::{Itv, List, NoMemory, Seq};
-use sched_model::{Assignment, Model, Slot};
+use sched_base::{Con, Itv, List, NoMemory, Seq};
+use sched_model::{Assignment, Model, Slot, holds};
 use std::alloc::Global;
 
 fn settled_slots(look: &Look<'_>, slots: &mut Vec<Slot>) -> Result<(), NoMemory>
@@ -61,4 +62,21 @@ pub fn settled_assignment(
         orders: settled_orders(alloc, model, look)?,
         segs,
     })
+}
+
+/// Whether every constraint holds. What failed last is tested first.
+pub fn all_hold(model: &Model, a: &Assignment, failed: &mut u32) -> bool
+    requires { is_in_domain model.now a.now ≡ true }
+{
+    let n = model.constraints().len();
+    if (*failed as usize) < n && !holds(model, Con(*failed), a) {
+        return false;
+    }
+    for c in 0..n {
+        if !holds(model, Con(c as u32), a) {
+            *failed = c as u32;
+            return false;
+        }
+    }
+    true
 }

@@ -1,18 +1,14 @@
 //! Schedules moved to where the objective wishes them.
-ghost use Rattle.std.specs.Prelude.{◌≡◌, true};
-ghost use Rattle.sched_model.specs.Domain.{is_in_domain};
-
 use crate::chooser::Chooser;
-use crate::rehearsal::Rehearsal;
+use crate::settled::all_hold;
 use branching::{Links, Pole, alternative};
-use engine::Propagator;
 use kernel::Found;
 use sched_base::{Itv, List, NoMemory, at};
 use sched_model::{Assignment, Model, Slot, beats, in_domain, value};
 use std::alloc::Global;
 
-/// Intervals are moved by so much at first, and then by half as much again and again.
-const FIRST_STEP: i64 = 1024;
+/// By how much intervals are moved, one step after another.
+const STEPS: [i64; 11] = [1024, 512, 256, 128, 64, 32, 16, 8, 4, 2, 1];
 
 /// So often all of them are moved by the same at most.
 const ROUNDS: u32 = 50;
@@ -24,6 +20,10 @@ pub struct Shifting {
     moves: Vec<bool>,
     /// Those that move, in the order in which they were found.
     queue: Vec<Itv>,
+    /// The constraint that failed last.
+    failed: u32,
+    /// Whether nothing but orders stands in the way, so that a region whose orders are known is done with.
+    pub is_all: bool,
 }
 
 /// Whether the objective wishes some interval neither sooner nor later.
@@ -62,7 +62,11 @@ fn pushed(slots: &[Slot], order: &[Itv], x: Itv, by: i64) -> Option<Itv> {
     let i = place_of(order, x)?;
     if by > 0 {
         let next = *at(order, i.saturating_add(1))?;
-        return if gap(slots, x, next) < by { Some(next) } else { None };
+        return if gap(slots, x, next) < by {
+            Some(next)
+        } else {
+            None
+        };
     }
     let last = *at(order, i.checked_sub(1)?)?;
     if gap(slots, last, x) < 0i64.saturating_sub(by) {
@@ -81,14 +85,20 @@ fn moved(slot: Slot, by: i64) -> Slot {
     }
 }
 
+fn move_slot(slots: &mut Vec<Slot>, i: usize, by: i64) {
+    if i < slots.len() {
+        slots[i] = moved(slots[i], by);
+    }
+}
+
 impl Shifting {
-    /// None where a schedule at its least starts is good, or where more than orders stand in the way.
+    /// None where the objective wishes every interval sooner, or every one later.
     pub fn new(
         alloc: Global,
         model: &Model,
         intervals: &Chooser,
     ) -> Result<Option<Shifting>, NoMemory> {
-        if intervals.has_profiles() || !wishes_between(model, intervals) {
+        if !wishes_between(model, intervals) {
             return Ok(None);
         }
         let n = model.intervals().len();
@@ -96,12 +106,27 @@ impl Shifting {
         moves.resize(n, false)?;
         let mut queue = Vec::new(alloc);
         queue.reserve(n)?;
-        Ok(Some(Shifting { moves, queue }))
+        Ok(Some(Shifting {
+            moves,
+            queue,
+            failed: 0,
+            is_all: !intervals.has_profiles(),
+        }))
+    }
+
+    fn set(&mut self, i: usize, moves: bool) {
+        if i < self.moves.len() {
+            self.moves[i] = moves;
+        }
+    }
+
+    fn moves_at(&self, i: usize) -> bool {
+        self.moves.get(i).copied().unwrap_or(false)
     }
 
     fn clear(&mut self) {
         for i in 0..self.moves.len() {
-            self.moves[i] = false;
+            self.set(i, false);
         }
         self.queue.clear();
     }
@@ -110,8 +135,8 @@ impl Shifting {
     fn join(&mut self, slots: &[Slot], x: Itv) {
         let i = x.0 as usize;
         let is_there = matches!(slot_of(slots, x), Slot::Present { .. });
-        if is_there && i < self.moves.len() && !self.moves[i] {
-            self.moves[i] = true;
+        if is_there && !self.moves_at(i) {
+            self.set(i, true);
             // There is room for all.
             let _ = self.queue.push(x);
         }
@@ -177,8 +202,8 @@ impl Shifting {
         } = a;
         let mut slots = slots.into_vec();
         for i in 0..slots.len() {
-            if i < self.moves.len() && self.moves[i] {
-                slots[i] = moved(slots[i], by);
+            if self.moves_at(i) {
+                move_slot(&mut slots, i, by);
             }
         }
         Assignment {
@@ -187,68 +212,55 @@ impl Shifting {
             segs,
         }
     }
-}
 
-impl<P: Propagator> Rehearsal<P> {
+    /// Moves an interval, and what it comes upon, by so much, if that is better.
+    fn try_move(&mut self, model: &Model, links: &Links, found: Found, x: Itv, by: i64) -> Found {
+        let Found { assignment, value } = found;
+        self.gather(model, links, &assignment, x, by);
+        let assignment = self.apply(assignment, by);
+        let better = self.better_value(model, &assignment, value);
+        if better.is_some() {
+            return Found {
+                assignment,
+                value: better,
+            };
+        }
+        Found {
+            assignment: self.apply(assignment, 0i64.saturating_sub(by)),
+            value,
+        }
+    }
+
     /// The value, where it is a schedule that is better than another one.
-    fn better_value(&mut self, model: &Model, a: &Assignment, than: i64) -> Option<i64>
-        ensures { self.new.search ≡ self.old.search }
-    {
+    fn better_value(&mut self, model: &Model, a: &Assignment, than: Option<i64>) -> Option<i64> {
         let objective = model.objective()?;
         if !in_domain(model, a) {
             return None;
         }
         let new = value(model, a)?;
-        if !beats(objective.sense, new, than) || !self.all_hold(model, a) {
+        if !beats(objective.sense, new, than?) || !all_hold(model, a, &mut self.failed) {
             return None;
         }
         Some(new)
     }
 
-    /// Moves an interval, and what it comes upon, by so much, if that is better; whether it is.
-    fn try_move(&mut self, model: &Model, found: Found, x: Itv, by: i64) -> (Found, bool)
-        ensures { self.new.search ≡ self.old.search }
-    {
-        let Found { assignment, value } = found;
-        let (Some(mut shifting), Some(old)) = (self.shifting.take(), value) else {
-            return (Found { assignment, value }, false);
-        };
-        shifting.gather(model, self.search.intervals.links(), &assignment, x, by);
-        let assignment = shifting.apply(assignment, by);
-        let new = self.better_value(model, &assignment, old);
-        let assignment = match new {
-            Some(_) => assignment,
-            None => shifting.apply(assignment, 0i64.saturating_sub(by)),
-        };
-        self.shifting = Some(shifting);
-        let value = Some(new.unwrap_or(old));
-        (Found { assignment, value }, new.is_some())
-    }
-
-    /// Moves each interval by so much, if that is better; whether one was moved.
-    fn move_each(&mut self, model: &Model, found: Found, by: i64) -> (Found, bool)
-        ensures { self.new.search ≡ self.old.search }
-    {
+    /// Moves each interval by so much, where that is better.
+    fn move_each(&mut self, model: &Model, links: &Links, found: Found, by: i64) -> Found {
         let mut found = found;
-        let mut any = false;
         for n in 0..model.intervals().len() {
-            let (next, is_better) = self.try_move(model, found, Itv(n as u32), by);
-            found = next;
-            any = any || is_better;
+            found = self.try_move(model, links, found, Itv(n as u32), by);
         }
-        (found, any)
+        found
     }
 
     /// The same later and sooner, while it brings something.
-    fn move_by(&mut self, model: &Model, found: Found, by: i64) -> Found
-        ensures { self.new.search ≡ self.old.search }
-    {
+    fn move_by(&mut self, model: &Model, links: &Links, found: Found, by: i64) -> Found {
         let mut found = found;
         for _ in 0..ROUNDS {
-            let (next, later) = self.move_each(model, found, by);
-            let (next, sooner) = self.move_each(model, next, 0i64.saturating_sub(by));
-            found = next;
-            if !later && !sooner {
+            let old = found.value;
+            let later = self.move_each(model, links, found, by);
+            found = self.move_each(model, links, later, 0i64.saturating_sub(by));
+            if found.value == old {
                 return found;
             }
         }
@@ -257,14 +269,10 @@ impl<P: Propagator> Rehearsal<P> {
 
     /// Moves the intervals of a schedule to where the objective wishes them, in long steps and then in short
     /// ones, while it remains a schedule. Its orders stay.
-    pub fn move_all(&mut self, model: &Model, found: Found) -> Found
-        ensures { self.new.search ≡ self.old.search }
-    {
+    pub fn move_all(&mut self, model: &Model, links: &Links, found: Found) -> Found {
         let mut found = found;
-        let mut step = FIRST_STEP;
-        for _ in 0..11 {
-            found = self.move_by(model, found, step);
-            step = step / 2;
+        for step in &STEPS {
+            found = self.move_by(model, links, found, *step);
         }
         found
     }

@@ -49,6 +49,12 @@ fn limits_near(model: &Model, budget: &Budget) -> Limits {
     }
 }
 
+/// Whether a schedule that is sought for its own sake was sought long enough. The search with a log tries
+/// both parts of splits, and so finds sooner that there is none.
+fn is_tried(model: &Model, budget: &Budget) -> bool {
+    model.objective().is_none() && budget.left < budget.whole / 2
+}
+
 /// Whose turn it is, and what is known from one turn to the next.
 #[derive(Drop)]
 pub struct Turns {
@@ -264,7 +270,7 @@ impl Turns {
             self.count(spent, rehearsal.best != before);
         }
         let most = IDLE_EACH / (model.intervals().len() as u64).max(1);
-        Ok(more && self.idle_in_all < most.max(IDLE_IN_ALL))
+        Ok(more && self.idle_in_all < most.max(IDLE_IN_ALL) && !is_tried(model, budget))
     }
 
     /// Runs one after another, until nothing is left to look for, or no nodes are.
