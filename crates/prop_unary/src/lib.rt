@@ -6,10 +6,10 @@
 //! 1. two members of whom it was told, when it was asked whether it can wait, that something is found
 //!    of them (`waiting`, told of what has moved since);
 //! 2. each two of which the first is told to stand before the second, from the member on of which it
-//!    found something last, and round once (`pairs`). The numbers of each member are noted before
-//!    (`keys`), and two whose numbers leave nothing to find are passed over (`silence`); where a
-//!    sequence keeps no distances and isn't long, all those behind one member are told at once
-//!    (`heard`), and their orders are read afterwards;
+//!    found something last, and round once (`pairs`; `cases` has what is asked of two). The numbers of
+//!    each member are noted before (`keys`), and two whose numbers leave nothing to find are passed
+//!    over (`silence`); where a sequence keeps no distances and isn't long, all those behind one
+//!    member are told at once (`heard`), and their orders are read afterwards;
 //! 3. in the same way each two whose order is open, if 2 has met any whose numbers don't show that
 //!    nothing is found.
 //!
@@ -21,6 +21,7 @@
 //! compared, and three are looked at only where they leave something to find (`circles`).
 #![tactic(auto)]
 
+mod cases;
 mod circles;
 mod disjunctive;
 mod distances;

@@ -1,5 +1,5 @@
 use Rattle.prop_unary.proofs.Asked.{busy_pair, none_to, some_to}
-use Rattle.prop_unary.proofs.pairs.ask_cases.Goals as goal
+use Rattle.prop_unary.proofs.cases.ask_cases.Goals as goal
 
 pub returns-in-Some-clause-busy : goal.returns-in-Some-clause-busy
 returns-in-Some-clause-busy c = busy_pair c.args.view.now.model.now c.args.view.now.region.now.region c.args.view.now.best c.args.d.now c.args.a c.args.b c.args.first c.requires.is c.in-Some.ensures.busy

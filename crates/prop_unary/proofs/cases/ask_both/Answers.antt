@@ -2,7 +2,7 @@ use Rattle.std.proofs.Common.{◌≡◌, true, rules}
 use Rattle.std.specs.Option.{is_none}
 use Rattle.prop_unary.specs.laws.Silence.{both_cases, one_case}
 use Rattle.prop_unary.proofs.Asked.{busy_pair, none_to, some_to, no_matrix}
-use Rattle.prop_unary.proofs.pairs.ask_both.Goals as goal
+use Rattle.prop_unary.proofs.cases.ask_both.Goals as goal
 
 pub returns-then-is_none-clause-none : goal.returns-then-is_none-clause-none
 returns-then-is_none-clause-none c =
