@@ -1,5 +1,5 @@
 -- What the canonical segments of a state function are: the longest that agree with all that is asked of it.
-use Rattle.std.specs.Prelude.{◌≡◌, ◌⊎◌, ℕ, ℤ, neg_ℤ, ◌+ℤ◌, ◌≤ℤ◌, ◌<ℤ◌, ◌<◌, true, List, [], ◌∷◌, IsTrue, length, refl, slice_index_or, if◌then◌else◌, Bool, false}
+use Rattle.std.specs.Prelude.{◌≡◌, ℕ, ℤ, neg_ℤ, ◌≤ℤ◌, ◌<ℤ◌, ◌<◌, true, List, [], ◌∷◌, IsTrue, length, refl, slice_index_or, if◌then◌else◌, Bool, false}
 use Rattle.std.proofs.Common.{arith, inl, inr, sym, subst, ap, ◌∙◌, get_or}
 use Rattle.std.proofs.lemmas.Int.{ints}
 use Rattle.sched_base.specs.declared.ids.Stf.{Stf}
@@ -8,17 +8,18 @@ use Rattle.sched_model.specs.declared.types.Assignment.{Assignment}
 use Rattle.sched_model.specs.Data.{Data, horizon}
 use Rattle.sched_model.specs.Valid.{IsValid}
 use Rattle.sched_model.specs.Domain.{is_in_domain}
+use Rattle.sched_model.specs.laws.Same.{same_segment}
 use Rattle.refute_state.specs.declared.stretch.Stretch.{Stretch}
 use Rattle.refute_state.specs.code.Groups.{meets, are_joined, segment_of, extended, runs_from, runs, groups_of, canonical_of}
 use Rattle.refute_state.specs.code.Canonical.{stretch_of, canonical, canonical_for}
 use Rattle.refute_state.specs.laws.Lists.{Each, Some, Pairs, compared, each_map, some_map, each_both, some_each, some_one, each_swap}
 use Rattle.refute_state.specs.laws.Facts.{Proper, Lies, Keeps, Fits, Clear, Serves, Row}
 use Rattle.refute_state.specs.laws.Grouping.{Groups, all_groups}
-use Rattle.refute_state.specs.laws.Running.{Covers, all_covered, IsDistance, Served, one_segment, groups_served}
+use Rattle.refute_state.specs.laws.Running.{Covers, IsDistance, Served, one_segment, groups_served}
 use Rattle.refute_state.specs.laws.Making.{Made, are_groups}
 use Rattle.refute_state.specs.laws.Serving.{meets_parts, meets_not, AllClear, Joined, joined_is, Broken, broken_is, Fine, World, IsFar, IsRun, first_run, next_run, StartsWith, Begins, begins_all, parted_far, canonical_serves}
 use Rattle.refute_state.specs.laws.Settled.{In, in_some, in_each, each_in}
-use Rattle.refute_state.specs.laws.Canonical.{pairs_map, each_given, proper_from, demands_of, gaps_of, IsGood, Far, ServesAt, far_low, no_def, serves_each, StatesHold, canonical_at}
+use Rattle.refute_state.specs.laws.Canonical.{pairs_map, each_given, proper_from, demands_of, gaps_of, IsGood, Far, far_low, no_def, serves_each, StatesHold, canonical_at}
 
 -- a demand that shares a moment with the segment lies in it
 abbrev pub Agrees : Segment → Stretch → Type 0
@@ -179,9 +180,6 @@ suited D ds ns ss cs c made here = record {
   ]) made.lies;
   clear = each_in (AllClear ns) cs c made.clear here;
 }
-
-same_segment : (s t : Segment) → s.p ≡ t.p → s.q ≡ t.q → s.v ≡ t.v → s ≡ t
-same_segment s t p q v = ap (λ (x : ℤ). record s { p = x }) p ∙ ap (λ (x : ℤ). record s { p = t.p; q = x }) q ∙ ap (λ (x : ℤ). record s { p = t.p; q = t.q; v = x }) v
 
 -- one with the same ends has the same state, that of the demand with which both begin
 same_ends : (ds : List Stretch) (ns : List (ℤ × ℤ)) (s t : Segment) → Each Proper ds → Suits ds ns s → Suits ds ns t → t.p ≡ s.p → t.q ≡ s.q → t ≡ s
