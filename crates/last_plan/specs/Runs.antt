@@ -11,7 +11,7 @@ use Rattle.textline.specs.Lines.{Bytes}
 use Rattle.logtext.specs.Extra.{log_refutes, log_numbers, log_valid}
 use Rattle.logtext.specs.Judgement.{IsRefused, IsTooLong, log_bytes, log_limit}
 use Rattle.replay.specs.Replaying.{IsCutLog, BeginsAt}
-use Rattle.given_files.specs.Files.{IfFile, HasFile, FileDeserves, ReadsModel, file_of}
+use Rattle.given_files.specs.Files.{IfFile, HasFile, FileDeserves, ReadsModel, WithinModel, file_of}
 use Rattle.given_files.specs.Told.{Tells, Reports, fault_line, memory_line, refusal_line}
 use Rattle.last_plan.specs.declared.ended.Ended.{Ended}
 use Rattle.last_plan.specs.declared.ended.Ended.TheVariants as end
@@ -30,6 +30,10 @@ HasNoEnd m bytes = IsTooLong log_refutes log_numbers log_valid m bytes
 -- of the log's file one byte beyond its limit of 2^62 was read at most, and the others are left in its slot
 abbrev pub ReadsLog : Bytes → State → State → Type 0
 ReadsLog name old new = ReadsAtMost (log_limit + 1) (file_of old name) new.log.left
+
+-- however a run ends: nothing was read from the slot of the log, or no more of the file than that
+abbrev pub WithinLog : Bytes → State → State → Type 0
+WithinLog name old new = (new.log ≡ old.log) ⊎ ReadsLog name old new
 
 -- The log's file holds a log of the model that the text of the model's file deserves, whole, or cut behind its last whole line.
 -- This is told of it, and what that means of the model is so, whoever wrote the log.
@@ -92,6 +96,8 @@ PlanEnds is_count model log end.Usage old new = ⊥
 pub record PlanPromise (is_count : Bool) (model log : Bytes) (result : Ended) (old new : State) : Type 0 where
   -- nothing but these has changed; no log is created
   pub only : new ≡ record old { model = new.model; log = new.log; out = new.out; err = new.err; faults = new.faults }
+  -- however the run ends, neither file was read beyond its bound
+  pub within : WithinModel model old new × WithinLog log old new
   pub ends : PlanEnds is_count model log result old new
 
 -- words that aren't right only get their line

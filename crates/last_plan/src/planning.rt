@@ -1,5 +1,6 @@
 ghost use Rattle.std.specs.Prelude.{◌≡◌};
-ghost use Rattle.last_plan.specs.Runs.{PlanPromise, ending_of};
+ghost use Rattle.given_files.specs.Files.{WithinModel};
+ghost use Rattle.last_plan.specs.Runs.{PlanPromise, WithinLog, ending_of};
 ghost use Rattle.last_plan.specs.Texts.{plan_text};
 ghost use Rattle.last_plan.specs.code.Tries.{OnlyReplays, PlansFile, PrintsText, TriesPlan};
 
@@ -18,6 +19,7 @@ use sched_text::write_answer;
 use std::alloc::Global;
 
 /// What the log that a file holds shows, whole or cut.
+#[tactic(auto, using(crate::proofs::Within::log_unopened, crate::proofs::Within::log_opened, crate::proofs::Within::log_within))]
 fn plan_file<D: Desk>(
     alloc: Global,
     desk: &mut D,
@@ -25,6 +27,7 @@ fn plan_file<D: Desk>(
     log: &str,
 ) -> Result<Plan, PlanStop>
     ensures only { OnlyReplays (D.state desk.old) (D.state desk.new) }
+    ensures within { WithinLog log.now (D.state desk.old) (D.state desk.new) }
     ensures plans { PlansFile model.now log.now result (D.state desk.old) (D.state desk.new) }
 {
     desk.open_in(Inlet::Log, log)?;
@@ -73,7 +76,9 @@ fn tell_plan<D: Desk>(
     name: &str,
     log: &str,
 ) -> Result<Ended, PlanStop>
-    ensures { TriesPlan is_count name.now log.now result (D.state desk.old) (D.state desk.new) }
+    ensures model { WithinModel name.now (D.state desk.old) (D.state desk.new) }
+    ensures log { WithinLog log.now (D.state desk.old) (D.state desk.new) }
+    ensures tries { TriesPlan is_count name.now log.now result (D.state desk.old) (D.state desk.new) }
 {
     let model = read_file(alloc, desk, name)?;
     let plan = match plan_file(alloc, desk, &model, log) {
