@@ -61,9 +61,13 @@ PRINTED = [
     "given_files.specs.Told.fault_line",
     "given_files.specs.Told.memory_line",
 ]
+OTHERS = ["log_reports.specs.Reports.bound_report", "log_reports.specs.Reports.core_report"] + [
+    f"commands.specs.Runs.{name}" for name in ("ReportPromise", "VerifyPromise", "ShowPromise", "GenPromise", "NoCommandEnds", "ReadsFiles", "RunsWithin")
+]
 RINGS = [
     ("To trust an accepted log", ["log_reports.specs.Reports.check_report", "log_reports.specs.Reports.PrintsReport"], TEXTS + LOGS + PRINTED),
-    ("To trust the word of a run", ["commands.specs.Runs.Runs"], TEXTS + LOGS + PRINTED),
+    ("To trust the word of solve", ["commands.specs.Runs.Runs"], TEXTS + LOGS + PRINTED + OTHERS),
+    ("What other commands promise", OTHERS, TEXTS + LOGS + PRINTED),
     ("What a text deserves", TEXTS, []),
     ("What a log is", LOGS, []),
     ("The words, and what is printed", PRINTED, []),
