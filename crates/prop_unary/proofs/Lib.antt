@@ -5,3 +5,4 @@ pub mod Sets
 pub mod Noted
 pub mod Hearing
 pub mod Reading
+pub mod Resting

@@ -18,6 +18,7 @@ use crate::disjunctive::Disjunctive;
 use crate::heard::{ask_heard_row, heard_of};
 use crate::keys::{Keys, note_keys};
 use crate::places::BITS;
+use crate::rest::are_all_silent;
 use crate::silence::{Task, are_surely_silent, distance, is_surely_silent, no_reach};
 use crate::waiting::Told;
 use findings::{Finding, Pair, View};
@@ -172,7 +173,8 @@ pub fn ask_forward(
     ask_both(model, region, best, d, a, b, likely)
 }
 
-/// What is found of two members of whom it is told that something is. The place of the first is noted.
+/// What is found of two members of whom it is told that something is, where their order is as it is told to
+/// be. The place of the first is noted.
 pub fn ask_told(
     model: &Model,
     region: &Region,
@@ -187,11 +189,16 @@ pub fn ask_told(
     ensures some { IfSome result (IsFinding refutes model.now region.now.region best) }
     ensures busy { IfSome result (λ f. quiet model.now d.now.c region.now.region best → ⊥) }
 {
-    let Told { first, second } = told?;
+    let Told {
+        first,
+        second,
+        order,
+    } = told?;
     if first >= members.len() || second >= members.len() {
         return None;
     }
-    let found = ask_forward(model, region, best, d, members[first], members[second])?;
+    let (a, b) = (members[first], members[second]);
+    let found = ask_two(model, region, best, d, order, a, b)?;
     *at = first;
     Some(found)
 }
@@ -428,8 +435,9 @@ fn ask_order(
 
 /// What PAIR finds of a sequence without overlap, whose members these are: first of two that are told
 /// to stand one before the other, then of two whose order is open. It notes the numbers of each member
-/// once, and compares each two a fixed number of times; the order of two is read where their numbers
-/// leave something to find. It begins with the member at a place, where it found something last.
+/// once, and compares each two a fixed number of times: where nothing is found of any, their order is read
+/// once, and else again where their numbers leave something to find. It begins with the member at a place,
+/// where it found something last.
 pub fn ask_pairs(
     model: &Model,
     region: &Region,
@@ -449,6 +457,9 @@ pub fn ask_pairs(
     ensures busy { IfSome result (λ f. quiet model.now d.now.c region.now.region best → ⊥) }
 {
     note_keys(&region.look(None, None), members, keys);
+    if are_all_silent(model, region, d, members, keys) {
+        return None;
+    }
     let mut is_open = false;
     if let Some(f) = ask_told_order(model, region, best, d, members, keys, at, &mut is_open) {
         return Some(f);

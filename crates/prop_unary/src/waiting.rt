@@ -3,6 +3,8 @@
 ghost use Rattle.std.specs.Prelude.{◌≡◌, ◌<◌, ◌≤◌, length};
 
 use crate::distances::Distances;
+use crate::ways::{Table, Ways, set_at};
+use findings::ends_at;
 use place_sets::PlaceSet;
 use region::{Look, OrderCell, Presence, Region};
 use sched_base::{Itv, NoMemory, Seq};
@@ -26,6 +28,10 @@ struct Window {
     present_lst: i32,
     /// The earliest start.
     smin: i32,
+    /// The greatest earliest completion that a guess at the end of a cell makes.
+    highest_end: i32,
+    /// The least latest start that one makes.
+    lowest_start: i32,
 }
 
 impl Window {
@@ -37,6 +43,8 @@ impl Window {
         lst: i32::MAX,
         present_lst: i32::MAX,
         smin: i32::MAX,
+        highest_end: i32::MIN,
+        lowest_start: i32::MAX,
     };
 
     /// Whether all numbers are the same, told without a branch.
@@ -46,7 +54,9 @@ impl Window {
             | (self.emax ^ other.emax)
             | (self.lst ^ other.lst)
             | (self.present_lst ^ other.present_lst)
-            | (self.smin ^ other.smin);
+            | (self.smin ^ other.smin)
+            | (self.highest_end ^ other.highest_end)
+            | (self.lowest_start ^ other.lowest_start);
         differ == 0
     }
 }
@@ -59,12 +69,12 @@ fn short(n: i64) -> i32 {
 fn window_at(look: &Look<'_>, x: Itv) -> Window
     requires { x.0 < length look.now.region.bounds }
 {
-    let presence = look.presence(x);
-    if presence == Presence::Absent {
+    let ends = ends_at(look, x);
+    if ends.presence == Presence::Absent {
         return Window::ABSENT;
     }
-    let (ect, lst) = (short(look.ect(x)), short(look.lst(x)));
-    let is_there = presence == Presence::Present;
+    let (ect, lst) = (short(ends.ect), short(ends.lst));
+    let is_there = ends.presence == Presence::Present;
     Window {
         ect,
         present_ect: if is_there { ect } else { i32::MIN },
@@ -72,6 +82,8 @@ fn window_at(look: &Look<'_>, x: Itv) -> Window
         lst,
         present_lst: if is_there { lst } else { i32::MAX },
         smin: short(look.smin(x)),
+        highest_end: short(ends.highest_end),
+        lowest_start: short(ends.lowest_start),
     }
 }
 
@@ -86,6 +98,12 @@ fn is_pushed_by(c: Window, d: Window, n: i64) -> bool {
     is_beyond(c.present_ect, n, d.smin)
         | is_beyond(c.emax, n, d.present_lst)
         | is_beyond(c.ect, n, d.lst)
+}
+
+/// Whether two that are told to stand so, so far apart, leave something to find: the first pushes the second, or
+/// the second the first, under a guess at the end of a cell at least.
+fn is_unfit_by(c: Window, d: Window, n: i64) -> bool {
+    is_beyond(c.present_ect, n, d.lowest_start) | is_beyond(c.highest_end, n, d.present_lst)
 }
 
 /// Whether two that are there can't stand so far apart, the first before the second.
@@ -103,94 +121,43 @@ fn are_tight(c: Window, d: Window) -> bool {
     is_pushed(c, d) & is_pushed(d, c)
 }
 
+/// Whether two that are told to stand so leave something to find.
+fn is_unfit(c: Window, d: Window) -> bool {
+    (c.present_ect > d.lowest_start) | (c.highest_end > d.present_lst)
+}
+
 /// Whether two that are there fit in neither order.
 fn do_clash(c: Window, d: Window) -> bool {
     (c.present_ect > d.present_lst) & (d.present_ect > c.present_lst)
 }
 
-/// Of each member a set of places, where two stand in one another's or in neither's.
-#[derive(Debug, Drop)]
-struct Table<const W: usize> {
-    rows: Vec<PlaceSet<W>>,
-    /// Whose rows are other than they were.
-    touched: PlaceSet<W>,
-    /// Whose rows aren't empty.
-    filled: PlaceSet<W>,
-}
-
-impl<const W: usize> Table<W> {
-    fn new(alloc: Global, room: usize) -> Result<Table<W>, NoMemory> {
-        Ok(Table {
-            rows: vec![in alloc; PlaceSet::none(); room]?,
-            touched: PlaceSet::none(),
-            filled: PlaceSet::none(),
-        })
-    }
-
-    fn row(&self, at: usize) -> PlaceSet<W> {
-        set_at(&self.rows, at)
-    }
-
-    /// Puts another row of a member in the place of its row.
-    fn turn(&mut self, at: usize, row: PlaceSet<W>) {
-        if at >= self.rows.len() {
-            return;
-        }
-        self.rows[at] = row;
-        self.touched.put(at);
-        if row.is_empty() {
-            self.filled.take_out(at);
-        } else {
-            self.filled.put(at);
-        }
-    }
-
-    /// Turns a member in the row of another.
-    fn turn_in(&mut self, at: usize, k: usize) {
-        let mut row = self.row(at);
-        row.turn(k);
-        self.turn(at, row);
-    }
-
-    /// Puts the row of a member, and what it says of others into theirs.
-    fn put(&mut self, at: usize, row: PlaceSet<W>) {
-        let mut changed = row.xor(&self.row(at));
-        if changed.is_empty() {
-            return;
-        }
-        for _ in 0..self.rows.len() {
-            let k = changed.next();
-            // None is left.
-            if k >= self.rows.len() {
-                break;
-            }
-            self.turn_in(k, at);
-        }
-        self.turn(at, row);
-    }
-}
-
-/// The members of a sequence as they were read last, and for each, as a set of places, those with whom it
-/// fits in neither order as they are, of these those with whom it can't be, those with whom its order was
-/// read since one of them had another, and of these those that it is told to stand before. Two are compared
-/// where one of them may have moved, and their order is read where it may be another.
+/// The members of a sequence as they were read last, and for each, as a set of places, those with whom it fits
+/// in neither order as they are, of these those with whom it can't be, those whom it isn't fit to stand before,
+/// those whom it is too late for, those with whom its order was read since one of them had another, of these
+/// those that it is told to stand before, and those with whom its order is open. Two are compared where one of
+/// them may have moved, and their order is read where it may be another.
 #[derive(Debug, Drop)]
 pub struct Waiting<const W: usize> {
     distances: Distances,
     noted: Vec<Window>,
     tight: Table<W>,
     clashing: Table<W>,
+    unfit: Ways<W>,
+    late: Ways<W>,
     known: Vec<PlaceSet<W>>,
     before: Vec<PlaceSet<W>>,
+    open: Vec<PlaceSet<W>>,
     /// Who is told to stand before some with whom it fits in neither order.
     telling: PlaceSet<W>,
 }
 
-/// The places of two of whom the first is told to stand before the second.
+/// The places of two of whom the first is told to stand before the second, or whose order is open though
+/// the first can't stand before the second.
 #[derive(Clone, Copy, Debug)]
 pub struct Told {
     pub first: usize,
     pub second: usize,
+    pub order: OrderCell,
 }
 
 impl<const W: usize> Waiting<W> {
@@ -205,8 +172,11 @@ impl<const W: usize> Waiting<W> {
             noted: vec![in alloc; Window::ABSENT; members]?,
             tight: Table::new(alloc, members)?,
             clashing: Table::new(alloc, members)?,
+            unfit: Ways::new(alloc, members)?,
+            late: Ways::new(alloc, members)?,
             known: vec![in alloc; PlaceSet::none(); members]?,
             before: vec![in alloc; PlaceSet::none(); members]?,
+            open: vec![in alloc; PlaceSet::none(); members]?,
             telling: PlaceSet::none(),
         })
     }
@@ -229,11 +199,12 @@ impl<const W: usize> Waiting<W> {
         if !turned.is_empty() {
             take_out(&mut self.known, &turned);
             take_out(&mut self.before, &turned);
+            take_out(&mut self.open, &turned);
         }
         let moved = note_members(&look, members, moved, &mut self.noted);
         self.compare_moved(model, moved);
-        self.read_orders(&look, p, members, &turned);
-        self.clashing.filled.is_empty() && self.telling.is_empty()
+        self.read_orders(&look, p, members, moved.or(&turned));
+        self.clashing.is_empty() && self.telling.is_empty()
     }
 
     /// Compares those at these places with each.
@@ -243,38 +214,78 @@ impl<const W: usize> Waiting<W> {
         for _ in 0..noted.len() {
             let at = moved.next();
             // None is left.
-            if at >= noted.len() {
+            let Some(window) = noted.get(at) else {
                 return;
-            }
+            };
             let rows = if self.distances.are_none() {
-                rows_of(at, noted)
+                rows_of(at, *window, noted)
             } else {
-                far_rows_of(model, &self.distances, at, noted)
+                far_rows_of(model, &self.distances, at, *window, noted)
             };
             self.tight.put(at, rows.tight);
             self.clashing.put(at, rows.clashing);
+            self.unfit.put(at, rows.unfit_forth, rows.unfit_back);
+            self.late.put(at, rows.late_forth, rows.late_back);
         }
     }
 
     /// Two of whom something is found, where it was told so when it was asked last: the first of those
-    /// from a place on, and then up to it, that is told to stand before some.
+    /// from a place on, and then up to it, that is told to stand before some with whom it fits in neither
+    /// order. Where there is none, and nobody is told to stand before one whom it isn't fit to stand before, the
+    /// first in the same way whose order is open with one whom it is too late for.
     pub fn told(&self, from: usize) -> Option<Told> {
-        let behind = self.telling.from(from);
-        let rows = if behind.is_empty() {
-            self.telling
-        } else {
-            behind
-        };
-        let first = rows.first();
-        let second = self.before.get(first)?.and(&self.tight.row(first)).first();
-        Some(Told { first, second })
+        let first = first_from(&self.telling, from);
+        if let Some(before) = self.before.get(first) {
+            let second = before.and(&self.tight.row(first)).first();
+            return Some(Told {
+                first,
+                second,
+                order: OrderCell::Forward,
+            });
+        }
+        if !self.pushing().is_empty() {
+            return None;
+        }
+        let first = first_from(&self.opening(), from);
+        let second = self.open.get(first)?.and(&self.late.forth(first)).first();
+        Some(Told {
+            first,
+            second,
+            order: OrderCell::Unknown,
+        })
     }
 
-    /// Reads the orders that aren't known of those that fit in neither as they are. Where two fit in one
-    /// order alone, it is mostly the one that is told, so the orders of no others are read.
-    fn read_orders(&mut self, look: &Look<'_>, p: Seq, members: &[Itv], turned: &PlaceSet<W>) {
-        let mut due = self.tight.touched.or(turned);
-        self.tight.touched = PlaceSet::none();
+    /// Who is told to stand before some with whom it fits in neither order.
+    fn telling(&self) -> PlaceSet<W> {
+        let mut telling = PlaceSet::none();
+        for k in 0..self.before.len() {
+            telling.put_if(k, !self.before[k].and(&self.tight.row(k)).is_empty());
+        }
+        telling
+    }
+
+    /// Who is told to stand before some whom it isn't fit to stand before.
+    fn pushing(&self) -> PlaceSet<W> {
+        let mut pushing = PlaceSet::none();
+        for k in 0..self.before.len() {
+            pushing.put_if(k, !self.before[k].and(&self.unfit.forth(k)).is_empty());
+        }
+        pushing
+    }
+
+    /// Whose order is open with some whom it is too late for.
+    fn opening(&self) -> PlaceSet<W> {
+        let mut opening = PlaceSet::none();
+        for k in 0..self.open.len() {
+            opening.put_if(k, !self.open[k].and(&self.late.forth(k)).is_empty());
+        }
+        opening
+    }
+
+    /// Reads the orders that aren't known of those at these places with others, where they leave something to
+    /// find whatever is told, or where nothing is.
+    fn read_orders(&mut self, look: &Look<'_>, p: Seq, members: &[Itv], due: PlaceSet<W>) {
+        let mut due = due;
         if due.is_empty() {
             return;
         }
@@ -286,7 +297,7 @@ impl<const W: usize> Waiting<W> {
             }
             self.read_row(look, p, k, members);
         }
-        self.telling = telling_of(&self.before, &self.tight);
+        self.telling = self.telling();
     }
 
     /// Notes the order of two.
@@ -294,7 +305,10 @@ impl<const W: usize> Waiting<W> {
         put_into(&mut self.known, at, k);
         put_into(&mut self.known, k, at);
         match order {
-            OrderCell::Unknown => {}
+            OrderCell::Unknown => {
+                put_into(&mut self.open, at, k);
+                put_into(&mut self.open, k, at);
+            }
             OrderCell::Forward => put_into(&mut self.before, at, k),
             OrderCell::Backward => put_into(&mut self.before, k, at),
         }
@@ -304,7 +318,8 @@ impl<const W: usize> Waiting<W> {
     fn read_row(&mut self, look: &Look<'_>, p: Seq, at: usize, members: &[Itv])
         requires { at < length members.now }
     {
-        let mut others = self.tight.row(at).minus(&set_at(&self.known, at));
+        let apart = self.unfit.either(at).or(&self.late.either(at));
+        let mut others = apart.minus(&set_at(&self.known, at));
         for _ in 0..members.len() {
             let k = others.next();
             // None is left.
@@ -323,12 +338,13 @@ fn put_into<const W: usize>(sets: &mut [PlaceSet<W>], at: usize, k: usize) {
     }
 }
 
-fn set_at<const W: usize>(sets: &[PlaceSet<W>], at: usize) -> PlaceSet<W> {
-    if at < sets.len() {
-        sets[at]
-    } else {
-        PlaceSet::none()
+/// The first place of a set from one on, and then up to it; where it has none, a place that no list has.
+fn first_from<const W: usize>(set: &PlaceSet<W>, from: usize) -> usize {
+    let behind = set.from(from);
+    if behind.is_empty() {
+        return set.first();
     }
+    behind.first()
 }
 
 /// Takes some out of the sets of each of them: an order that is another is of two of them.
@@ -337,15 +353,6 @@ fn take_out<const W: usize>(sets: &mut [PlaceSet<W>], places: &PlaceSet<W>) {
         let left = sets[k].minus(places);
         sets[k] = if places.contains(k) { left } else { sets[k] };
     }
-}
-
-/// Who is told to stand before some with whom it fits in neither order.
-fn telling_of<const W: usize>(before: &[PlaceSet<W>], tight: &Table<W>) -> PlaceSet<W> {
-    let mut telling = PlaceSet::none();
-    for k in 0..before.len() {
-        telling.put_if(k, !before[k].and(&tight.row(k)).is_empty());
-    }
-    telling
 }
 
 /// Reads a member. Whether something else is known of it than before.
@@ -384,31 +391,57 @@ fn note_members<const W: usize>(
     moved
 }
 
-/// With whom a member fits in neither order as they are, and with whom of them it can't be.
+/// With whom a member fits in neither order as they are, with whom of them it can't be, whom it isn't fit to
+/// stand before, and who to stand before it, whom it is too late for, and who for it.
 #[derive(Clone, Copy, Debug)]
 struct Rows<const W: usize> {
     tight: PlaceSet<W>,
     clashing: PlaceSet<W>,
+    unfit_forth: PlaceSet<W>,
+    unfit_back: PlaceSet<W>,
+    late_forth: PlaceSet<W>,
+    late_back: PlaceSet<W>,
 }
 
-/// Those of the member at a place.
-fn rows_of<const W: usize>(at: usize, noted: &[Window]) -> Rows<W>
-    requires { at < length noted.now }
-{
-    let window = noted[at];
-    let mut rows = Rows {
-        tight: PlaceSet::none(),
-        clashing: PlaceSet::none(),
-    };
+impl<const W: usize> Rows<W> {
+    fn none() -> Rows<W> {
+        Rows {
+            tight: PlaceSet::none(),
+            clashing: PlaceSet::none(),
+            unfit_forth: PlaceSet::none(),
+            unfit_back: PlaceSet::none(),
+            late_forth: PlaceSet::none(),
+            late_back: PlaceSet::none(),
+        }
+    }
+
+    /// Without the member itself.
+    fn without(self, at: usize) -> Rows<W> {
+        let mut rows = self;
+        rows.tight.take_out(at);
+        rows.clashing.take_out(at);
+        rows.unfit_forth.take_out(at);
+        rows.unfit_back.take_out(at);
+        rows.late_forth.take_out(at);
+        rows.late_back.take_out(at);
+        rows
+    }
+}
+
+/// Those of the member at a place, of which this is noted.
+fn rows_of<const W: usize>(at: usize, window: Window, noted: &[Window]) -> Rows<W> {
+    let mut rows = Rows::none();
     for k in 0..noted.len() {
         let other = noted[k];
         let is_tight = are_tight(window, other);
         rows.tight.put_if(k, is_tight);
         rows.clashing.put_if(k, is_tight & do_clash(window, other));
+        rows.unfit_forth.put_if(k, is_unfit(window, other));
+        rows.unfit_back.put_if(k, is_unfit(other, window));
+        rows.late_forth.put_if(k, window.ect > other.lst);
+        rows.late_back.put_if(k, other.ect > window.lst);
     }
-    rows.tight.take_out(at);
-    rows.clashing.take_out(at);
-    rows
+    rows.without(at)
 }
 
 /// The same where distances are kept.
@@ -416,15 +449,10 @@ fn far_rows_of<const W: usize>(
     model: &Model,
     distances: &Distances,
     at: usize,
+    window: Window,
     noted: &[Window],
-) -> Rows<W>
-    requires { at < length noted.now }
-{
-    let window = noted[at];
-    let mut rows = Rows {
-        tight: PlaceSet::none(),
-        clashing: PlaceSet::none(),
-    };
+) -> Rows<W> {
+    let mut rows = Rows::none();
     for k in 0..noted.len() {
         let other = noted[k];
         let (forth, back) = (
@@ -435,8 +463,13 @@ fn far_rows_of<const W: usize>(
         let do_clash = is_refuted(window, other, forth) & is_refuted(other, window, back);
         rows.tight.put_if(k, is_tight);
         rows.clashing.put_if(k, is_tight & do_clash);
+        rows.unfit_forth
+            .put_if(k, is_unfit_by(window, other, forth));
+        rows.unfit_back.put_if(k, is_unfit_by(other, window, back));
+        rows.late_forth
+            .put_if(k, is_beyond(window.ect, forth, other.lst));
+        rows.late_back
+            .put_if(k, is_beyond(other.ect, back, window.lst));
     }
-    rows.tight.take_out(at);
-    rows.clashing.take_out(at);
-    rows
+    rows.without(at)
 }

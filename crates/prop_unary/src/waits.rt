@@ -49,7 +49,8 @@ impl Waits {
     }
 
     /// Two of whom something is found, where it was told so when it was asked last: the first of those
-    /// from a place on, and then up to it, that is told to stand before some.
+    /// from a place on, and then up to it, that is told to stand before some, or else whose order is open
+    /// with some whom it is too late for.
     pub fn told(&self, from: usize) -> Option<Told> {
         match self {
             Waits::Short(short) => short.told(from),

@@ -88,6 +88,9 @@ is_silent_pair m r d a b = is_silent_two (order_in (cells_of r d.p) a b) (bounds
 abbrev pub AreSilent : Data → Region → Option ℤ → Disjunctive → Itv → Itv → Type 0
 AreSilent m r best d a b = (k : ℕ) → IsSilent m r best (Pair d.c a.0 b.0 k)
 
+abbrev pub AreSilentBoth : Data → Region → Option ℤ → Disjunctive → Itv → Itv → Type 0
+AreSilentBoth m r best d a b = AreSilent m r best d a b × AreSilent m r best d b a
+
 abbrev pub AreSilentWhere : Data → Region → Option ℤ → Disjunctive → OrderCell → Itv → Itv → Type 0
 AreSilentWhere m r best d o a b = order_in (cells_of r d.p) a b ≡ o → AreSilent m r best d a b
 
