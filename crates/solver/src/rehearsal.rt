@@ -16,7 +16,7 @@ use engine::{Engine, Propagator, Stop};
 use kernel::Found;
 use region::Guess;
 use sched_base::NoMemory;
-use sched_model::{Assignment, Model, beats, in_domain, value};
+use sched_model::{Assignment, Model, Sense, beats, in_domain, value};
 use std::alloc::Global;
 
 /// So many lines for each cell may derive at a root, as many as the engine puts; elsewhere one.
@@ -36,6 +36,8 @@ pub struct Rehearsal<P: Propagator> {
     /// Its value.
     pub best: Option<i64>,
     pub is_found: bool,
+    /// By how much a schedule is to be better than the best one, at least 1.
+    pub step: i64,
     /// Whether the schedule is followed.
     pub follows: bool,
     /// Whether the rule is one that goes straight for a schedule to the wish of the objective, which
@@ -98,6 +100,16 @@ fn is_all(shifting: &Option<Shifting>) -> bool {
     }
 }
 
+/// The value that is to be beaten so that another one is by a step.
+fn beyond(model: &Model, value: Option<i64>, step: i64) -> Option<i64> {
+    let value = value?;
+    let more = step.saturating_sub(1);
+    match model.objective()?.sense {
+        Sense::Minimize => Some(value.saturating_sub(more)),
+        Sense::Maximize => Some(value.saturating_add(more)),
+    }
+}
+
 fn if_followed(guide: &Option<Assignment>, follows: bool) -> Option<&Assignment> {
     if !follows {
         return None;
@@ -124,6 +136,7 @@ impl<P: Propagator> Rehearsal<P> {
             guide: None,
             best: None,
             is_found: false,
+            step: 1,
             follows: true,
             is_wished: false,
             spent: 0,
@@ -164,15 +177,33 @@ impl<P: Propagator> Rehearsal<P> {
         self.search.restart(alloc, model)
     }
 
+    /// The value that is to be beaten: that of the best schedule, also where one is sought that is better
+    /// by more.
+    fn bar(&self) -> Option<i64> {
+        if self.step > 1 {
+            return self.best;
+        }
+        self.search.best()
+    }
+
     /// Whether a value is better than what is to be beaten, if there is such.
     fn improves(&self, model: &Model, value: Option<i64>) -> bool {
         let (Some(objective), Some(value)) = (model.objective(), value) else {
             return true;
         };
-        match self.search.best() {
+        match self.bar() {
             None => true,
             Some(best) => beats(objective.sense, value, best),
         }
+    }
+
+    /// Looks for what is better than the best schedule, by a step at least.
+    pub fn aim_beyond(&mut self, alloc: Global, model: &Model)
+        requires { IsReady P.Propagator model.now self.old.search }
+        ensures { IsReady P.Propagator model.now self.new.search }
+    {
+        let aim = beyond(model, self.best, self.step);
+        self.search.aim(alloc, model, aim);
     }
 
     /// The schedule at the least starts and ends, where it is a solution, and better than the best.
@@ -237,7 +268,7 @@ impl<P: Propagator> Rehearsal<P> {
         self.best = value;
         self.is_found = true;
         self.guide = Some(assignment);
-        self.search.aim(alloc, model, value);
+        self.aim_beyond(alloc, model);
     }
 
     /// The schedule at the least starts and ends, where nothing is left to derive, and all presences and

@@ -3,9 +3,9 @@ ghost use Rattle.std.specs.Prelude.{◌≡◌, OnOk};
 ghost use Rattle.solver.specs.code.Searching.{IsHolding};
 
 use crate::rehearsal::{Ending, Limits, Rehearsal};
-use branching::Soonest;
+use branching::{Pole, Soonest};
 use engine::Propagator;
-use sched_base::NoMemory;
+use sched_base::{Itv, NoMemory};
 use sched_model::{Assignment, Model, beats};
 use std::alloc::Global;
 
@@ -19,13 +19,23 @@ pub struct Budget {
     pub whole: u64,
     /// Those that are left.
     pub left: u64,
-    /// Whether nothing is left to look for.
+    /// Whether they are for the first schedule alone.
+    pub is_short: bool,
+    /// Whether nothing is left to look for, or what was found is enough.
     pub is_over: bool,
 }
 
 impl Budget {
     pub fn spend(&mut self, nodes: u64) {
         self.left = self.left.saturating_sub(nodes.max(1));
+    }
+
+    /// Those that one start may have.
+    fn for_one(&self) -> u64 {
+        if self.is_short {
+            return self.left;
+        }
+        self.left / 2
     }
 
     fn used(&self) -> u64 {
@@ -134,7 +144,7 @@ impl<P: Propagator> Rehearsal<P> {
             is_absent: is_wished && !self.is_found,
         };
         let limits = Limits {
-            nodes: most.min(budget.left / 2),
+            nodes: most.min(budget.for_one()),
             refuted: REFUTED,
             first: true,
         };
@@ -171,9 +181,19 @@ impl<P: Propagator> Rehearsal<P> {
         self.is_found && model.objective().is_none()
     }
 
+    /// Whether the objective wants each interval soon, so that two rules come to the same schedule.
+    fn wishes_all_soon(&self, model: &Model) -> bool {
+        for n in 0..model.intervals().len() {
+            if self.search.intervals.goal().pole(Itv(n as u32)) != Pole::Sooner {
+                return false;
+            }
+        }
+        true
+    }
+
     /// Schedules by three rules, of which the best one is kept: each interval as soon as it may be, each
     /// where the objective wishes it, and, where there are few pairs of members of sequences, the
-    /// tightest pair first.
+    /// tightest pair first. The first is enough where the preparation is short.
     pub fn make_starts(
         &mut self,
         alloc: Global,
@@ -185,14 +205,19 @@ impl<P: Propagator> Rehearsal<P> {
         ensures { OnOk result (IsHolding P.Propagator model.now self.new.search) }
     {
         self.go_straight(alloc, model, false, budget)?;
+        if budget.is_short && self.is_found {
+            budget.is_over = true;
+        }
         if budget.is_over || self.is_enough(model) {
             return Ok(());
         }
-        self.go_straight(alloc, model, true, budget)?;
+        if !self.is_found || !self.wishes_all_soon(model) {
+            self.go_straight(alloc, model, true, budget)?;
+        }
         if budget.is_over || self.is_enough(model) || budget.used() >= budget.whole {
             return Ok(());
         }
-        if pairs.saturating_mul(8) > budget.whole {
+        if pairs > budget.whole {
             return Ok(());
         }
         self.go_down(alloc, model, budget)

@@ -26,13 +26,13 @@ const IDLE: u64 = 500;
 const IDLE_NEAR: u64 = 2_000;
 
 /// The preparation ends after so many, or more where there are few intervals.
-const IDLE_IN_ALL: u64 = 5_000;
+const IDLE_IN_ALL: u64 = 10_000;
 
 /// So many, shared among the intervals.
 const IDLE_EACH: u64 = 100_000;
 
 /// So many assumptions and lines at a root count as a node.
-const ASSUMED: u64 = 100;
+const ASSUMED: u64 = 300;
 
 /// A run that looks at everything has at least so many nodes.
 const LEAST_NODES: u64 = 500;
@@ -65,20 +65,24 @@ pub struct Turns {
     /// How many runs looked at everything.
     runs: u64,
     is_near: bool,
+    /// By how much a schedule near the best one is to be better.
+    step: i64,
     /// How many nodes brought nothing better in this turn, and since the best schedule was found.
     idle: u64,
     idle_in_all: u64,
 }
 
 impl Turns {
-    pub fn new(alloc: Global, model: &Model) -> Result<Turns, NoMemory> {
+    /// It begins near the best schedule, or with a run that looks at everything.
+    pub fn new(alloc: Global, model: &Model, is_near: bool) -> Result<Turns, NoMemory> {
         Ok(Turns {
             neighbourhood: Neighbourhood::new(alloc, model)?,
             random: Random::new(),
             luby: Luby::new(),
             aims: model.objective().map(|o| Aims::new(o.sense)),
             runs: 0,
-            is_near: false,
+            is_near,
+            step: 1,
             idle: 0,
             idle_in_all: 0,
         })
@@ -226,11 +230,40 @@ impl Turns {
             self.neighbourhood.adapt(true);
             return Ok(true);
         }
-        let ending = rehearsal.run(alloc, model, limits_near(model, budget))?;
+        let ending = self.run_near(alloc, model, rehearsal, budget)?;
         if rehearsal.best == before {
             self.neighbourhood.adapt(ending != Ending::Stopped);
         }
+        self.lengthen(rehearsal.best != before);
         Ok(true)
+    }
+
+    /// Searches what is left for a schedule that is better by a step at least.
+    fn run_near<P: Propagator>(
+        &mut self,
+        alloc: Global,
+        model: &Model,
+        rehearsal: &mut Rehearsal<P>,
+        budget: &Budget,
+    ) -> Result<Ending, NoMemory>
+        requires { IsReady P.Propagator model.now rehearsal.old.search }
+        ensures { OnOk result (IsHolding P.Propagator model.now rehearsal.new.search) }
+    {
+        rehearsal.step = self.step;
+        rehearsal.aim_beyond(alloc, model);
+        let ending = rehearsal.run(alloc, model, limits_near(model, budget))?;
+        rehearsal.step = 1;
+        rehearsal.search.aim(alloc, model, rehearsal.best);
+        Ok(ending)
+    }
+
+    /// Steps twice as long, or half as long.
+    fn lengthen(&mut self, is_better: bool) {
+        self.step = if is_better {
+            self.step.saturating_mul(2)
+        } else {
+            (self.step / 2).max(1)
+        };
     }
 
     /// A run of the kind whose turn it is; whether anything is left to look for.
